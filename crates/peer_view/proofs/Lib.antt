@@ -1,0 +1,2 @@
+pub mod MovingLemmas
+pub mod PieceLemmas

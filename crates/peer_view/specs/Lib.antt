@@ -1,0 +1,4 @@
+pub mod Moves
+pub mod Pages
+pub mod Pieces
+pub mod StdDevices

@@ -1,0 +1,74 @@
+//! A reader of std, as a file, a pipe or a socket, whose bytes no contract can name.
+ghost use Rattle.std.specs.Prelude.{◌≡◌, ℕ, ◌≤◌, None};
+
+use crate::reader::{PeerRead, ReadFailed};
+use std::io::Read;
+
+/// A reader of std. Each `Err` of it is a failure, an interrupted call too.
+#[derive(Drop)]
+pub struct StdReader<R> {
+    inner: R,
+    calls: u64,
+    ends: u64,
+    failures: u64,
+    ghost ends_counted: { ends ≤ calls },
+    ghost failures_counted: { failures ≤ calls },
+}
+
+impl<R: Read> StdReader<R> {
+    ghost use Rattle.peer_view.specs.StdDevices.{reader_inner};
+
+    /// A reader that was not called yet.
+    pub fn new(inner: R) -> StdReader<R>
+        ensures inner { reader_inner result ≡ inner }
+        ensures calls { ⟦<StdReader<R> as PeerRead>⟧.calls result ≡ 0 }
+        ensures ends { ⟦<StdReader<R> as PeerRead>⟧.ends result ≡ 0 }
+        ensures failures { ⟦<StdReader<R> as PeerRead>⟧.failures result ≡ 0 }
+    {
+        StdReader {
+            inner,
+            calls: 0,
+            ends: 0,
+            failures: 0,
+        }
+    }
+
+    /// Gives the wrapped value back.
+    pub fn into_inner(self) -> R
+        ensures { result ≡ reader_inner self }
+    {
+        let StdReader {
+            inner,
+            calls: _,
+            ends: _,
+            failures: _,
+        } = self;
+        inner
+    }
+}
+
+impl<R: Read> PeerRead for StdReader<R> {
+    ghost given = { λ r. None };
+
+    ghost calls = { λ r. r.calls };
+
+    ghost ends = { λ r. r.ends };
+
+    ghost failures = { λ r. r.failures };
+
+    fn read(&mut self, room: &mut [u8]) -> Result<usize, ReadFailed> {
+        self.calls += 1;
+        match self.inner.read(room) {
+            Ok(n) => {
+                if n == 0 && !room.is_empty() {
+                    self.ends += 1;
+                }
+                Ok(n)
+            }
+            Err(_) => {
+                self.failures += 1;
+                Err(ReadFailed)
+            }
+        }
+    }
+}

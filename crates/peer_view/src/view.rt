@@ -1,0 +1,68 @@
+//! Views: immutable lists of bytes whose buffer is shared and never copied (`byteview.go`).
+ghost use Rattle.std.specs.Prelude.{◌≡◌, ◌==◌, length, IfOk};
+
+use bytes::Bytes;
+use std::alloc::{AllocError, Global};
+use std::marker::Model;
+
+/// An immutable list of bytes, which lends its parts.
+#[derive(PartialEq, Eq, Hash, Drop)]
+pub struct ByteView {
+    bytes: Bytes<Global>,
+}
+
+impl Model for ByteView {
+    ghost use Rattle.std.specs.Prelude.{List, ℕ};
+
+    ghost Value = { List ℕ };
+
+    ghost view = { λ v. v.bytes };
+
+    ghost inverse = { λ d. record { bytes = d } };
+}
+
+impl ByteView {
+    /// A view of the same bytes, in a buffer of its own.
+    pub fn copy_of(alloc: Global, bytes: &[u8]) -> Result<ByteView, AllocError>
+        ensures { IfOk result (λ v. v ≡ bytes.now) }
+    {
+        let bytes = Bytes::copy_from_slice(alloc, bytes)?;
+        Ok(ByteView { bytes })
+    }
+
+    /// A view of a buffer that is shared already.
+    pub fn from_shared(bytes: Bytes<Global>) -> ByteView
+        ensures { result ≡ bytes }
+    {
+        ByteView { bytes }
+    }
+
+    /// A second view of the same bytes.
+    pub fn share(&self) -> Result<ByteView, AllocError>
+        ensures { IfOk result (λ v. v ≡ self.now) }
+    {
+        let bytes = self.bytes.clone()?;
+        Ok(ByteView { bytes })
+    }
+
+    /// The length in bytes.
+    pub fn len(&self) -> usize
+        ensures { result ≡ length self.now }
+    {
+        self.bytes.len()
+    }
+
+    /// Whether there is no byte.
+    pub fn is_empty(&self) -> bool
+        ensures { result ≡ (length self.now == 0) }
+    {
+        self.bytes.is_empty()
+    }
+
+    /// All the bytes.
+    pub fn as_slice(&self) -> &[u8]
+        ensures { result.now ≡ self.now }
+    {
+        self.bytes.as_slice()
+    }
+}
