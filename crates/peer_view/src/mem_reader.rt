@@ -27,9 +27,13 @@ impl Model for MemReader {
     ghost Value = { Tape };
 
     ghost view = { λ r. record {
-        given = given_of r.pieces.items r.index r.offset;
-        left = left_of r.pieces.items r.index r.offset;
-        fails = r.fails; calls = r.calls; ends = r.ends; failures = r.failures } };
+      given = given_of r.pieces.items r.index r.offset;
+      left = left_of r.pieces.items r.index r.offset;
+      fails = r.fails;
+      calls = r.calls;
+      ends = r.ends;
+      failures = r.failures;
+    } };
 
     ghost invariant = { λ r. (r.ends ≤ r.calls) × (r.failures ≤ r.calls) };
 }

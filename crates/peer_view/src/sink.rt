@@ -63,6 +63,24 @@ impl AllocSink {
         }
     }
 
+    /// Shares the view, which replaces the value held. A sink that refuses it is unchanged.
+    pub fn set_view(&mut self, view: &ByteView) -> Result<(), SinkFault>
+        ensures ok { OnOk result (self.new ≡ view.now) }
+        ensures err { OnErr result (self.new ≡ self.old) }
+        ensures too_long { (result ≡ Err SinkFault.TooLong) ↔ (VALUE_LIMIT < length view.now) }
+    {
+        if view.len() > VALUE_LIMIT {
+            return Err(SinkFault::TooLong);
+        }
+        match view.share() {
+            Ok(value) => {
+                self.value = value;
+                Ok(())
+            }
+            Err(AllocError) => Err(SinkFault::Memory),
+        }
+    }
+
     /// The last value set, or the empty one.
     pub fn into_view(self) -> ByteView
         ensures value { result ≡ self }

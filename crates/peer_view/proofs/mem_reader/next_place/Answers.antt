@@ -12,7 +12,7 @@ loop-at-preserved c =
     let used : length (piece_at ps at.index) ≤ at.offset = grind (arith, common_steps) in
     record {
       given = ap (λ i. given_of ps i 0) (add-one at.index) ∙ used_up ps at.index at.offset inside used ∙ c.loop-at.invariant.given;
-      left = ap (λ i. left_of ps i 0) (add-one at.index) ∙ used_up_left ps at.index at.offset inside used ∙ c.loop-at.invariant.left
+      left = ap (λ i. left_of ps i 0) (add-one at.index) ∙ used_up_left ps at.index at.offset inside used ∙ c.loop-at.invariant.left;
     }
 
 pub returns-then-at-piece-clause-some : goal.returns-then-at-piece-clause-some

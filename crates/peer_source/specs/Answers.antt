@@ -1,0 +1,22 @@
+-- What a source answers for a group and a key.
+use Rattle.std.specs.Prelude.{ℕ, ◌≤◌, List, length, cond, leb, codes, Option}
+use Rattle.peer_view.specs.declared.sink.TheConstants.{VALUE_LIMIT}
+
+-- a value, or an error with its text
+pub data Answer : Type 0 where
+  Found : List ℕ → Answer
+  Failed : List ℕ → Answer
+
+-- the error of a value over the limit
+abbrev pub too_long_text : List ℕ
+too_long_text = codes "value too long"
+
+-- a value as it counts: over the limit it is an error
+abbrev pub found_within : List ℕ → Answer
+found_within value = cond (leb (length value) VALUE_LIMIT) (Found value) (Failed too_long_text)
+
+-- a group's number, a key, and the answer for them, none where memory was refused
+pub record Filled : Type 0 where
+  pub group : ℕ
+  pub key : List ℕ
+  pub answer : Option Answer

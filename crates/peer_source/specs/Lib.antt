@@ -1,0 +1,4 @@
+pub mod Answers
+pub mod Demo
+pub mod Outcomes
+pub mod Reports

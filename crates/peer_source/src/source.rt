@@ -1,0 +1,57 @@
+//! What has values by group and key (`Getter` and `Group` of `groupcache.go`).
+ghost use Rattle.std.specs.Prelude.{◌≡◌, ℕ, ◌<◌, List, Option, Some, IfSome, option_map};
+ghost use Rattle.peer_source.specs.Answers.{Answer};
+
+use crate::group::GroupId;
+use peer_view::AllocSink;
+use std::alloc::Global;
+
+/// Why a source gave no value.
+#[derive(Debug, Drop)]
+pub enum GetFault {
+    /// The source's own error, whose text the client gets.
+    Text(Vec<u8>),
+    /// The value is longer than a sink takes.
+    TooLong,
+    /// Memory was refused.
+    Memory,
+}
+
+/// What has values by group and key. Its answers may differ from call to call.
+pub trait Source: Send + Sync + Drop {
+    ghost use Rattle.peer_source.specs.Reports.{reported};
+
+    // The answers that this source may give for a group's number and a key.
+    ghost answers: { Self → ℕ → List ℕ → Answer → Type 0 };
+    // The answers that some source of this type may give.
+    ghost allowed: { ℕ → List ℕ → Answer → Type 0 };
+    // How many groups there are.
+    ghost count: { Self → ℕ };
+    // The number of the group of a name.
+    ghost number_of: { Self → List ℕ → Option ℕ };
+
+    /// How many groups there are.
+    fn group_count(&self) -> usize
+        ensures { result ≡ count self.now };
+
+    /// The group of a name.
+    fn group(&self, name: &[u8]) -> Option<GroupId>
+        ensures { option_map (λ g. g.number) result ≡ number_of self.now name.now };
+
+    /// Puts the value for a group and a key into the sink, or says why there is none.
+    fn get(
+        &self,
+        alloc: Global,
+        group: GroupId,
+        key: &[u8],
+        sink: &mut AllocSink,
+    ) -> Result<(), GetFault>
+        ensures { IfSome (reported result sink.new) (answers self.now group.number key.now) };
+
+    // What a source answers is allowed, it has an answer to everything, and each number is that of a group.
+    ghost within: { (s : Self) (g : ℕ) (k : List ℕ) (a : Answer) → answers s g k a → allowed g k a };
+
+    ghost answered: { (s : Self) (g : ℕ) (k : List ℕ) → (a : Answer) × answers s g k a };
+
+    ghost numbered: { (s : Self) (name : List ℕ) (i : ℕ) → number_of s name ≡ Some i → i < count s };
+}
