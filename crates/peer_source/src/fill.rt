@@ -1,6 +1,6 @@
 //! Fills: a group, a key, and what the source answered.
 ghost use Rattle.std.specs.Prelude.{◌≡◌, ◌⊎◌, ℕ, None, Some, IfSome, IfOk};
-ghost use Rattle.peer_source.specs.Answers.{Answer, Failed, too_long_text};
+ghost use Rattle.peer_source.specs.Answers.{Answer, Failed, IsWithinLimit, too_long_text};
 ghost use Rattle.peer_source.specs.Reports.{reported};
 ghost use Rattle.peer_source.specs.Outcomes.{answer_of};
 
@@ -33,19 +33,20 @@ pub struct Fill<S: Source> {
 
 impl<S: Source> Model for Fill<S> {
     ghost use Rattle.std.specs.Prelude.{IfSome};
-    ghost use Rattle.peer_source.specs.Answers.{Filled};
+    ghost use Rattle.peer_source.specs.Answers.{Filled, IsWithinLimit};
     ghost use Rattle.peer_source.specs.Outcomes.{answer_of};
 
     ghost Value = { Filled };
 
     ghost view = { λ f. record { group = f.group.number; key = f.key; answer = answer_of f.outcome } };
 
-    ghost invariant = { λ f. ∥ IfSome (answer_of f.outcome) (S.allowed f.group.number f.key) ∥₁ };
+    ghost invariant = { λ f. IsWithinLimit (answer_of f.outcome) × ∥ IfSome (answer_of f.outcome) (S.allowed f.group.number f.key) ∥₁ };
 }
 
 // The outcome that a call of `get` reported, with what it left in the sink.
 fn outcome_of(got: Result<(), GetFault>, sink: AllocSink) -> Outcome
-    ensures { (answer_of result ≡ reported got sink) ⊎ (answer_of result ≡ None) }
+    ensures answer { (answer_of result ≡ reported got sink) ⊎ (answer_of result ≡ None) }
+    ensures within { IsWithinLimit (answer_of result) }
 {
     match got {
         Ok(()) => Outcome::Found(sink.into_view()),
@@ -57,7 +58,8 @@ fn outcome_of(got: Result<(), GetFault>, sink: AllocSink) -> Outcome
 
 // The failure with this text.
 fn failure_of(text: Vec<u8>) -> Outcome
-    ensures { (answer_of result ≡ Some (Failed text.items)) ⊎ (answer_of result ≡ None) }
+    ensures answer { (answer_of result ≡ Some (Failed text.items)) ⊎ (answer_of result ≡ None) }
+    ensures within { IsWithinLimit (answer_of result) }
 {
     match Bytes::from_vec(text) {
         Ok(bytes) => Outcome::Failed(ByteView::from_shared(bytes)),
@@ -119,7 +121,8 @@ impl<S: Source> Fill<S> {
 
     /// What the source answered.
     pub fn outcome(&self) -> &Outcome
-        ensures { answer_of result.now ≡ self.now.answer }
+        ensures answer { answer_of result.now ≡ self.now.answer }
+        ensures within { IsWithinLimit self.now.answer }
     {
         &self.outcome
     }

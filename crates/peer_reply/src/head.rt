@@ -1,0 +1,49 @@
+//! The heads of replies: what stands before the content.
+ghost use Rattle.std.specs.Prelude.{◌≡◌, ◌+◌, ◌≤◌, ◌<◌, ◌^◌, ℕ, ◌++◌, length, codes, decimal};
+ghost use Rattle.peer_reply.specs.Texts.{crlf, field, connection_field, value_start, text_start, method_start};
+
+use arrayvec::ArrayVec;
+use itoa::Buffer;
+
+/// Room for the head of any reply.
+pub const HEAD_ROOM: usize = 256;
+
+/// The head of a reply.
+pub type ReplyHead = ArrayVec<u8, HEAD_ROOM>;
+
+/// What stands before the number of the content length, for each status.
+pub const VALUE: &[u8] = b"HTTP/1.1 200 OK\r\nContent-Type: application/x-protobuf\r\nContent-Length: ";
+pub const BAD_REQUEST: &[u8] = b"HTTP/1.1 400 Bad Request\r\nContent-Type: text/plain; charset=utf-8\r\nX-Content-Type-Options: nosniff\r\nContent-Length: ";
+pub const NOT_FOUND: &[u8] = b"HTTP/1.1 404 Not Found\r\nContent-Type: text/plain; charset=utf-8\r\nX-Content-Type-Options: nosniff\r\nContent-Length: ";
+pub const METHOD_NOT_ALLOWED: &[u8] = b"HTTP/1.1 405 Method Not Allowed\r\nAllow: GET, HEAD\r\nContent-Length: ";
+pub const CONTENT_TOO_LARGE: &[u8] = b"HTTP/1.1 413 Content Too Large\r\nContent-Type: text/plain; charset=utf-8\r\nX-Content-Type-Options: nosniff\r\nContent-Length: ";
+pub const HEAD_TOO_LARGE: &[u8] = b"HTTP/1.1 431 Request Header Fields Too Large\r\nContent-Type: text/plain; charset=utf-8\r\nX-Content-Type-Options: nosniff\r\nContent-Length: ";
+pub const INTERNAL_ERROR: &[u8] = b"HTTP/1.1 500 Internal Server Error\r\nContent-Type: text/plain; charset=utf-8\r\nX-Content-Type-Options: nosniff\r\nContent-Length: ";
+pub const NOT_IMPLEMENTED: &[u8] = b"HTTP/1.1 501 Not Implemented\r\nContent-Type: text/plain; charset=utf-8\r\nX-Content-Type-Options: nosniff\r\nContent-Length: ";
+
+/// The head of a reply whose content has this length.
+pub fn head_of(start: &[u8], content: u64, closing: bool) -> ReplyHead
+    requires { length start.now ≤ 160 }
+    ensures { result.items ≡ start.now ++ decimal content ++ crlf ++ connection_field closing ++ crlf }
+{
+    let mut head = ArrayVec::new();
+    append(&mut head, start);
+    append(&mut head, Buffer::new().format(content).as_bytes());
+    if closing {
+        append(&mut head, b"\r\nConnection: close\r\n\r\n");
+    } else {
+        append(&mut head, b"\r\n\r\n");
+    }
+    head
+}
+
+// Appends what has room.
+fn append(head: &mut ReplyHead, part: &[u8])
+    requires { length head.old.items + length part.now ≤ HEAD_ROOM }
+    ensures { head.new.items ≡ head.old.items ++ part.now }
+{
+    match head.try_extend_from_slice(part) {
+        Ok(()) => {}
+        Err(_) => unreachable!(),
+    }
+}

@@ -1,0 +1,18 @@
+//! Replies: what a request gets, as slices that joined are the reply's text.
+//!
+//! It stands on the views of `peer_view` and the fills of `peer_source`. It promises that the parts of a reply joined
+//! are the text that the definitions give for a fault or an answer, and takes no memory.
+#![tactic(auto)]
+
+mod fault;
+mod head;
+mod opening;
+mod reply;
+mod wish;
+
+pub use fault::Fault;
+pub use reply::Reply;
+pub use wish::{Wish, WishBody};
+
+#[cfg(test)]
+mod tests;

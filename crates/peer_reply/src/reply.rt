@@ -1,0 +1,113 @@
+//! Replies as four slices.
+ghost use Rattle.std.specs.Prelude.{◌≡◌, ◌+◌, ◌≤◌, ◌<◌, ◌↔◌, ◌^◌, ℕ, [], ◌∷◌, ◌++◌, length, cond, decimal, IfSome, IsNone, Some, None, option_map};
+ghost use Rattle.peer_reply.specs.Openings.{opening_bytes};
+ghost use Rattle.peer_reply.specs.Texts.{crlf, connection_field, fault_reply, answer_reply, joined};
+
+use crate::fault::Fault;
+use crate::head::{INTERNAL_ERROR, ReplyHead, VALUE, head_of};
+use crate::opening::Opening;
+use peer_source::{Fill, Outcome, Source};
+use std::marker::Model;
+
+/// A reply. It holds its head, and lends its value or text from the fill or the fault that it answers. Contracts see
+/// its text.
+#[derive(Drop)]
+pub struct Reply<'a> {
+    head: ReplyHead,
+    opening: Opening,
+    value: &'a [u8],
+    ending: &'static [u8],
+}
+
+impl<'a> Model for Reply<'a> {
+    ghost use Rattle.std.specs.Prelude.{List, ℕ, ◌++◌};
+    ghost use Rattle.peer_reply.specs.Openings.{opening_bytes};
+
+    ghost Value = { List ℕ };
+
+    ghost view = { λ r. r.head.items ++ (opening_bytes r.opening ++ r.value.now ++ r.ending.now) };
+}
+
+// The reply with the content of these three parts, which a bare reply leaves out.
+fn reply_of<'a>(
+    start: &[u8],
+    opening: Opening,
+    value: &'a [u8],
+    ending: &'static [u8],
+    closing: bool,
+    bare: bool,
+) -> Reply<'a>
+    requires start { length start.now ≤ 160 }
+    requires content { length (opening_bytes opening) + length value.now + length ending.now < 2 ^ 64 }
+    ensures { let content = opening_bytes opening ++ value.now ++ ending.now in
+        result ≡ start.now ++ decimal (length content) ++ crlf ++ connection_field closing ++ crlf ++ cond bare [] content }
+{
+    let length = opening.as_slice().len() + value.len() + ending.len();
+    let head = head_of(start, length as u64, closing);
+    if bare {
+        return Reply {
+            head,
+            opening: Opening::Text(b""),
+            value: b"",
+            ending: b"",
+        };
+    }
+    Reply {
+        head,
+        opening,
+        value,
+        ending,
+    }
+}
+
+// Four slices, lent for no longer than the first.
+fn four<'s>(head: &'s [u8], opening: &'s [u8], value: &'s [u8], ending: &'s [u8]) -> [&'s [u8]; 4]
+    ensures { joined result ≡ head.now ++ (opening.now ++ value.now ++ ending.now) }
+{
+    [head, opening, value, ending]
+}
+
+impl<'a> Reply<'a> {
+    /// The reply to a fault.
+    pub fn of_fault(fault: &'a Fault, closing: bool, bare: bool) -> Reply<'a>
+        ensures { result ≡ fault_reply closing bare fault.now }
+    {
+        let line = fault.line();
+        let opening = Opening::Text(line.text);
+        reply_of(line.start, opening, fault.name(), line.ending, closing, bare)
+    }
+
+    /// The reply to what the source answered, none where memory was refused.
+    pub fn of_fill<S: Source>(fill: &'a Fill<S>, closing: bool, bare: bool) -> Option<Reply<'a>>
+        ensures { result ≡ option_map (answer_reply closing bare) fill.now.answer }
+    {
+        match fill.outcome() {
+            Outcome::Found(value) => Some(reply_of(
+                VALUE,
+                Opening::of_value(value.len()),
+                value.as_slice(),
+                b"",
+                closing,
+                bare,
+            )),
+            Outcome::Failed(text) => Some(reply_of(
+                INTERNAL_ERROR,
+                Opening::Text(b""),
+                text.as_slice(),
+                b"\n",
+                closing,
+                bare,
+            )),
+            Outcome::NoMemory => None,
+        }
+    }
+
+    /// The parts of the reply: the head, what opens the content, the value or text lent from the fill or the fault,
+    /// and what ends the content.
+    pub fn parts(&self) -> [&[u8]; 4]
+        ensures { joined result ≡ self.now }
+    {
+        let head = self.head.as_slice();
+        four(head, self.opening.as_slice(), self.value, self.ending)
+    }
+}
