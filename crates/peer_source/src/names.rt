@@ -6,6 +6,7 @@ use crate::source::Source;
 use std::marker::Model;
 
 /// Tells the groups of a source. Contracts see the source.
+#[derive(Drop)]
 pub struct Names<'a, S: Source> {
     source: &'a S,
 }

@@ -1,0 +1,5 @@
+pub mod PartLemmas
+pub mod SendLemmas
+pub mod ServeLemmas
+pub mod TurnLemmas
+pub mod WishLemmas

@@ -1,0 +1,97 @@
+-- Laws of the wishes of a text.
+use Rattle.std.proofs.Common.{◌≡◌, ℕ, ◌+◌, ◌<◌, Bool, true, false, List, [], ◌∷◌, ◌++◌, length, ◌⊎◌, inl, inr, refl, sym, ◌∙◌, ap, subst, arith, append_assoc, append-nil, length-append, Option}
+use Rattle.peer_head.specs.Blocks.{Begins, HasBlock}
+use Rattle.peer_head.specs.Heads.{HeadParts, IsHead}
+use Rattle.peer_head.specs.Looks.{ShowsHead, IsFault, too_long as TooLong, no_head as NoHead, of_head}
+use Rattle.peer_head.specs.declared.fault.HeadFault.{HeadFault}
+use Rattle.peer_head.proofs.BlockLaws.{begins_once_law, keeps_block_law}
+use Rattle.peer_reply.specs.declared.wish.Wish.{Wish}
+use Rattle.peer_conn.specs.Wishes.{Asks, IsWish, no_head, refused, asked, head_wish, fault_wish, AsksInTurn, IsLastWish, too_long as TooLongLast, closes, closes_after, OpenWishes, ClosedWishes, AreFirst, MOST}
+use Rattle.peer_conn.specs.Turns.{IsNextWish, too_long, first, AsksOpen}
+
+module _ (numbers : List ℕ → Option ℕ) where
+  -- what a look at a fault tells of the next wish ..
+  pub fault_next : (t : List ℕ) (f : HeadFault) (bare : Bool) → IsFault t f bare → IsNextWish numbers t (fault_wish f bare)
+  fault_next t f bare (TooLong h) = too_long h
+  fault_next t f bare (NoHead block rest begins none) = first _ rest (record { block = block; begins = begins; wish = no_head none })
+  fault_next t f bare (of_head block rest begins p head g e) = first _ rest (record { block = block; begins = begins; wish = refused p g head e })
+
+  -- .. and a look at a head
+  pub head_next : (t : List ℕ) (p : HeadParts) → ShowsHead t p → IsNextWish numbers t (head_wish numbers p)
+  head_next t p h = first _ h.rest (record { block = h.block; begins = h.begins; wish = asked p h.head h.fine })
+
+  pub AsksInTurn-append : (ws vs : List Wish) (t u v : List ℕ) → AsksInTurn numbers t ws u → AsksInTurn numbers u vs v → AsksInTurn numbers t (ws ++ vs) v
+  AsksInTurn-append [] vs t u v h k = subst (λ x. AsksInTurn numbers x vs v) (sym h) k
+  AsksInTurn-append (w ∷ ws) vs t u v h k = (h.0, h.1, h.2, AsksInTurn-append ws vs h.0 u v h.3 k)
+
+  pub AsksInTurn-split : (ws vs : List Wish) (t v : List ℕ) → AsksInTurn numbers t (ws ++ vs) v → (u : List ℕ) × AsksInTurn numbers t ws u × AsksInTurn numbers u vs v
+  AsksInTurn-split [] vs t v h = (t, refl, h)
+  AsksInTurn-split (w ∷ ws) vs t v h =
+      let rest = AsksInTurn-split ws vs h.0 v h.3 in (rest.0, (h.0, h.1, h.2, rest.1), rest.2)
+
+  pub AsksInTurn-extend : (ws : List Wish) (t u x : List ℕ) → AsksInTurn numbers t ws u → AsksInTurn numbers (t ++ x) ws (u ++ x)
+  AsksInTurn-extend [] t u x h = ap (λ v. v ++ x) h
+  AsksInTurn-extend (w ∷ ws) t u x h =
+      (h.0 ++ x, record { block = h.1.block; begins = keeps_block_law t h.1.block h.0 x h.1.begins; wish = h.1.wish }, h.2, AsksInTurn-extend ws h.0 u x h.3)
+
+  -- no wish yet
+  pub Open-none : (n : ℕ) (t : List ℕ) → n < MOST → OpenWishes numbers n t [] t
+  Open-none n t h = record { asks = refl; count = omega arith }
+
+  -- more bytes only add wishes
+  pub Open-extend : (n : ℕ) (t : List ℕ) (ws : List Wish) (u x : List ℕ) → OpenWishes numbers n t ws u → OpenWishes numbers n (t ++ x) ws (u ++ x)
+  Open-extend n t ws u x h = record { asks = AsksInTurn-extend ws t u x h.asks; count = h.count }
+
+  pub Open-append : (n m : ℕ) (t u v : List ℕ) (ws vs : List Wish) → OpenWishes numbers n t ws u → m ≡ n + length ws → OpenWishes numbers m u vs v → OpenWishes numbers n t (ws ++ vs) v
+  Open-append n m t u v ws vs h e k = record { asks = AsksInTurn-append ws vs t u v h.asks k.asks; count = omega (arith, length-append ws vs, k.count) }
+
+  pub Open-more : (n m : ℕ) (t u v : List ℕ) (ws : List Wish) (w : Wish) → OpenWishes numbers n t ws u → m ≡ n + length ws → AsksOpen numbers m u w v → OpenWishes numbers n t (ws ++ w ∷ []) v
+  Open-more n m t u v ws w h e k =
+      record { asks = AsksInTurn-append ws (w ∷ []) t u v h.asks (v, k.asks, k.stays_open, refl); count = omega (arith, length-append ws (w ∷ []), k.count) }
+
+  pub Closed-append : (n m : ℕ) (t u : List ℕ) (ws vs : List Wish) → OpenWishes numbers n t ws u → m ≡ n + length ws → ClosedWishes numbers m u vs → ClosedWishes numbers n t (ws ++ vs)
+  Closed-append n m t u ws vs h e k =
+      let count : m + length k.front ≡ n + length (ws ++ k.front) = omega (arith, length-append ws k.front) in
+      record {
+        front = ws ++ k.front; last = k.last; at = k.at;
+        opens = Open-append n m t u k.at ws k.front h e k.opens;
+        closes = subst (λ c. IsLastWish numbers c k.at k.last) count k.closes;
+        all = ap (λ v. ws ++ v) k.all ∙ sym (append_assoc ws k.front (k.last ∷ []))
+      }
+
+  pub Closed-last : (n m : ℕ) (t u : List ℕ) (ws : List Wish) (w : Wish) → OpenWishes numbers n t ws u → m ≡ n + length ws → IsLastWish numbers m u w → ClosedWishes numbers n t (ws ++ w ∷ [])
+  Closed-last n m t u ws w h e k = record { front = ws; last = w; at = u; opens = h; closes = subst (λ c. IsLastWish numbers c u w) e k; all = refl }
+
+  -- the first wishes of what is left follow those before
+  pub First-append : (n m : ℕ) (t u : List ℕ) (ws vs : List Wish) → OpenWishes numbers n t ws u → m ≡ n + length ws → AreFirst numbers m u vs → AreFirst numbers n t (ws ++ vs)
+  First-append n m t u ws vs h e (inl k) = inl (k.0, Open-append n m t u k.0 ws vs h e k.1)
+  First-append n m t u ws vs h e (inr k) = inr (Closed-append n m t u ws vs h e k)
+
+  -- the next wish, where its reply closes ..
+  pub next_closes : (n : ℕ) (t : List ℕ) (w : Wish) → IsNextWish numbers t w → closes_after n w.closing ≡ true → IsLastWish numbers n t (record w { closing = true })
+  next_closes n t w (too_long h) e = TooLongLast h
+  next_closes n t w (first v rest asks) e = closes v rest asks e
+
+  stays_open : (n : ℕ) (closing : Bool) → closes_after n closing ≡ false → closing ≡ false
+  stays_open n true e = e
+  stays_open n false e = refl
+
+  one_more : (n : ℕ) (closing : Bool) → n < MOST → closes_after n closing ≡ false → n + 1 < MOST
+  one_more n closing h e = grind arith
+
+  -- .. and where it does not
+  pub next_block : (n : ℕ) (t : List ℕ) (w : Wish) → IsNextWish numbers t w → closes_after n w.closing ≡ false → HasBlock t
+  next_block n t w (too_long h) e = absurd (true_false e)
+    where
+    true_false : true ≡ false → ⊥
+    true_false p = cc
+  next_block n t w (first v rest asks) e = (asks.block, (rest, asks.begins))
+
+  pub next_stays : (n : ℕ) (t : List ℕ) (w : Wish) (u : List ℕ) → IsNextWish numbers t w → closes_after n w.closing ≡ false → n < MOST → (block : List ℕ) × Begins t block u → AsksOpen numbers n t w u
+  next_stays n t w u (too_long h) e lt b = absurd (true_false e)
+    where
+    true_false : true ≡ false → ⊥
+    true_false p = cc
+  next_stays n t w u (first v rest asks) e lt b =
+      let same = begins_once_law t asks.block b.0 rest u asks.begins b.1 in
+      record { asks = subst (λ x. Asks numbers t v x) same.1 asks; stays_open = stays_open n v.closing e; count = one_more n v.closing lt e }

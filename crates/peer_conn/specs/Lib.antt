@@ -1,0 +1,5 @@
+pub mod Ends
+pub mod Replies
+pub mod Sending
+pub mod Turns
+pub mod Wishes

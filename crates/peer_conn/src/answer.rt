@@ -1,0 +1,201 @@
+//! Replies to the wishes that are held.
+ghost use Rattle.std.specs.Prelude.{true, ◌≡◌, ℕ, ◌+◌, ◌-◌, ◌^◌, ◌<◌, []};
+ghost use Rattle.peer_conn.specs.Wishes.{MOST, closes_after, get_wish};
+ghost use Rattle.peer_conn.specs.Sending.{sending};
+ghost use Rattle.peer_conn.specs.Turns.{PutsReply, Puts, IsNextWish, Turns, Handles};
+
+use crate::gather::Gather;
+use crate::wish::next_wish;
+use peer_head::HeadBuf;
+use peer_reply::{Reply, Wish, WishBody};
+use peer_source::{Fill, GroupId, Names, Source};
+use peer_view::{ByteView, PeerWrite};
+use std::alloc::Global;
+
+/// How many replies a connection gets at most. The last of them closes.
+const MOST_REPLIES: u64 = 10_000;
+
+/// What became of one reply.
+#[derive(Clone, Copy, Debug)]
+pub(crate) enum Put {
+    Done,
+    Memory,
+    WriteFault,
+}
+
+/// What became of the wishes held.
+#[derive(Clone, Copy, Debug)]
+pub(crate) enum Turn {
+    /// A wish was answered that does not close.
+    More,
+    /// No further wish is held.
+    Need,
+    /// A wish was answered that closes.
+    Closed,
+    Memory,
+    WriteFault,
+}
+
+// Puts a reply behind what is gathered.
+fn put_reply<W: PeerWrite>(reply: &Reply<'_>, out: &mut Gather<W>) -> Put
+    requires { W.failures out.old.writer < 2 ^ 64 - 1 }
+    ensures { PutsReply reply.now (sending W.failures W.taken out.old out.new) result }
+{
+    match out.put_parts(&reply.parts()) {
+        Ok(()) => Put::Done,
+        Err(_) => Put::WriteFault,
+    }
+}
+
+// Calls the source, and puts its answer.
+fn put_answer<S: Source, W: PeerWrite>(
+    alloc: Global,
+    source: &S,
+    group: GroupId,
+    key: ByteView,
+    closing: bool,
+    bare: bool,
+    out: &mut Gather<W>,
+) -> Put
+    requires { W.failures out.old.writer < 2 ^ 64 - 1 }
+    ensures { Puts (S.answers source.now) (get_wish group key closing bare) (sending W.failures W.taken out.old out.new) result }
+{
+    let fill = Fill::run(alloc, source, group, key);
+    match Reply::of_fill(&fill, closing, bare) {
+        Some(reply) => put_reply(&reply, out),
+        None => Put::Memory,
+    }
+}
+
+// Puts the reply to a wish.
+fn put_wish<S: Source, W: PeerWrite>(
+    alloc: Global,
+    source: &S,
+    wish: Wish,
+    out: &mut Gather<W>,
+) -> Put
+    requires { W.failures out.old.writer < 2 ^ 64 - 1 }
+    ensures { Puts (S.answers source.now) wish (sending W.failures W.taken out.old out.new) result }
+{
+    let Wish {
+        body,
+        closing,
+        bare,
+    } = wish;
+    match body {
+        WishBody::Fault(fault) => put_reply(&Reply::of_fault(&fault, closing, bare), out),
+        WishBody::Get(group, key) => put_answer(alloc, source, group, key, closing, bare, out),
+    }
+}
+
+// Whether the reply to a wish closes, after `count` replies.
+fn closes_after(count: u64, closing: bool) -> bool
+    requires { count < MOST }
+    ensures { result ≡ closes_after count closing }
+{
+    closing || count + 1 == MOST_REPLIES
+}
+
+// The wish, whose reply closes.
+fn closing(wish: Wish) -> Wish
+    ensures { result ≡ record wish { closing = true } }
+{
+    let Wish { body, bare, .. } = wish;
+    Wish {
+        body,
+        closing: true,
+        bare,
+    }
+}
+
+// Answers the next wish of the bytes held, after `count` replies.
+fn answer_next<S: Source, W: PeerWrite>(
+    alloc: Global,
+    source: &S,
+    wish: Wish,
+    held: &mut HeadBuf,
+    out: &mut Gather<W>,
+    count: u64,
+) -> Turn
+    requires failures { W.failures out.old.writer < 2 ^ 64 - 1 }
+    requires count { count < MOST }
+    requires next { IsNextWish (S.number_of source.now) held.old.held wish }
+    ensures { Turns (S.number_of source.now) (S.answers source.now) count held.old.held held.new.held (sending W.failures W.taken out.old out.new) result }
+{
+    if closes_after(count, wish.closing) {
+        return match put_wish(alloc, source, closing(wish), out) {
+            Put::Done => Turn::Closed,
+            Put::Memory => Turn::Memory,
+            Put::WriteFault => Turn::WriteFault,
+        };
+    }
+    held.drop_front();
+    match put_wish(alloc, source, wish, out) {
+        Put::Done => Turn::More,
+        Put::Memory => Turn::Memory,
+        Put::WriteFault => Turn::WriteFault,
+    }
+}
+
+// Answers one wish of the bytes held, after `count` replies.
+fn answer_one<S: Source, W: PeerWrite>(
+    alloc: Global,
+    source: &S,
+    held: &mut HeadBuf,
+    out: &mut Gather<W>,
+    count: u64,
+) -> Turn
+    requires failures { W.failures out.old.writer < 2 ^ 64 - 1 }
+    requires count { count < MOST }
+    ensures { Turns (S.number_of source.now) (S.answers source.now) count held.old.held held.new.held (sending W.failures W.taken out.old out.new) result }
+{
+    match next_wish(alloc, &Names::of(source), held) {
+        Ok(Some(wish)) => answer_next(alloc, source, wish, held, out, count),
+        Ok(None) => Turn::Need,
+        Err(_) => Turn::Memory,
+    }
+}
+
+// Answers every wish held, after `count` replies.
+fn answer_held<S: Source, W: PeerWrite>(
+    alloc: Global,
+    source: &S,
+    held: &mut HeadBuf,
+    out: &mut Gather<W>,
+    count: &mut u64,
+) -> Turn
+    requires failures { W.failures out.old.writer < 2 ^ 64 - 1 }
+    requires count { count.old < MOST }
+    ensures { Handles (S.number_of source.now) (S.answers source.now) count.old count.new held.old.held held.new.held (sending W.failures W.taken out.old out.new) result }
+{
+    loop {
+        match answer_one(alloc, source, held, out, *count) {
+            Turn::More => *count += 1,
+            turn => return turn,
+        }
+    }
+}
+
+/// Answers every wish held, after `count` replies, and leaves nothing gathered.
+pub(crate) fn answer_flushed<S: Source, W: PeerWrite>(
+    alloc: Global,
+    source: &S,
+    held: &mut HeadBuf,
+    out: &mut Gather<W>,
+    count: &mut u64,
+) -> Turn
+    requires failures { W.failures out.old.writer < 2 ^ 64 - 1 }
+    requires count { count.old < MOST }
+    ensures handles { Handles (S.number_of source.now) (S.answers source.now) count.old count.new held.old.held held.new.held (sending W.failures W.taken out.old out.new) result }
+    ensures empty { out.new.gathered.items ≡ [] }
+{
+    let turn = answer_held(alloc, source, held, out, count);
+    if let Turn::WriteFault = turn {
+        out.clear();
+        return turn;
+    }
+    match out.flush() {
+        Ok(()) => turn,
+        Err(_) => Turn::WriteFault,
+    }
+}

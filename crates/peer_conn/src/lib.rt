@@ -1,0 +1,19 @@
+//! Connections: the requests of a stream, each with its reply, in order, and how the connection ends.
+//!
+//! It stands on the heads of `peer_head`, the places of `peer_path`, the sources and fills of `peer_source`, the
+//! replies of `peer_reply`, and the readers and writers of `peer_view`. It promises that what is written is the replies
+//! to what was read, as the end of the call says.
+#![tactic(auto)]
+
+mod answer;
+mod end;
+mod gather;
+mod intake;
+mod serial;
+mod told;
+mod wish;
+
+pub use end::{End, Served};
+pub use serial::serve_serial;
+pub use told::serve_told;
+pub use wish::wish_of;

@@ -1,0 +1,13 @@
+pub mod Blocks
+pub mod Buffers
+pub mod Cuts
+pub mod Faults
+pub mod Fields
+pub mod Heads
+pub mod Kinds
+pub mod Laws
+pub mod Lending
+pub mod Pairs
+pub mod Looks
+pub mod Tallies
+pub mod Views

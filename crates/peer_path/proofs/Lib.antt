@@ -1,0 +1,5 @@
+-- Lemmas that the proofs of this crate share.
+pub mod Searches
+pub mod EscapeLemmas
+pub mod TargetLemmas
+pub mod PlaceLemmas
