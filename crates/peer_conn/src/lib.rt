@@ -9,6 +9,7 @@ mod answer;
 mod end;
 mod gather;
 mod intake;
+pub mod laws;
 mod serial;
 mod told;
 mod wish;
