@@ -1,3 +1,4 @@
+pub mod AnswerLemmas
 pub mod PartLemmas
 pub mod SendLemmas
 pub mod ServeLemmas

@@ -7,6 +7,7 @@
 
 mod answer;
 mod end;
+mod functional;
 mod gather;
 mod intake;
 pub mod laws;
@@ -15,6 +16,7 @@ mod told;
 mod wish;
 
 pub use end::{End, Served};
+pub use functional::serve_functional;
 pub use serial::serve_serial;
 pub use told::serve_told;
 pub use wish::wish_of;
