@@ -1,7 +1,9 @@
 pub mod AnswerLemmas
+pub mod HeadlineLemmas
 pub mod PartLemmas
 pub mod SendLemmas
 pub mod ServeLemmas
+pub mod TotalLemmas
 pub mod TurnLemmas
 pub mod WholeLemmas
 pub mod WishLemmas

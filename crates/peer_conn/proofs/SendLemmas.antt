@@ -43,7 +43,7 @@ module _ (answers : ℕ → List ℕ → Answer → Type 0) where
   answered_one f f' a a' x x' w r reply sent = record {
     replies = r ∷ [];
     each = (r, [], refl, reply, refl);
-    sent = (Moves-along a a' _ _ _ _ (ap (λ v. x ++ v) (sym (append-nil r))) refl sent.0, sent.1)
+    sent = (Moves-along a a' _ _ _ _ (ap (λ v. x ++ v) (sym (append-nil r))) refl sent.0, sent.1);
   }
 
   -- one reply at which a write failed
@@ -51,7 +51,7 @@ module _ (answers : ℕ → List ℕ → Answer → Type 0) where
   failed_one f f' a a' x x' w r reply broke = record {
     replies = r ∷ [];
     each = (r, [], refl, reply, refl);
-    broke = ((broke.0.0, Moves-along a a' _ _ _ _ (ap (λ v. x ++ v) (sym (append-nil r))) refl broke.0.1), broke.1)
+    broke = ((broke.0.0, Moves-along a a' _ _ _ _ (ap (λ v. x ++ v) (sym (append-nil r))) refl broke.0.1), broke.1);
   }
 
   -- the reply to a fault
@@ -66,8 +66,8 @@ module _ (answers : ℕ → List ℕ → Answer → Type 0) where
       Some r ≡ option_map (answer_reply closing bare) answer → PutsReply r (side f f' a a' x x') p → Puts answers (get_wish group key closing bare) (side f f' a a' x x') p
   puts_answer f f' a a' x x' group key closing bare None r p given e h = absurd (some_none e)
     where
-    some_none : Some r ≡ None → ⊥
-    some_none q = cc
+      some_none : Some r ≡ None → ⊥
+      some_none q = cc
   puts_answer f f' a a' x x' group key closing bare (Some answer) r put.Done given e h =
       let is : r ≡ answer_reply closing bare answer = cc in answered_one f f' a a' x x' _ r (answer, given, is) h
   puts_answer f f' a a' x x' group key closing bare (Some answer) r put.Memory given e h = absurd h
@@ -83,7 +83,7 @@ module _ (answers : ℕ → List ℕ → Answer → Type 0) where
     answered_then ws vs h k = record {
       replies = h.replies ++ k.replies;
       each = Replies-append ws vs h.replies k.replies h.each k.each;
-      sent = (Moves-then a b c x (join h.replies) (join k.replies) _ y z (join-append h.replies k.replies) h.sent.0 k.sent.0, k.sent.1 ∙ h.sent.1)
+      sent = (Moves-then a b c x (join h.replies) (join k.replies) _ y z (join-append h.replies k.replies) h.sent.0 k.sent.0, k.sent.1 ∙ h.sent.1);
     }
 
     -- replies, and then some at which a write failed
@@ -91,28 +91,31 @@ module _ (answers : ℕ → List ℕ → Answer → Type 0) where
     failed_then ws vs h k = record {
       replies = h.replies ++ k.replies;
       each = Replies-append ws vs h.replies k.replies h.each k.each;
-      broke = ((k.broke.0.0, Moves-then a b c x (join h.replies) (join k.replies) _ y k.broke.0.0 (join-append h.replies k.replies) h.sent.0 k.broke.0.1), k.broke.1 ∙ ap (λ v. v + 1) h.sent.1)
+      broke = ((k.broke.0.0, Moves-then a b c x (join h.replies) (join k.replies) _ y k.broke.0.0 (join-append h.replies k.replies) h.sent.0 k.broke.0.1), k.broke.1 ∙ ap (λ v. v + 1) h.sent.1);
     }
 
     -- replies, and then no more
     pub answered_still : (ws : List Wish) → Answered answers (side f f1 a b x y) ws → Sent (side f1 f2 b c y z) [] → Answered answers (side f f2 a c x z) ws
     answered_still ws h k = record {
-      replies = h.replies; each = h.each;
-      sent = (Moves-then a b c x (join h.replies) [] _ y z (append-nil (join h.replies)) h.sent.0 k.0, k.1 ∙ h.sent.1)
+      replies = h.replies;
+      each = h.each;
+      sent = (Moves-then a b c x (join h.replies) [] _ y z (append-nil (join h.replies)) h.sent.0 k.0, k.1 ∙ h.sent.1);
     }
 
     -- replies, and then a flush ..
     pub answered_flushed : (ws : List Wish) → Answered answers (side f f1 a b x y) ws → z ≡ [] → Moves b c y [] × (f2 ≡ f1) → Answered answers (side f f2 a c x z) ws
     answered_flushed ws h e k = record {
-      replies = h.replies; each = h.each;
-      sent = (Moves-along a c _ _ [] z refl (sym e) (Moves-trans a b c _ y [] h.sent.0 k.0), k.1 ∙ h.sent.1)
+      replies = h.replies;
+      each = h.each;
+      sent = (Moves-along a c _ _ [] z refl (sym e) (Moves-trans a b c _ y [] h.sent.0 k.0), k.1 ∙ h.sent.1);
     }
 
     -- .. that fails
     pub answered_broken : (ws : List Wish) → Answered answers (side f f1 a b x y) ws → ((q : List ℕ) × Moves b c y q) × (f2 ≡ f1 + 1) → Failed answers (side f f2 a c x z) ws
     answered_broken ws h k = record {
-      replies = h.replies; each = h.each;
-      broke = ((k.0.0, Moves-trans a b c _ y k.0.0 h.sent.0 k.0.1), k.1 ∙ ap (λ v. v + 1) h.sent.1)
+      replies = h.replies;
+      each = h.each;
+      broke = ((k.0.0, Moves-trans a b c _ y k.0.0 h.sent.0 k.0.1), k.1 ∙ ap (λ v. v + 1) h.sent.1);
     }
 
     -- what is gathered after a fault is of no account

@@ -28,12 +28,14 @@ module _ (numbers : List ℕ → Option ℕ) (answers : ℕ → List ℕ → Ans
   last_turn n m t u v ws Closed h s e k other =
       (ws ++ k.0 ∷ [], Closed-last numbers n m t u ws k.0 h e k.1, answered_then answers f f1 f2 a b c x y z ws (k.0 ∷ []) s k.2)
   last_turn n m t u v ws Memory h s e k other = (ws, (u, h), answered_still answers f f1 f2 a b c x y z ws s k)
-  last_turn n m t u v ws WriteFault h s e k other =
-      (ws ++ k.0 ∷ [],
-       elim k.1 as (λ _. AreFirst numbers n t (ws ++ k.0 ∷ [])) [
-         inl d ↦ inl (d.0, Open-more numbers n m t u d.0 ws k.0 h e d.1)
-       | inr d ↦ inr (Closed-last numbers n m t u ws k.0 h e d) ],
-       failed_then answers f f1 f2 a b c x y z ws (k.0 ∷ []) s k.2)
+  last_turn n m t u v ws WriteFault h s e k other = (
+    ws ++ k.0 ∷ [],
+    elim k.1 as (λ _. AreFirst numbers n t (ws ++ k.0 ∷ [])) [
+      | inl d ↦ inl (d.0, Open-more numbers n m t u d.0 ws k.0 h e d.1)
+      | inr d ↦ inr (Closed-last numbers n m t u ws k.0 h e d)
+    ],
+    failed_then answers f f1 f2 a b c x y z ws (k.0 ∷ []) s k.2,
+  )
 
   -- a flush behind the turns ..
   pub flushed : (n m : ℕ) (t u : List ℕ) (turn : Turn) → Handles numbers answers n m t u (side f f1 a b x y) turn → (turn ≡ WriteFault → ⊥) → z ≡ [] → Moves b c y [] × (f2 ≡ f1) → Handles numbers answers n m t u (side f f2 a c x z) turn

@@ -21,8 +21,8 @@ module _ (numbers : List ℕ → Option ℕ) where
   some_none : (f : HeadFault) (p q : HeadParts) → p ≡ q → head_fault p ≡ Some f → head_fault q ≡ None → ⊥
   some_none f p q e a b = differ f (sym a ∙ ap head_fault e ∙ b)
     where
-    differ : (f : HeadFault) → Some f ≡ None → ⊥
-    differ f h = cc
+      differ : (f : HeadFault) → Some f ≡ None → ⊥
+      differ f h = cc
 
   same_some : (f g : HeadFault) → Some f ≡ Some g → f ≡ g
   same_some f g e = cc
@@ -56,8 +56,8 @@ module _ (numbers : List ℕ → Option ℕ) where
       let same = asks_unique t h.0 k.0 w x h.1 k.1 in
       let rest : AsksInTurn numbers k.0 ws u = subst (λ y. AsksInTurn numbers y ws u) same.1 h.3 in
       elim (compare ws vs k.0 u v rest k.3) as (λ _. ((xs : List Wish) × (x ∷ vs ≡ w ∷ (ws ++ xs)) × AsksInTurn numbers u xs v) ⊎ ((xs : List Wish) × (w ∷ ws ≡ x ∷ (vs ++ xs)) × AsksInTurn numbers v xs u)) [
-        inl d ↦ inl (d.0, ap (λ y. y ∷ vs) (sym same.0) ∙ ap (λ y. w ∷ y) d.1, d.2)
-      | inr d ↦ inr (d.0, ap (λ y. y ∷ ws) same.0 ∙ ap (λ y. x ∷ y) d.1, d.2)
+        | inl d ↦ inl (d.0, ap (λ y. y ∷ vs) (sym same.0) ∙ ap (λ y. w ∷ y) d.1, d.2)
+        | inr d ↦ inr (d.0, ap (λ y. y ∷ ws) same.0 ∙ ap (λ y. x ∷ y) d.1, d.2)
       ]
 
   long_short : (t : List ℕ) → IsTooLong t → IsUnfinished t → ⊥
@@ -75,12 +75,12 @@ module _ (numbers : List ℕ → Option ℕ) where
       let same = asks_unique t rest k.0 v x asks k.1 in
       not_last n x.closing lt k.2 (ap (λ y. closes_after n y.closing) (sym same.0) ∙ e)
     where
-    not_last : (n : ℕ) (closing : Bool) → n + 1 < MOST → closing ≡ false → closes_after n closing ≡ true → ⊥
-    not_last n true lt open_wish e = absurd (true_false open_wish)
-      where
-      true_false : true ≡ false → ⊥
-      true_false q = cc
-    not_last n false lt open_wish e = grind (arith, e)
+      not_last : (n : ℕ) (closing : Bool) → n + 1 < MOST → closing ≡ false → closes_after n closing ≡ true → ⊥
+      not_last n true lt open_wish e = absurd (true_false open_wish)
+        where
+          true_false : true ≡ false → ⊥
+          true_false q = cc
+      not_last n false lt open_wish e = grind (arith, e)
 
   -- a text has one wish that closes
   pub last_unique : (n : ℕ) (t : List ℕ) (v w : Wish) → IsLastWish numbers n t v → IsLastWish numbers n t w → v ≡ w
@@ -100,30 +100,30 @@ module _ (numbers : List ℕ → Option ℕ) where
   closed_same : (n : ℕ) (t : List ℕ) (ws vs : List Wish) → ClosedWishes numbers n t ws → ClosedWishes numbers n t vs → vs ≡ ws
   closed_same n t ws vs h k =
       elim (compare h.front k.front t h.at k.at h.opens.asks k.opens.asks) as (λ _. vs ≡ ws) [
-        inl d ↦ later h k d.0 d.1 d.2
-      | inr d ↦ sym (later k h d.0 d.1 d.2)
+        | inl d ↦ later h k d.0 d.1 d.2
+        | inr d ↦ sym (later k h d.0 d.1 d.2)
       ]
     where
-    later : {ws vs : List Wish} (h : ClosedWishes numbers n t ws) (k : ClosedWishes numbers n t vs) (xs : List Wish) → k.front ≡ h.front ++ xs → AsksInTurn numbers h.at xs k.at → vs ≡ ws
-    later h k [] e asks =
-        let fronts : k.front ≡ h.front = e ∙ append-nil h.front in
-        let count : n + length k.front ≡ n + length h.front = ap (λ v. n + length v) fronts in
-        let closes_there : IsLastWish numbers (n + length h.front) h.at k.last =
-            subst (λ c. IsLastWish numbers c h.at k.last) count (subst (λ x. IsLastWish numbers (n + length k.front) x k.last) (sym asks) k.closes) in
-        k.all ∙ ap (λ v. v ++ k.last ∷ []) fronts ∙ ap (λ w. h.front ++ w ∷ []) (last_unique (n + length h.front) h.at k.last h.last closes_there h.closes) ∙ sym h.all
-    later h k (x ∷ xs) e asks = absurd (last_open (n + length h.front) h.at k.at h.last x xs h.closes asks (count_more n k.front h.front x xs k.opens.count e))
+      later : {ws vs : List Wish} (h : ClosedWishes numbers n t ws) (k : ClosedWishes numbers n t vs) (xs : List Wish) → k.front ≡ h.front ++ xs → AsksInTurn numbers h.at xs k.at → vs ≡ ws
+      later h k [] e asks =
+          let fronts : k.front ≡ h.front = e ∙ append-nil h.front in
+          let count : n + length k.front ≡ n + length h.front = ap (λ v. n + length v) fronts in
+          let closes_there : IsLastWish numbers (n + length h.front) h.at k.last =
+          subst (λ c. IsLastWish numbers c h.at k.last) count (subst (λ x. IsLastWish numbers (n + length k.front) x k.last) (sym asks) k.closes) in
+          k.all ∙ ap (λ v. v ++ k.last ∷ []) fronts ∙ ap (λ w. h.front ++ w ∷ []) (last_unique (n + length h.front) h.at k.last h.last closes_there h.closes) ∙ sym h.all
+      later h k (x ∷ xs) e asks = absurd (last_open (n + length h.front) h.at k.at h.last x xs h.closes asks (count_more n k.front h.front x xs k.opens.count e))
 
   -- open wishes are the first of closed ones
   open_closed : (n : ℕ) (t u : List ℕ) (ws vs : List Wish) → OpenWishes numbers n t ws u → ClosedWishes numbers n t vs → BeginsWith vs ws
   open_closed n t u ws vs h k =
       elim (compare ws k.front t u k.at h.asks k.opens.asks) as (λ _. BeginsWith vs ws) [
-        inl d ↦ (d.0 ++ k.last ∷ [], k.all ∙ ap (λ v. v ++ k.last ∷ []) d.1 ∙ append_assoc ws d.0 (k.last ∷ []))
-      | inr d ↦ beyond d.0 d.1 d.2
+        | inl d ↦ (d.0 ++ k.last ∷ [], k.all ∙ ap (λ v. v ++ k.last ∷ []) d.1 ∙ append_assoc ws d.0 (k.last ∷ []))
+        | inr d ↦ beyond d.0 d.1 d.2
       ]
     where
-    beyond : (xs : List Wish) → ws ≡ k.front ++ xs → AsksInTurn numbers k.at xs u → BeginsWith vs ws
-    beyond [] e asks = (k.last ∷ [], k.all ∙ ap (λ v. v ++ k.last ∷ []) (sym (e ∙ append-nil k.front)))
-    beyond (x ∷ xs) e asks = absurd (last_open (n + length k.front) k.at u k.last x xs k.closes asks (count_more n ws k.front x xs h.count e))
+      beyond : (xs : List Wish) → ws ≡ k.front ++ xs → AsksInTurn numbers k.at xs u → BeginsWith vs ws
+      beyond [] e asks = (k.last ∷ [], k.all ∙ ap (λ v. v ++ k.last ∷ []) (sym (e ∙ append-nil k.front)))
+      beyond (x ∷ xs) e asks = absurd (last_open (n + length k.front) k.at u k.last x xs k.closes asks (count_more n ws k.front x xs h.count e))
 
   -- of two lists of first wishes one begins with the other
   pub first_compare : (n : ℕ) (t : List ℕ) (ws vs : List Wish) → AreFirst numbers n t ws → AreFirst numbers n t vs → BeginsWith vs ws ⊎ BeginsWith ws vs
@@ -138,18 +138,19 @@ module _ (numbers : List ℕ → Option ℕ) where
   first_all n t rest ws vs (inl h) k =
       elim (compare ws vs t h.0 rest h.1.asks k.opens.asks) as (λ _. BeginsWith vs ws) [ inl d ↦ (d.0, d.1) | inr d ↦ beyond d.0 d.1 d.2 ]
     where
-    beyond : (xs : List Wish) → ws ≡ vs ++ xs → AsksInTurn numbers rest xs h.0 → BeginsWith vs ws
-    beyond [] e asks = ([], sym (append-nil ws ∙ e ∙ append-nil vs))
-    beyond (x ∷ xs) e asks = absurd (unfinished_open rest h.0 x xs k.unfinished asks)
+      beyond : (xs : List Wish) → ws ≡ vs ++ xs → AsksInTurn numbers rest xs h.0 → BeginsWith vs ws
+      beyond [] e asks = ([], sym (append-nil ws ∙ e ∙ append-nil vs))
+      beyond (x ∷ xs) e asks = absurd (unfinished_open rest h.0 x xs k.unfinished asks)
   first_all n t rest ws vs (inr h) k =
       elim (compare h.front vs t h.at rest h.opens.asks k.opens.asks) as (λ _. BeginsWith vs ws) [ inl d ↦ later d.0 d.1 d.2 | inr d ↦ beyond d.0 d.1 d.2 ]
     where
-    later : (xs : List Wish) → vs ≡ h.front ++ xs → AsksInTurn numbers h.at xs rest → BeginsWith vs ws
-    later [] e asks = absurd (last_unfinished (n + length h.front) h.at h.last h.closes (subst IsUnfinished (sym asks) k.unfinished))
-    later (x ∷ xs) e asks = absurd (last_open (n + length h.front) h.at rest h.last x xs h.closes asks (count_more n vs h.front x xs k.opens.count e))
-    beyond : (xs : List Wish) → h.front ≡ vs ++ xs → AsksInTurn numbers rest xs h.at → BeginsWith vs ws
-    beyond [] e asks = absurd (last_unfinished (n + length h.front) h.at h.last h.closes (subst IsUnfinished asks k.unfinished))
-    beyond (x ∷ xs) e asks = absurd (unfinished_open rest h.at x xs k.unfinished asks)
+      later : (xs : List Wish) → vs ≡ h.front ++ xs → AsksInTurn numbers h.at xs rest → BeginsWith vs ws
+      later [] e asks = absurd (last_unfinished (n + length h.front) h.at h.last h.closes (subst IsUnfinished (sym asks) k.unfinished))
+      later (x ∷ xs) e asks = absurd (last_open (n + length h.front) h.at rest h.last x xs h.closes asks (count_more n vs h.front x xs k.opens.count e))
+
+      beyond : (xs : List Wish) → h.front ≡ vs ++ xs → AsksInTurn numbers rest xs h.at → BeginsWith vs ws
+      beyond [] e asks = absurd (last_unfinished (n + length h.front) h.at h.last h.closes (subst IsUnfinished asks k.unfinished))
+      beyond (x ∷ xs) e asks = absurd (unfinished_open rest h.at x xs k.unfinished asks)
 
   first_closed : (n : ℕ) (t : List ℕ) (ws vs : List Wish) → AreFirst numbers n t ws → ClosedWishes numbers n t vs → BeginsWith vs ws
   first_closed n t ws vs (inl h) k = open_closed n t h.0 ws vs h.1 k
@@ -182,9 +183,12 @@ last_extend numbers n t more w (closes v rest asks e) =
 
 closed_extend : (numbers : List ℕ → Option ℕ) (n : ℕ) (t more : List ℕ) (ws : List Wish) → ClosedWishes numbers n t ws → ClosedWishes numbers n (t ++ more) ws
 closed_extend numbers n t more ws h = record {
-  front = h.front; last = h.last; at = h.at ++ more;
+  front = h.front;
+  last = h.last;
+  at = h.at ++ more;
   opens = Open-extend numbers n t h.front h.at more h.opens;
-  closes = last_extend numbers (n + length h.front) h.at more h.last h.closes; all = h.all
+  closes = last_extend numbers (n + length h.front) h.at more h.last h.closes;
+  all = h.all;
 }
 
 pub keeps_wishes_law : KeepsWishes
@@ -196,18 +200,18 @@ ends_with_closing_law numbers n t more ws vs h k =
     let all = first_closed numbers n (t ++ more) (ws ++ vs) ws k (closed_extend numbers n t more ws h) in
     nothing ws vs all.0 all.1
   where
-  nothing : (ws vs xs : List Wish) → ws ≡ (ws ++ vs) ++ xs → vs ≡ []
-  nothing ws [] xs e = refl
-  nothing ws (v ∷ vs) xs e = absurd (omega (arith, ap length e, length-append (ws ++ v ∷ vs) xs, length-append ws (v ∷ vs)))
+    nothing : (ws vs xs : List Wish) → ws ≡ (ws ++ vs) ++ xs → vs ≡ []
+    nothing ws [] xs e = refl
+    nothing ws (v ∷ vs) xs e = absurd (omega (arith, ap length e, length-append (ws ++ v ∷ vs) xs, length-append ws (v ∷ vs)))
 
 module _ (answer : ℕ → List ℕ → Answer) where
   -- a wish has one reply
   pub reply_unique : (w : Wish) (r q : List ℕ) → IsReply (λ g k a. a ≡ answer g k) w r → IsReply (λ g k a. a ≡ answer g k) w q → r ≡ q
   reply_unique w r q x y = by_body w.closing w.bare w.body x y
     where
-    by_body : (c b : Bool) (body : WishBody) → RepliesTo (λ g k a. a ≡ answer g k) c b body r → RepliesTo (λ g k a. a ≡ answer g k) c b body q → r ≡ q
-    by_body c b (body.Fault f) x y = x ∙ sym y
-    by_body c b (body.Get g k) x y = x.2 ∙ ap (answer_reply c b) (x.1 ∙ sym y.1) ∙ sym y.2
+      by_body : (c b : Bool) (body : WishBody) → RepliesTo (λ g k a. a ≡ answer g k) c b body r → RepliesTo (λ g k a. a ≡ answer g k) c b body q → r ≡ q
+      by_body c b (body.Fault f) x y = x ∙ sym y
+      by_body c b (body.Get g k) x y = x.2 ∙ ap (answer_reply c b) (x.1 ∙ sym y.1) ∙ sym y.2
 
   pub replies_begin : (ws xs : List Wish) (rs ss : List (List ℕ)) → Replies (λ g k a. a ≡ answer g k) ws rs → Replies (λ g k a. a ≡ answer g k) (ws ++ xs) ss → BeginsWith ss rs
   replies_begin [] xs rs ss h k = (ss, ap (λ v. v ++ ss) (sym h))
@@ -218,6 +222,6 @@ module _ (answer : ℕ → List ℕ → Answer) where
 pub replies_agree_law : RepliesAgree
 replies_agree_law numbers answer n t ws vs rs ss h k x y =
     elim (first_compare numbers n t ws vs h k) as (λ _. BeginsWith ss rs ⊎ BeginsWith rs ss) [
-      inl d ↦ inl (replies_begin answer ws d.0 rs ss x (subst (λ v. Replies (λ g k a. a ≡ answer g k) v ss) d.1 y))
-    | inr d ↦ inr (replies_begin answer vs d.0 ss rs y (subst (λ v. Replies (λ g k a. a ≡ answer g k) v rs) d.1 x))
+      | inl d ↦ inl (replies_begin answer ws d.0 rs ss x (subst (λ v. Replies (λ g k a. a ≡ answer g k) v ss) d.1 y))
+      | inr d ↦ inr (replies_begin answer vs d.0 ss rs y (subst (λ v. Replies (λ g k a. a ≡ answer g k) v rs) d.1 x))
     ]

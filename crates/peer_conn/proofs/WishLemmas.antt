@@ -53,10 +53,12 @@ module _ (numbers : List ℕ → Option ℕ) where
   Closed-append n m t u ws vs h e k =
       let count : m + length k.front ≡ n + length (ws ++ k.front) = omega (arith, length-append ws k.front) in
       record {
-        front = ws ++ k.front; last = k.last; at = k.at;
+        front = ws ++ k.front;
+        last = k.last;
+        at = k.at;
         opens = Open-append n m t u k.at ws k.front h e k.opens;
         closes = subst (λ c. IsLastWish numbers c k.at k.last) count k.closes;
-        all = ap (λ v. ws ++ v) k.all ∙ sym (append_assoc ws k.front (k.last ∷ []))
+        all = ap (λ v. ws ++ v) k.all ∙ sym (append_assoc ws k.front (k.last ∷ []));
       }
 
   pub Closed-last : (n m : ℕ) (t u : List ℕ) (ws : List Wish) (w : Wish) → OpenWishes numbers n t ws u → m ≡ n + length ws → IsLastWish numbers m u w → ClosedWishes numbers n t (ws ++ w ∷ [])
@@ -83,15 +85,15 @@ module _ (numbers : List ℕ → Option ℕ) where
   pub next_block : (n : ℕ) (t : List ℕ) (w : Wish) → IsNextWish numbers t w → closes_after n w.closing ≡ false → HasBlock t
   next_block n t w (too_long h) e = absurd (true_false e)
     where
-    true_false : true ≡ false → ⊥
-    true_false p = cc
+      true_false : true ≡ false → ⊥
+      true_false p = cc
   next_block n t w (first v rest asks) e = (asks.block, (rest, asks.begins))
 
   pub next_stays : (n : ℕ) (t : List ℕ) (w : Wish) (u : List ℕ) → IsNextWish numbers t w → closes_after n w.closing ≡ false → n < MOST → (block : List ℕ) × Begins t block u → AsksOpen numbers n t w u
   next_stays n t w u (too_long h) e lt b = absurd (true_false e)
     where
-    true_false : true ≡ false → ⊥
-    true_false p = cc
+      true_false : true ≡ false → ⊥
+      true_false p = cc
   next_stays n t w u (first v rest asks) e lt b =
       let same = begins_once_law t asks.block b.0 rest u asks.begins b.1 in
       record { asks = subst (λ x. Asks numbers t v x) same.1 asks; stays_open = stays_open n v.closing e; count = one_more n v.closing lt e }

@@ -29,10 +29,14 @@ pub record Writing : Type 0 where
 
 abbrev pub reading : {R : Type 0} → (R → Option (List ℕ)) → (R → ℕ) → (R → ℕ) → (R → ℕ) → R → R → Reading
 reading given calls ends failures old new = record {
-  given = given old; given' = given new;
-  calls = calls old; calls' = calls new;
-  ends = ends old; ends' = ends new;
-  failures = failures old; failures' = failures new
+  given = given old;
+  given' = given new;
+  calls = calls old;
+  calls' = calls new;
+  ends = ends old;
+  ends' = ends new;
+  failures = failures old;
+  failures' = failures new;
 }
 
 abbrev pub writing : {W : Type 0} → (W → Option (List ℕ)) → (W → ℕ) → W → W → Writing

@@ -1,4 +1,5 @@
 pub mod Ends
+pub mod Headline
 pub mod Laws
 pub mod Replies
 pub mod Sending

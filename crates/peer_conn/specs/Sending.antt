@@ -17,9 +17,12 @@ pub record Sending : Type 0 where
 
 abbrev pub sending : {W : Type 0} → (W → ℕ) → (W → Option (List ℕ)) → Gather W → Gather W → Sending
 sending failures taken old new = record {
-  failures = failures old.writer; failures' = failures new.writer;
-  taken = taken old.writer; taken' = taken new.writer;
-  gathered = old.gathered.items; gathered' = new.gathered.items
+  failures = failures old.writer;
+  failures' = failures new.writer;
+  taken = taken old.writer;
+  taken' = taken new.writer;
+  gathered = old.gathered.items;
+  gathered' = new.gathered.items;
 }
 
 -- these bytes are behind what was gathered, and no write failed

@@ -38,14 +38,14 @@ in_group None name key = body.Fault (fault.NoGroup name)
 -- what a target asks for; `numbers` gives the number of the group of a name
 abbrev pub target_body : (List ℕ → Option ℕ) → List ℕ → WishBody
 target_body numbers target = elim (place_of target) as (λ _. WishBody) [
-    Ok place ↦ in_group (numbers place.group) place.group place.key
+  | Ok place ↦ in_group (numbers place.group) place.group place.key
   | Err refusal ↦ elim refusal as (λ _. WishBody) [
-      Target ↦ body.Fault fault.Target
+    | Target ↦ body.Fault fault.Target
     | Escape ↦ body.Fault fault.Escape
     | Outside ↦ body.Fault fault.Outside
     | NoKey ↦ body.Fault fault.NoKey
-    ]
   ]
+]
 
 -- GET and HEAD are served (RFC 9110, sections 9.3.1 and 9.3.2)
 abbrev pub is_served : List ℕ → Bool
@@ -60,7 +60,7 @@ abbrev pub head_wish : (List ℕ → Option ℕ) → HeadParts → Wish
 head_wish numbers p = record {
   body = head_body numbers p;
   closing = is_closing p;
-  bare = is_bare p
+  bare = is_bare p;
 }
 
 -- the wish of a block: the first fault of its head, or what its head asks for

@@ -74,7 +74,14 @@ impl<'a> Reply<'a> {
     {
         let line = fault.line();
         let opening = Opening::Text(line.text);
-        reply_of(line.start, opening, fault.name(), line.ending, closing, bare)
+        reply_of(
+            line.start,
+            opening,
+            fault.name(),
+            line.ending,
+            closing,
+            bare,
+        )
     }
 
     /// The reply to what the source answered, none where memory was refused.

@@ -10,10 +10,12 @@ use std::alloc::{AllocError, Global};
 use std::test::Fail;
 
 // What Go's own client sends for the key `k` of the group `echo`.
-const GO_REQUEST: &[u8] = b"GET /_groupcache/echo/k HTTP/1.1\r\nHost: 10.0.0.2:8000\r\nUser-Agent: Go-http-client/1.1\r\nAccept-Encoding: gzip\r\n\r\n";
+const GO_REQUEST: &[u8] =
+    b"GET /_groupcache/echo/k HTTP/1.1\r\nHost: 10.0.0.2:8000\r\nUser-Agent: Go-http-client/1.1\r\nAccept-Encoding: gzip\r\n\r\n";
 
 // The reply with the value `k`.
-const REPLY_K: &[u8] = b"HTTP/1.1 200 OK\r\nContent-Type: application/x-protobuf\r\nContent-Length: 3\r\n\r\n\x0A\x01k";
+const REPLY_K: &[u8] =
+    b"HTTP/1.1 200 OK\r\nContent-Type: application/x-protobuf\r\nContent-Length: 3\r\n\r\n\x0A\x01k";
 
 // A reader that gives these bytes in one piece, and then tells its end.
 fn reader_of(alloc: Global, bytes: &[u8]) -> Result<MemReader, AllocError>
@@ -53,7 +55,10 @@ fn fails_where_the_writer_fails(rt: HostRuntime) -> Result<(), Fail> {
 #[test]
 fn tells_each_end(rt: HostRuntime) {
     assert_eq!(rt; exit_of(&End::Clean), (0, ""));
-    assert_eq!(rt; exit_of(&End::Cut), (2, "peer_serve: input ended inside a head"));
+    assert_eq!(rt;
+        exit_of(&End::Cut),
+        (2, "peer_serve: input ended inside a head")
+    );
     assert_eq!(rt; exit_of(&End::ReadFault), (3, "peer_serve: read failed"));
     assert_eq!(rt; exit_of(&End::WriteFault), (4, "peer_serve: write failed"));
     assert_eq!(rt; exit_of(&End::Memory), (5, "peer_serve: out of memory"));
@@ -64,5 +69,8 @@ fn tells_each_end(rt: HostRuntime) {
 #[test]
 fn takes_no_argument(rt: HostRuntime) {
     assert_eq!(rt; refusal_of(1), None);
-    assert_eq!(rt; refusal_of(2), Some((1, "usage: peer_serve [ADDRESS WORKERS CONNS ROUNDS [-]]")));
+    assert_eq!(rt;
+        refusal_of(2),
+        Some((1, "usage: peer_serve [ADDRESS WORKERS CONNS ROUNDS [-]]"))
+    );
 }

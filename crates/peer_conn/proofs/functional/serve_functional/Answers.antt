@@ -12,9 +12,9 @@ returns-clause-serves g c =
     let source = g.met.S.Source g.world.𝓛 g.world.𝓜 g.world.𝓡 (λ s h. h, λ h. h, λ h. h, λ h. h) in
     let names : g.S.Source.number_of c.args.source.now ≡ g.S.FunctionalSource.the_number = fun_ext (functional.fixed_names c.args.source.now) in
     let P : (List ℕ → Option ℕ) → Type 0 = λ numbers. Serves numbers (λ group k a. a ≡ g.S.FunctionalSource.the_answer group k) c.args.reads
-      (reading g.R.PeerRead.given g.R.PeerRead.calls g.R.PeerRead.ends g.R.PeerRead.failures c.args.reader c.serve_serial.result.reader)
-      (writing g.W.PeerWrite.taken g.W.PeerWrite.failures c.args.writer c.serve_serial.result.writer) c.serve_serial.result.end in
+    (reading g.R.PeerRead.given g.R.PeerRead.calls g.R.PeerRead.ends g.R.PeerRead.failures c.args.reader c.serve_serial.result.reader)
+    (writing g.W.PeerWrite.taken g.W.PeerWrite.failures c.args.writer c.serve_serial.result.writer) c.serve_serial.result.end in
     subst P names
     (serves (g.S.Source.answers c.args.source.now) (λ group k a. a ≡ g.S.FunctionalSource.the_answer group k)
-      (λ group k a h. functional.single group k a (source.within c.args.source.now group k a h))
-      (g.S.Source.number_of c.args.source.now) c.args.reads _ _ c.serve_serial.result.end c.serve_serial.ensures.serves)
+    (λ group k a h. functional.single group k a (source.within c.args.source.now group k a h))
+    (g.S.Source.number_of c.args.source.now) c.args.reads _ _ c.serve_serial.result.end c.serve_serial.ensures.serves)

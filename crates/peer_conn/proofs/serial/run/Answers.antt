@@ -10,7 +10,7 @@ pub loop-made-init : goal.loop-made-init
 loop-made-init g c = record {
   runs = runs_none _ _ _ _ _ _ _ _ _ c.requires.held;
   waits = subst IsUnfinished (sym c.requires.held) unfinished_none;
-  empty = c.requires.empty
+  empty = c.requires.empty;
 }
 
 pub returns-in-Err-clause-serves : goal.returns-in-Err-clause-serves

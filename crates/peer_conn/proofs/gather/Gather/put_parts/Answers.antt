@@ -14,5 +14,5 @@ loop-i-preserved g c =
     let so_far = c.loop-i.invariant in
     record {
       moved = Moves-then _ _ _ _ _ _ _ _ _ c.part_at.ensures.behind so_far.moved c.in-Ok.ensures.0;
-      fine = c.in-Ok.ensures.1 ∙ so_far.fine
+      fine = c.in-Ok.ensures.1 ∙ so_far.fine;
     }

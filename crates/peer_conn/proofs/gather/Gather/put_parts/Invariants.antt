@@ -6,5 +6,5 @@ use Rattle.peer_conn.proofs.gather.Gather.put_parts.Given as goal
 abbrev pub invariant-loop-i : goal.invariant-loop-i
 invariant-loop-i g l = record {
   moved : Moves (g.W.PeerWrite.taken l.fn.self.writer) (g.W.PeerWrite.taken l.self.writer) (l.fn.self.gathered.items ++ joined (take l.i l.parts)) l.self.gathered.items;
-  fine : g.W.PeerWrite.failures l.self.writer ≡ g.W.PeerWrite.failures l.fn.self.writer
+  fine : g.W.PeerWrite.failures l.self.writer ≡ g.W.PeerWrite.failures l.fn.self.writer;
 }

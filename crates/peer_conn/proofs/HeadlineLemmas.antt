@@ -1,0 +1,54 @@
+-- What a connection writes is a prefix of the replies to what it read.
+use Rattle.std.proofs.Common.{◌≡◌, ℕ, ◌<◌, List, [], ◌∷◌, ◌++◌, ◌⊎◌, inl, inr, refl, sym, ◌∙◌, ap, subst, arith, append_assoc, append-nil, Option}
+use Rattle.std.specs.Io.KnownBytes.{Appends}
+use Rattle.peer_head.specs.Looks.{LooksAs}
+use Rattle.peer_head.specs.declared.look.Look.{Look}
+use Rattle.peer_source.specs.Answers.{Answer}
+use Rattle.peer_reply.specs.declared.wish.Wish.{Wish}
+use Rattle.peer_conn.specs.Wishes.{AreFirst, MOST}
+use Rattle.peer_conn.specs.Replies.{Replies, AreReplies, AreFrontOfReplies, join}
+use Rattle.peer_conn.specs.Laws.{IsWhole}
+use Rattle.peer_conn.specs.Headline.{AreAllReplies, WritesReplies}
+use Rattle.peer_conn.specs.Ends.{Reading, Writing, EndsAs, Serves}
+use Rattle.peer_conn.specs.declared.end.End.{End}
+use Rattle.peer_conn.specs.declared.end.End.TheVariants as end
+use Rattle.peer_conn.proofs.SendLemmas.{join-append}
+use Rattle.peer_conn.proofs.TotalLemmas.{whole, replies_of}
+use Rattle.peer_conn.proofs.WholeLemmas.{begins_with_first_law, replies_begin}
+
+module _ (looks : (t : List ℕ) → (a : Look) × LooksAs t a) (numbers : List ℕ → Option ℕ) (answer : ℕ → List ℕ → Answer) (r : Reading) (w : Writing) (t o : List ℕ) (gave : Appends r.given r.given' t) (took : Appends w.taken w.taken' o) where
+  -- a front of the replies to first wishes is a front of all replies
+  of_front : (e : End) (ws : List Wish) → (e ≡ end.Clean → ⊥) → AreFirst numbers 0 t ws → AreFrontOfReplies (λ g k a. a ≡ answer g k) ws o → WritesReplies numbers answer r w e
+  of_front e ws other first h =
+      let all = whole looks numbers 0 t (omega arith) in
+      let more = begins_with_first_law numbers 0 t ws all.0 first all.1 in
+      let replies = replies_of answer all.0 in
+      let P : List Wish → Type 0 = λ v. Replies (λ g k a. a ≡ answer g k) v replies.0 in
+      let behind = replies_begin answer ws more.0 h.replies replies.0 h.each (subst P more.1 replies.1) in
+      record {
+        text = t; output = o; gave = gave; took = took; replies = replies.0;
+        all = record { wishes = all.0; whole = all.1; each = replies.1 };
+        rest = h.rest ++ join behind.0;
+        prefix = sym (append_assoc o h.rest (join behind.0)) ∙ ap (λ v. v ++ join behind.0) h.front ∙ join-append h.replies behind.0 ∙ ap join (sym behind.1);
+        clean = λ is. absurd (other is)
+      }
+
+  of_whole : (e : End) (ws : List Wish) → (e ≡ end.Clean → ⊥) → AreFirst numbers 0 t ws → AreReplies (λ g k a. a ≡ answer g k) ws o → WritesReplies numbers answer r w e
+  of_whole e ws other first h = of_front e ws other first (record { replies = h.replies; each = h.each; rest = []; front = append-nil o ∙ h.all })
+
+  pub writes : (reads : ℕ) (e : End) → EndsAs numbers (λ g k a. a ≡ answer g k) reads r w t o e → WritesReplies numbers answer r w e
+  writes reads end.Clean h = record {
+    text = t; output = o; gave = gave; took = took; replies = h.replies.replies;
+    all = record {
+      wishes = h.wishes;
+      whole = elim h.whole as (λ _. IsWhole numbers 0 t h.wishes) [ inl c ↦ inl c | inr c ↦ inr (c.0, c.1) ];
+      each = h.replies.each
+    };
+    rest = []; prefix = append-nil o ∙ h.replies.all; clean = λ is. refl
+  }
+  writes reads end.Cut h = of_whole end.Cut h.wishes (λ is. cc) (inl (h.rest, h.whole.opens)) h.replies
+  writes reads end.ReadFault h = of_whole end.ReadFault h.wishes (λ is. cc) (inl (h.rest, h.whole.opens)) h.replies
+  writes reads end.WriteFault h = of_front end.WriteFault h.wishes (λ is. cc) h.first h.replies
+  writes reads end.Memory h = of_whole end.Memory h.wishes (λ is. cc) h.first h.replies
+  writes reads end.Spent h = of_whole end.Spent h.wishes (λ is. cc) (inl (h.rest, h.whole.opens)) h.replies
+  writes reads end.Worn h = of_whole end.Worn h.wishes (λ is. cc) h.first h.replies
