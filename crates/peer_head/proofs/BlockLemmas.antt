@@ -94,6 +94,7 @@ pub record LiesAt (t : List ℕ) (s : ℕ) : Type 0 where
   pub occurs : OccursAt (drop s t) blank_line k
   pub fits : s + k + 4 ≤ LIMIT
 
+-- the block of a text lies behind the pairs
 pub lies_at : (t b r : List ℕ) (s : ℕ) → IsPastPairs t s → Begins t b r → LiesAt t s
 lies_at t b r s h x =
     let same = pairs_same x.skipped h.count (b ++ r) (drop s t) (starts b r x.front x.ends x.no_pair) h.no_pair (sym x.cut ∙ h.cut) in

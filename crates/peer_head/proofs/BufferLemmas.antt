@@ -41,3 +41,8 @@ pub piece_rest : (xs : List ℕ) (s i e n : ℕ) → e ≤ i → n ≡ i - e →
 piece_rest xs s i e n le less =
     let more : i ≡ e + n = omega (arith, le, less) in
     ap (λ k. drop e (take k (drop s xs))) more ∙ drop-take e n (drop s xs) ∙ ap (take n) (drop-drop e s xs)
+
+-- a list as long as the free part fits as it is
+pub fitted-same : (xs ws : List ℕ) → length ws ≡ length xs → fitted xs ws ≡ ws
+fitted-same xs ws e =
+    ap (λ k. take k (ws ++ drop (length ws) xs)) (sym e) ∙ take-append_seam ws (drop (length ws) xs)

@@ -4,6 +4,7 @@ use Rattle.std.specs.Str.{str_eq_ignore_ascii_case}
 use Rattle.peer_head.specs.declared.field.FieldKind.{FieldKind}
 use Rattle.peer_head.specs.declared.field.FieldKind.TheVariants.{Host, Connection, ContentLength, TransferEncoding, Other}
 
+-- the kind of a field Host
 abbrev pub is_host : FieldKind → Bool
 is_host Host = true
 is_host Connection = false
@@ -11,6 +12,7 @@ is_host ContentLength = false
 is_host TransferEncoding = false
 is_host Other = false
 
+-- the kind of a field Connection
 abbrev pub is_connection : FieldKind → Bool
 is_connection Host = false
 is_connection Connection = true
@@ -18,6 +20,7 @@ is_connection ContentLength = false
 is_connection TransferEncoding = false
 is_connection Other = false
 
+-- the kind of a field Content-Length
 abbrev pub is_content_length : FieldKind → Bool
 is_content_length Host = false
 is_content_length Connection = false
@@ -25,6 +28,7 @@ is_content_length ContentLength = true
 is_content_length TransferEncoding = false
 is_content_length Other = false
 
+-- the kind of a field Transfer-Encoding
 abbrev pub is_transfer_encoding : FieldKind → Bool
 is_transfer_encoding Host = false
 is_transfer_encoding Connection = false

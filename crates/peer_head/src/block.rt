@@ -1,4 +1,6 @@
 //! Where the first block of a text stands (RFC 9112, section 2.2).
+//!
+//! `memchr` finds the blank line; nothing is parsed before a whole block is there.
 ghost use Rattle.peer_head.specs.Blocks.{IsPastPairs};
 ghost use Rattle.peer_head.specs.Cuts.{IsCutOf};
 

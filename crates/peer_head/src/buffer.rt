@@ -1,4 +1,7 @@
 //! The bytes of a connection that wait to be read as heads.
+//!
+//! Contracts see the bytes held and the free part behind them. Both lie in one vector, which never
+//! grows; what is held moves to its front when the free part is lent.
 ghost use Rattle.std.specs.Prelude.{◌≡◌, ℕ, ◌+◌, ◌-◌, ◌<◌, ◌≤◌, List, [], ◌++◌, length, take, drop, IfOk};
 ghost use Rattle.std.specs.Borrow.{sem};
 ghost use Rattle.peer_head.specs.Blocks.{HasBlock, Begins};
@@ -86,7 +89,7 @@ impl HeadBuf {
         ensures look { LooksAs self.now.held result }
         ensures room { result ≡ Look.Need → 0 < length self.now.free }
     {
-        look_at(&self.bytes[self.start..self.end])
+        look_at(self.rest())
     }
 
     /// Drops the first block, and the pairs CR LF before it.
@@ -95,7 +98,7 @@ impl HeadBuf {
         ensures rest { (block : List ℕ) × Begins self.old.held block self.new.held }
         ensures within { length self.new.held + length self.new.free ≡ HEAD_LIMIT }
     {
-        match find_block(&self.bytes[self.start..self.end]) {
+        match find_block(self.rest()) {
             Cut::Block { end, .. } => self.start += end,
             _ => unreachable!(),
         }

@@ -1,4 +1,4 @@
-//! What is wrong with the bytes at the front of a stream.
+//! What is wrong with the bytes at the front of a stream, in the order in which it is told.
 
 /// Why a head is refused. The connection closes after the reply to any of these.
 #[derive(Clone, Copy, Debug, PartialEq, Eq)]

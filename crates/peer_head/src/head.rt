@@ -1,4 +1,7 @@
 //! A request head, lent out of the bytes that hold it.
+//!
+//! Contracts see its parts: the method, the target, the version and the fields. It copies no byte of
+//! the block, and keeps where the parts stand.
 ghost use Rattle.std.specs.Prelude.{◌≡◌, ◌<◌, ◌≤◌, length, map, slice_get, All, bytes_eq, codes};
 ghost use Rattle.httparse.specs.Spans.{IsHeaderWithin, IsRequestWithin};
 ghost use Rattle.peer_head.specs.Views.{field_at, parts_at};
@@ -82,7 +85,7 @@ impl<'b> HeadView<'b> {
         requires { i < length self.now.fields }
         ensures { slice_get self.now.fields i ≡ Some (record { name = result.0.now; value = result.1.now }) }
     {
-        field_at(self.block, &self.fields[..self.spans.headers], i)
+        field_at(self.block, &self.fields[..self.field_count()], i)
     }
 
     /// Whether the connection closes after the reply (RFC 9112, section 9.3).

@@ -1,4 +1,6 @@
 //! Laws of blocks, heads and looks, each the contract of a function that does nothing.
+//!
+//! They are about the definitions alone, for whoever reads a stream head by head.
 ghost use Rattle.peer_head.specs.Laws.{BeginsOnce, KeepsBlock, LeavesLess, StaysTooLong, IsOneHead, LooksOneWay};
 
 /// A text begins with at most one block.

@@ -1,4 +1,4 @@
-//! What the bytes at the front of a stream are.
+//! What the bytes at the front of a stream are: the cut, the parser and the rules on heads in turn.
 ghost use Rattle.std.specs.Prelude.{List, ℕ};
 ghost use Rattle.peer_head.specs.Blocks.{Begins};
 ghost use Rattle.peer_head.specs.Looks.{LooksAs};

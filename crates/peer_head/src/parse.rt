@@ -1,4 +1,7 @@
 //! Which blocks are request heads, and where their parts stand.
+//!
+//! `httparse` also takes a line that ends in LF alone, a target past ASCII and empty lines in front;
+//! the tests here refuse these.
 ghost use Rattle.std.specs.Prelude.{◌≡◌, ◌↔◌, length, All, IsTrue, MatchOption};
 ghost use Rattle.peer_head.specs.Heads.{IsPaired, IsVisible, HasNoHead};
 ghost use Rattle.peer_head.specs.Views.{IsHeadAt};

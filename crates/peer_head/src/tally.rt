@@ -1,4 +1,6 @@
 //! What the rules on heads ask of the fields, gathered in one pass over them.
+//!
+//! A tally of fields is exact: with one field more it is the tally of the fields with that one behind.
 ghost use Rattle.std.specs.Prelude.{◌≡◌, ◌++◌, ◌+◌, ◌∷◌, [], List, ℕ, length, map, All};
 ghost use Rattle.httparse.specs.Spans.{IsHeaderWithin};
 ghost use Rattle.peer_head.specs.Faults.{coding_fault, length_fault, host_fault, head_fault, is_closing};
@@ -20,6 +22,7 @@ pub enum Lengths<'b> {
 }
 
 impl<'b> Lengths<'b> {
+    /// With one value more.
     fn with(self, value: &'b [u8]) -> Lengths<'b>
         ensures { (values : List (List ℕ)) → IsLengthsOf values self.entry → IsLengthsOf (values ++ value.now ∷ []) result }
     {
@@ -41,6 +44,7 @@ impl<'b> Lengths<'b> {
     }
 }
 
+/// What a value says that stands alone.
 fn first_length(value: &[u8]) -> Lengths<'_>
     ensures { IsLengthsOf (value.now ∷ []) result }
 {
@@ -51,6 +55,7 @@ fn first_length(value: &[u8]) -> Lengths<'_>
     }
 }
 
+/// What a value says behind others.
 fn next_length<'b>(first: &'b [u8], value: &[u8]) -> Lengths<'b>
     ensures { (values : List (List ℕ)) → AgreesOn values first.now → IsLengthsOf (values ++ value.now ∷ []) result }
 {
@@ -61,6 +66,7 @@ fn next_length<'b>(first: &'b [u8], value: &[u8]) -> Lengths<'b>
     }
 }
 
+/// Content is announced by any number but 0.
 fn content_fault(number: &[u8]) -> Option<HeadFault>
     ensures { (values : List (List ℕ)) → AgreesOn values number.now → result ≡ length_fault values }
 {
@@ -80,6 +86,7 @@ pub enum Hosts {
 }
 
 impl Hosts {
+    /// With one host more.
     fn with_one(self) -> Hosts
         ensures { (count : ℕ) → IsHostsOf count self → IsHostsOf (count + 1) result }
     {
@@ -110,6 +117,7 @@ pub struct Tally<'b> {
 }
 
 impl<'b> Tally<'b> {
+    /// With one field more.
     fn with(self, name: &[u8], value: &'b [u8]) -> Tally<'b>
         ensures { (fields : List HeadField) → IsTallyOf fields self.entry
             → IsTallyOf (fields ++ record { name = name.now; value = value.now } ∷ []) result }

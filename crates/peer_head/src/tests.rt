@@ -1,0 +1,288 @@
+//! Worked heads, in one piece and byte by byte.
+ghost use Rattle.std.specs.Prelude.{◌≡◌, ◌≤◌, ◌++◌, length, take};
+
+use crate::{HeadBuf, HeadFault, Look};
+use std::alloc::AllocError;
+use std::test::Fail;
+
+// Puts all the bytes behind those held.
+fn feed(buf: &mut HeadBuf, bytes: &[u8])
+    requires { length bytes.now ≤ length buf.old.free }
+    ensures held { buf.new.held ≡ buf.old.held ++ bytes.now }
+{
+    put(buf.room(), bytes);
+    buf.filled(bytes.len());
+}
+
+// Writes the bytes to the front of the room.
+fn put(room: &mut [u8], bytes: &[u8])
+    requires { length bytes.now ≤ length room.old }
+    ensures { take (length bytes.now) room.new ≡ bytes.now }
+{
+    room[..bytes.len()].copy_from_slice(bytes);
+}
+
+// A word for what was seen.
+fn word_of(look: &Look) -> &'static str {
+    match look {
+        Look::Need => "need",
+        Look::Head(view) => match (view.is_closing(), view.is_bare()) {
+            (false, false) => "head",
+            (false, true) => "bare head",
+            (true, false) => "closing head",
+            (true, true) => "bare closing head",
+        },
+        Look::Fault(HeadFault::Host, true) => "bare host",
+        Look::Fault(_, true) => "bare fault",
+        Look::Fault(HeadFault::TooLong, false) => "too long",
+        Look::Fault(HeadFault::NotAHead, false) => "not a head",
+        Look::Fault(HeadFault::TransferCoding, false) => "transfer coding",
+        Look::Fault(HeadFault::BadLength, false) => "bad length",
+        Look::Fault(HeadFault::Content, false) => "content",
+        Look::Fault(HeadFault::Host, false) => "host",
+    }
+}
+
+// What a text is in one piece, by as much of it as there is room for.
+fn seen_whole(rt: &HostRuntime, text: &[u8]) -> Result<&'static str, AllocError> {
+    let mut buf = HeadBuf::new(rt.alloc())?;
+    let room = buf.room().len();
+    feed(&mut buf, &text[..text.len().min(room)]);
+    Ok(word_of(&buf.look()))
+}
+
+// The same byte by byte, by the first look that needs no more.
+fn seen_by_bytes(rt: &HostRuntime, text: &[u8]) -> Result<&'static str, AllocError> {
+    let mut buf = HeadBuf::new(rt.alloc())?;
+    for b in text {
+        if buf.room().is_empty() {
+            return Ok("no room");
+        }
+        feed(&mut buf, &[*b]);
+        let word = word_of(&buf.look());
+        if word != "need" {
+            return Ok(word);
+        }
+    }
+    Ok("need")
+}
+
+#[test]
+fn a_new_buffer_has_room(rt: HostRuntime) -> Result<(), Fail> {
+    let mut buf = HeadBuf::new(rt.alloc())?;
+    assert_eq!(rt; word_of(&buf.look()), "need");
+    assert_eq!(rt; buf.rest(), b"".as_slice());
+    assert_eq!(rt; buf.room().len(), 16384);
+    Ok(())
+}
+
+#[test]
+fn a_head_is_seen_at_its_last_byte(rt: HostRuntime) -> Result<(), Fail> {
+    let text =
+        b"GET /_groupcache/echo/k HTTP/1.1\r\nHost: 10.0.0.2:8000\r\nUser-Agent: Go-http-client/1.1\r\nAccept-Encoding: gzip\r\n\r\n".as_slice();
+    let mut buf = HeadBuf::new(rt.alloc())?;
+    for b in text {
+        assert_eq!(rt; word_of(&buf.look()), "need");
+        assert!(rt; !buf.room().is_empty());
+        feed(&mut buf, &[*b]);
+    }
+    let Look::Head(view) = buf.look() else {
+        return Err("no head".into());
+    };
+    assert_eq!(rt; view.method(), b"GET".as_slice());
+    assert_eq!(rt; view.target(), b"/_groupcache/echo/k".as_slice());
+    assert_eq!(rt; view.version(), 1);
+    assert_eq!(rt; view.field_count(), 3);
+    assert_eq!(rt;
+        view.field(0),
+        (b"Host".as_slice(), b"10.0.0.2:8000".as_slice())
+    );
+    assert_eq!(rt;
+        view.field(2),
+        (b"Accept-Encoding".as_slice(), b"gzip".as_slice())
+    );
+    assert_eq!(rt; view.is_closing(), false);
+    assert_eq!(rt; view.is_bare(), false);
+    buf.drop_front();
+    assert_eq!(rt; buf.rest(), b"".as_slice());
+    Ok(())
+}
+
+#[test]
+fn small_texts(rt: HostRuntime) -> Result<(), Fail> {
+    let rows: [(&[u8], &str); 34] = [
+        (b"", "need"),
+        (b"\r", "need"),
+        (b"\r\n\r\n\r\n", "need"),
+        (b"GET /k HTTP/1.1\r\nHost: h\r\n", "need"),
+        (b"GET /k HTTP/1.1\r\nHost: h\r\n\r\n", "head"),
+        (b"\r\n\r\nGET /k HTTP/1.1\r\nHost: h\r\n\r\n", "head"),
+        (b"HEAD /k HTTP/1.1\r\nHost: h\r\n\r\n", "bare head"),
+        (b"head /k HTTP/1.1\r\nHost: h\r\n\r\n", "head"),
+        (b"POST /k HTTP/1.1\r\nHost: h\r\n\r\n", "head"),
+        // A CR or an LF alone.
+        (b"GET /k HTTP/1.1\nHost: h\n\n", "need"),
+        (b"GET /k HTTP/1.1\nHost: h\r\n\r\n", "not a head"),
+        (b"GET /k HTTP/1.1\r\nHost: h\nA: b\r\n\r\n", "not a head"),
+        (b"GET /k HTTP/1.1\r\nHost: h\rA: b\r\n\r\n", "not a head"),
+        (b"\nGET /k HTTP/1.1\r\nHost: h\r\n\r\n", "not a head"),
+        // Bytes of a target that are not visible ASCII, a version, a name with a space.
+        (b"GET /\xff HTTP/1.1\r\nHost: h\r\n\r\n", "not a head"),
+        (b"GET /\x7f HTTP/1.1\r\nHost: h\r\n\r\n", "not a head"),
+        (b"GET /k HTTP/2.0\r\nHost: h\r\n\r\n", "not a head"),
+        (b"GET /k HTTP/1.1\r\nHost : h\r\n\r\n", "not a head"),
+        // Hosts.
+        (b"GET /k HTTP/1.1\r\n\r\n", "host"),
+        (b"GET /k HTTP/1.1\r\nHost: h\r\nhost: h\r\n\r\n", "host"),
+        (b"HEAD /k HTTP/1.1\r\n\r\n", "bare host"),
+        (b"GET /k HTTP/1.0\r\n\r\n", "closing head"),
+        (b"GET /k HTTP/1.0\r\nHost: h\r\n\r\n", "closing head"),
+        (b"GET /k HTTP/1.0\r\nHost: h\r\nHOST: i\r\n\r\n", "host"),
+        // Connections.
+        (
+            b"GET /k HTTP/1.1\r\nHost: h\r\nConnection: Keep-Alive, CLOSE\r\n\r\n",
+            "closing head",
+        ),
+        (
+            b"GET /k HTTP/1.1\r\nHost: h\r\nConnection: keep-alive, closed\r\n\r\n",
+            "head",
+        ),
+        (
+            b"HEAD /k HTTP/1.1\r\nHost: h\r\nCONNECTION: a\r\nConnection:\tclose ,b\r\n\r\n",
+            "bare closing head",
+        ),
+        // Content lengths and transfer codings.
+        (
+            b"GET /k HTTP/1.1\r\nHost: h\r\nContent-Length: 00\r\n\r\n",
+            "head",
+        ),
+        (
+            b"GET /k HTTP/1.1\r\nHost: h\r\nContent-Length: +1\r\n\r\n",
+            "bad length",
+        ),
+        (
+            b"POST /k HTTP/1.1\r\nHost: h\r\nContent-Length: 3\r\n\r\n",
+            "content",
+        ),
+        (
+            b"GET /k HTTP/1.1\r\nHost: h\r\nContent-Length: 0\r\nContent-Length: 00\r\n\r\n",
+            "bad length",
+        ),
+        (
+            b"GET /k HTTP/1.1\r\nHost: h\r\nContent-Length: 0, 0\r\n\r\n",
+            "bad length",
+        ),
+        (
+            b"GET /k HTTP/1.1\r\nContent-Length: 5\r\nTransfer-Encoding: chunked\r\n\r\n",
+            "transfer coding",
+        ),
+        (
+            b"HEAD /k HTTP/1.1\r\nHost: h\r\nContent-Length:\r\n\r\n",
+            "bare fault",
+        ),
+    ];
+    for (text, word) in rows {
+        assert_eq!(rt; seen_whole(&rt, text)?, word, "{text:?}");
+        assert_eq!(rt; seen_by_bytes(&rt, text)?, word, "{text:?}");
+    }
+    Ok(())
+}
+
+// So many pairs, and a head with a field of so many letters.
+fn long_head(rt: &HostRuntime, pairs: usize, letters: usize) -> Result<Vec<u8>, AllocError> {
+    let mut text = Vec::new(rt.alloc());
+    for _ in 0..pairs {
+        text.extend_from_slice(b"\r\n")?;
+    }
+    text.extend_from_slice(b"GET /_groupcache/echo/k HTTP/1.1\r\nHost: h\r\nPad: ")?;
+    for _ in 0..letters {
+        text.push(b'a')?;
+    }
+    text.extend_from_slice(b"\r\n\r\n")?;
+    Ok(text)
+}
+
+#[test]
+fn the_limit_counts_the_pairs(rt: HostRuntime) -> Result<(), Fail> {
+    let rows = [
+        (0, 16332, "head"),
+        (0, 16333, "too long"),
+        (1, 16330, "head"),
+        (1, 16331, "too long"),
+    ];
+    for (pairs, letters, word) in rows {
+        let text = long_head(&rt, pairs, letters)?;
+        assert_eq!(rt; seen_whole(&rt, &text)?, word);
+        assert_eq!(rt; seen_by_bytes(&rt, &text)?, word);
+    }
+    Ok(())
+}
+
+#[test]
+fn pairs_alone_are_too_long_in_the_end(rt: HostRuntime) -> Result<(), Fail> {
+    for (pairs, word) in [(8191, "need"), (8192, "too long")] {
+        let mut text = Vec::new(rt.alloc());
+        for _ in 0..pairs {
+            text.extend_from_slice(b"\r\n")?;
+        }
+        assert_eq!(rt; seen_whole(&rt, &text)?, word);
+        assert_eq!(rt; seen_by_bytes(&rt, &text)?, word);
+    }
+    Ok(())
+}
+
+#[test]
+fn a_head_has_64_fields_at_most(rt: HostRuntime) -> Result<(), Fail> {
+    for (more, word) in [(63, "head"), (64, "not a head")] {
+        let mut text = Vec::new(rt.alloc());
+        text.extend_from_slice(b"GET /k HTTP/1.1\r\nHost: h\r\n")?;
+        for _ in 0..more {
+            text.extend_from_slice(b"Name: value\r\n")?;
+        }
+        text.extend_from_slice(b"\r\n")?;
+        assert_eq!(rt; seen_whole(&rt, &text)?, word);
+        assert_eq!(rt; seen_by_bytes(&rt, &text)?, word);
+    }
+    Ok(())
+}
+
+// Takes the heads that are there, and counts those whose target is the next one.
+fn take_heads(buf: &mut HeadBuf, targets: &[&[u8]], mut taken: usize) -> usize {
+    for _ in 0..4 {
+        let Look::Head(view) = buf.look() else {
+            return taken;
+        };
+        if targets.get(taken).copied() != Some(view.target()) {
+            return taken;
+        }
+        taken = taken.saturating_add(1);
+        buf.drop_front();
+    }
+    taken
+}
+
+#[test]
+fn requests_are_cut_at_every_pair_of_places(rt: HostRuntime) -> Result<(), Fail> {
+    let text =
+        b"GET /_groupcache/echo/a HTTP/1.1\r\nHost: h\r\n\r\nGET /_groupcache/echo/b HTTP/1.1\r\nHost: h\r\n\r\nGET /_groupcache/echo/c HTTP/1.1\r\nHost: h\r\n\r\n".as_slice();
+    let targets = [
+        b"/_groupcache/echo/a".as_slice(),
+        b"/_groupcache/echo/b",
+        b"/_groupcache/echo/c",
+    ];
+    for first in 0..=text.len() {
+        for second in first..=text.len() {
+            let mut buf = HeadBuf::new(rt.alloc())?;
+            feed(&mut buf, &text[..first]);
+            let taken = take_heads(&mut buf, &targets, 0);
+            assert!(rt; second - first <= buf.room().len());
+            feed(&mut buf, &text[first..second]);
+            let taken = take_heads(&mut buf, &targets, taken);
+            assert!(rt; text.len() - second <= buf.room().len());
+            feed(&mut buf, &text[second..]);
+            assert_eq!(rt; take_heads(&mut buf, &targets, taken), 3);
+            assert_eq!(rt; buf.rest(), b"".as_slice());
+        }
+    }
+    Ok(())
+}
