@@ -1,3 +1,6 @@
 pub mod Bodies
+pub mod Laws
+pub mod Lengths
 pub mod Openings
+pub mod Responses
 pub mod Texts

@@ -6,12 +6,15 @@
 
 mod fault;
 mod head;
+pub mod laws;
 mod opening;
 mod reply;
+mod response;
 mod wish;
 
 pub use fault::Fault;
 pub use reply::Reply;
+pub use response::{PbFault, read_response};
 pub use wish::{Wish, WishBody};
 
 #[cfg(test)]
