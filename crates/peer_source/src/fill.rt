@@ -105,6 +105,20 @@ impl<S: Source> Fill<S> {
         }
     }
 
+    /// A fill without an answer, as where memory was refused. It calls no source.
+    pub fn unanswered(group: GroupId, key: ByteView) -> Fill<S>
+        ensures group { result.group ≡ group.number }
+        ensures key { result.key ≡ key }
+        ensures answer { result.answer ≡ None }
+    {
+        Fill {
+            group,
+            key,
+            outcome: Outcome::NoMemory,
+            of: PhantomData,
+        }
+    }
+
     /// The group that was asked for.
     pub fn group(&self) -> GroupId
         ensures { result.number ≡ self.now.group }

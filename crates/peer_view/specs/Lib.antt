@@ -1,4 +1,6 @@
+pub mod Loans
 pub mod Moves
 pub mod Pages
 pub mod Pieces
+pub mod Sinks
 pub mod StdDevices

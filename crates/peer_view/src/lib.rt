@@ -1,26 +1,33 @@
 //! Bytes that come, go and are shared: what gives bytes (`PeerRead`), what takes them (`PeerWrite`), views of shared
-//! bytes (`ByteView`), and the sink that a source fills (`AllocSink`).
+//! bytes (`ByteView`), and the sinks that a source fills (`Sink`).
 //!
 //! It stands on the shared buffers of `bytes`. It promises which bytes each call gave, took or holds, and counts of
 //! calls and failures that move only as the calls say.
 #![tactic(auto)]
 
+mod alloc_sink;
+mod front;
 mod mem_reader;
 mod mem_writer;
 mod reader;
 mod sink;
 mod std_reader;
 mod std_writer;
+mod trunc_sink;
 mod view;
+mod view_sink;
 mod writer;
 
+pub use alloc_sink::AllocSink;
 pub use mem_reader::MemReader;
 pub use mem_writer::MemWriter;
 pub use reader::{PeerRead, ReadFailed};
-pub use sink::{AllocSink, SinkFault, VALUE_LIMIT};
+pub use sink::{Sink, SinkFault, VALUE_LIMIT};
 pub use std_reader::StdReader;
 pub use std_writer::StdWriter;
-pub use view::ByteView;
+pub use trunc_sink::TruncSink;
+pub use view::{ByteView, TextFault};
+pub use view_sink::ViewSink;
 pub use writer::{PeerWrite, WriteFailed, WriteFault, write_all};
 
 #[cfg(test)]

@@ -4,6 +4,7 @@ ghost use Rattle.std.specs.Io.KnownBytes.{Appends};
 ghost use Rattle.peer_view.specs.Moves.{moved, failure_count, end_count};
 ghost use Rattle.peer_view.specs.Pieces.{given_of, left_of, piece_at, first_piece, after_read, pieces_of};
 
+use crate::front::copy_front;
 use crate::reader::{PeerRead, ReadFailed};
 use std::marker::Model;
 
@@ -72,16 +73,6 @@ fn next_place(pieces: &[Vec<u8>], from: Place) -> Place
         };
     }
     at
-}
-
-// Copies what fits into the front of the room.
-fn copy_front(room: &mut [u8], from: &[u8]) -> usize
-    ensures count { result ≡ min (length room.old) (length from.now) }
-    ensures copied { take result room.new ≡ take result from.now }
-{
-    let n = room.len().min(from.len());
-    room[..n].copy_from_slice(&from[..n]);
-    n
 }
 
 // Gives from a place where a byte is left.

@@ -1,10 +1,10 @@
 //! Where a source puts a value (`sinks.go`).
-ghost use Rattle.std.specs.Prelude.{◌≡◌, ◌↔◌, ◌<◌, ◌≤◌, [], length, IfOk, OnOk, OnErr, Err};
+ghost use Rattle.std.specs.Prelude.{◌≡◌, ◌↔◌, ◌<◌, ◌≤◌, ℕ, List, length, Option, Err, IsSome, IsOk, IfOk, OnOk, OnErr};
+ghost use Rattle.std.specs.Borrow.{GName};
+ghost use Rattle.peer_view.specs.Sinks.{kept, placed, IsTooLong};
 
 use crate::view::ByteView;
-use bytes::Bytes;
 use std::alloc::{AllocError, Global};
-use std::marker::Model;
 
 /// The longest value, in bytes.
 pub const VALUE_LIMIT: usize = 1_048_576;
@@ -18,74 +18,72 @@ pub enum SinkFault {
     Memory,
 }
 
-/// Holds the last value set, or the empty one.
-#[derive(Drop)]
-pub struct AllocSink {
-    value: ByteView,
+/// Takes a value, which replaces the one before. A sink that refuses a value is unchanged.
+pub trait Sink {
+    // The value held.
+    ghost value: { Self → List ℕ };
+    // What stands where the sink puts its values.
+    ghost place: { Self → List ℕ };
+    // Room for how many bytes, where the sink keeps the first bytes of a value that fit.
+    ghost room: { Self → Option ℕ };
+    // The loan that the sink writes to, if it has one.
+    ghost loan: { Self → Option GName };
+
+    /// Copies the bytes.
+    fn set_bytes(&mut self, alloc: Global, bytes: &[u8]) -> Result<(), SinkFault>
+        ensures ok { OnOk result (value self.new ≡ kept (room self.old) bytes.now) }
+        ensures place { OnOk result (place self.new ≡ placed (room self.old) bytes.now (place self.old)) }
+        ensures err { OnErr result ((value self.new ≡ value self.old) × (place self.new ≡ place self.old)) }
+        ensures too_long { (result ≡ Err SinkFault.TooLong) ↔ IsTooLong (room self.old) bytes.now }
+        ensures fits { IsSome (room self.old) → IsOk result }
+        ensures same { (room self.new ≡ room self.old) × (loan self.new ≡ loan self.old) };
+
+    /// Copies the bytes of the text.
+    fn set_str(&mut self, alloc: Global, text: &str) -> Result<(), SinkFault>
+        ensures ok { OnOk result (value self.new ≡ kept (room self.old) text.now) }
+        ensures place { OnOk result (place self.new ≡ placed (room self.old) text.now (place self.old)) }
+        ensures err { OnErr result ((value self.new ≡ value self.old) × (place self.new ≡ place self.old)) }
+        ensures too_long { (result ≡ Err SinkFault.TooLong) ↔ IsTooLong (room self.old) text.now }
+        ensures fits { IsSome (room self.old) → IsOk result }
+        ensures same { (room self.new ≡ room self.old) × (loan self.new ≡ loan self.old) };
+
+    /// Takes the bytes of the view, which it may share.
+    fn set_view(&mut self, view: &ByteView) -> Result<(), SinkFault>
+        ensures ok { OnOk result (value self.new ≡ kept (room self.old) view.now) }
+        ensures place { OnOk result (place self.new ≡ placed (room self.old) view.now (place self.old)) }
+        ensures err { OnErr result ((value self.new ≡ value self.old) × (place self.new ≡ place self.old)) }
+        ensures too_long { (result ≡ Err SinkFault.TooLong) ↔ IsTooLong (room self.old) view.now }
+        ensures fits { IsSome (room self.old) → IsOk result }
+        ensures same { (room self.new ≡ room self.old) × (loan self.new ≡ loan self.old) };
 }
 
-impl Model for AllocSink {
-    ghost use Rattle.std.specs.Prelude.{List, ℕ, ◌≤◌, length};
-    ghost use Rattle.peer_view.specs.declared.sink.TheConstants.{VALUE_LIMIT};
-
-    ghost Value = { List ℕ };
-
-    ghost view = { λ s. s.value };
-
-    ghost invariant = { λ s. length s.value ≤ VALUE_LIMIT };
+// A view of a copy of the bytes, for a sink to hold.
+pub(crate) fn copied(alloc: Global, bytes: &[u8]) -> Result<ByteView, SinkFault>
+    ensures ok { IfOk result (λ v. v ≡ bytes.now) }
+    ensures fits { OnOk result (length bytes.now ≤ VALUE_LIMIT) }
+    ensures too_long { (result ≡ Err SinkFault.TooLong) ↔ (VALUE_LIMIT < length bytes.now) }
+{
+    if bytes.len() > VALUE_LIMIT {
+        return Err(SinkFault::TooLong);
+    }
+    ByteView::copy_of(alloc, bytes).map_err(refused)
 }
 
-impl AllocSink {
-    /// A sink that holds no value.
-    pub fn new() -> AllocSink
-        ensures { result ≡ [] }
-    {
-        AllocSink {
-            value: ByteView::from_shared(Bytes::new()),
-        }
+// A second view of the bytes, for a sink to hold.
+pub(crate) fn shared(view: &ByteView) -> Result<ByteView, SinkFault>
+    ensures ok { IfOk result (λ v. v ≡ view.now) }
+    ensures fits { OnOk result (length view.now ≤ VALUE_LIMIT) }
+    ensures too_long { (result ≡ Err SinkFault.TooLong) ↔ (VALUE_LIMIT < length view.now) }
+{
+    if view.len() > VALUE_LIMIT {
+        return Err(SinkFault::TooLong);
     }
+    view.share().map_err(refused)
+}
 
-    /// Copies the bytes, which replace the value held. A sink that refuses them is unchanged.
-    pub fn set_bytes(&mut self, alloc: Global, bytes: &[u8]) -> Result<(), SinkFault>
-        ensures ok { OnOk result (self.new ≡ bytes.now) }
-        ensures err { OnErr result (self.new ≡ self.old) }
-        ensures too_long { (result ≡ Err SinkFault.TooLong) ↔ (VALUE_LIMIT < length bytes.now) }
-    {
-        if bytes.len() > VALUE_LIMIT {
-            return Err(SinkFault::TooLong);
-        }
-        match ByteView::copy_of(alloc, bytes) {
-            Ok(value) => {
-                self.value = value;
-                Ok(())
-            }
-            Err(AllocError) => Err(SinkFault::Memory),
-        }
-    }
-
-    /// Shares the view, which replaces the value held. A sink that refuses it is unchanged.
-    pub fn set_view(&mut self, view: &ByteView) -> Result<(), SinkFault>
-        ensures ok { OnOk result (self.new ≡ view.now) }
-        ensures err { OnErr result (self.new ≡ self.old) }
-        ensures too_long { (result ≡ Err SinkFault.TooLong) ↔ (VALUE_LIMIT < length view.now) }
-    {
-        if view.len() > VALUE_LIMIT {
-            return Err(SinkFault::TooLong);
-        }
-        match view.share() {
-            Ok(value) => {
-                self.value = value;
-                Ok(())
-            }
-            Err(AllocError) => Err(SinkFault::Memory),
-        }
-    }
-
-    /// The last value set, or the empty one.
-    pub fn into_view(self) -> ByteView
-        ensures value { result ≡ self }
-        ensures fits { length result ≤ VALUE_LIMIT }
-    {
-        self.value
-    }
+// What refused memory is for a sink.
+fn refused(_: AllocError) -> SinkFault
+    ensures { result ≡ SinkFault.Memory }
+{
+    SinkFault::Memory
 }

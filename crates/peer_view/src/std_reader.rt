@@ -1,5 +1,7 @@
 //! A reader of std, as a file, a pipe or a socket, whose bytes no contract can name.
-ghost use Rattle.std.specs.Prelude.{◌≡◌, ℕ, ◌≤◌, None};
+ghost use Rattle.std.specs.Prelude.{◌≡◌, ℕ, ◌+◌, ◌-◌, ◌^◌, ◌<◌, ◌≤◌, length, None, IfOk};
+ghost use Rattle.std.specs.Io.KnownBytes.{Appends, ReadConsumes};
+ghost use Rattle.peer_view.specs.Moves.{moved, failure_count, end_count};
 
 use crate::reader::{PeerRead, ReadFailed};
 use std::io::Read;
@@ -56,7 +58,16 @@ impl<R: Read> PeerRead for StdReader<R> {
 
     ghost failures = { λ r. r.failures };
 
-    fn read(&mut self, room: &mut [u8]) -> Result<usize, ReadFailed> {
+    /// Calls the wrapped reader once.
+    fn read(&mut self, room: &mut [u8]) -> Result<usize, ReadFailed>
+        requires { self.old.calls < 2 ^ 64 - 1 }
+        ensures bound { IfOk result (λ n. n ≤ length room.new) }
+        ensures bytes { Appends None None (moved result room.new) }
+        ensures called { self.new.calls ≡ self.old.calls + 1 }
+        ensures end_told { self.new.ends ≡ self.old.ends + end_count result room.new }
+        ensures failed { self.new.failures ≡ self.old.failures + failure_count result }
+        ensures inner { ReadConsumes (R.remaining self.old.inner) (R.remaining self.new.inner) result room.new }
+    {
         self.calls += 1;
         match self.inner.read(room) {
             Ok(n) => {

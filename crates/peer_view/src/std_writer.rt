@@ -1,5 +1,7 @@
 //! A writer of std, as a file, a pipe or a socket, whose bytes no contract can name.
-ghost use Rattle.std.specs.Prelude.{◌≡◌, ℕ, None};
+ghost use Rattle.std.specs.Prelude.{◌≡◌, ℕ, ◌+◌, ◌-◌, ◌^◌, ◌<◌, ◌≤◌, length, None, IfOk};
+ghost use Rattle.std.specs.Io.KnownBytes.{Appends};
+ghost use Rattle.peer_view.specs.Moves.{moved, failure_count};
 
 use crate::writer::{PeerWrite, WriteFailed};
 use std::io::Write;
@@ -37,7 +39,15 @@ impl<W: Write> PeerWrite for StdWriter<W> {
 
     ghost failures = { λ w. w.failures };
 
-    fn write(&mut self, bytes: &[u8]) -> Result<usize, WriteFailed> {
+    /// Calls the wrapped writer once.
+    fn write(&mut self, bytes: &[u8]) -> Result<usize, WriteFailed>
+        requires { self.old.failures < 2 ^ 64 - 1 }
+        ensures bound { IfOk result (λ n. n ≤ length bytes.now) }
+        ensures some { IfOk result (λ n. 0 < length bytes.now → 0 < n) }
+        ensures bytes { Appends None None (moved result bytes.now) }
+        ensures failed { self.new.failures ≡ self.old.failures + failure_count result }
+        ensures inner { Appends (W.contents self.old.inner) (W.contents self.new.inner) (moved result bytes.now) }
+    {
         match self.inner.write(bytes) {
             Ok(n) if n > 0 || bytes.is_empty() => Ok(n),
             _ => {

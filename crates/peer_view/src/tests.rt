@@ -1,1 +1,4 @@
 //! Tests of what no clause says.
+mod devices;
+mod sinks;
+mod views;

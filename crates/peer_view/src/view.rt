@@ -5,6 +5,11 @@ use bytes::Bytes;
 use std::alloc::{AllocError, Global};
 use std::marker::Model;
 
+mod copies;
+mod parts;
+
+pub use copies::TextFault;
+
 /// An immutable list of bytes, which lends its parts.
 #[derive(PartialEq, Eq, Hash, Drop)]
 pub struct ByteView {

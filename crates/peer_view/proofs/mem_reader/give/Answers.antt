@@ -1,7 +1,7 @@
 use Rattle.std.proofs.Common.{◌≡◌, ℕ, List, ◌+◌, ◌-◌, ◌++◌, ◌∙◌, take, drop, length, min, ap, sym}
 use Rattle.std.proofs.lemmas.List.{take_rest}
-use Rattle.peer_view.specs.Pieces.{given_of, left_of, piece_at, after_read}
-use Rattle.peer_view.proofs.PieceLemmas.{given_more, left_more, first_left, give_left, take_room}
+use Rattle.peer_view.specs.Pieces.{given_of, left_of, piece_at}
+use Rattle.peer_view.proofs.PieceLemmas.{given_more, first_left, give_left, take_room}
 use Rattle.peer_view.proofs.mem_reader.give.Goals as goal
 
 -- what is left of the piece

@@ -1,4 +1,4 @@
-use Rattle.std.proofs.Common.{◌≡◌, ◌+◌, ◌<◌, ◌≤◌, ◌∙◌, length, ap, arith, add-one, sym, drop}
+use Rattle.std.proofs.Common.{◌<◌, ◌≤◌, ◌∙◌, length, ap, arith, add-one, sym}
 use Rattle.std.proofs.lemmas.Grind.{common_steps}
 use Rattle.peer_view.specs.Pieces.{given_of, left_of, piece_at}
 use Rattle.peer_view.proofs.PieceLemmas.{used_up, used_up_left, first_left, some_piece, none_left, some_left}

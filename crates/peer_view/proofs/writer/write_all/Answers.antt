@@ -1,4 +1,4 @@
-use Rattle.std.proofs.Common.{◌≡◌, ℕ, List, ◌+◌, ◌≤◌, ◌∙◌, arith, drop, take, append-nil, length, ap, sym}
+use Rattle.std.proofs.Common.{◌+◌, ◌≤◌, ◌∙◌, arith, drop, take, append-nil, length, ap}
 use Rattle.std.proofs.lemmas.List.{take_rest, take_all}
 use Rattle.std.proofs.KnownBytes.{Appends-trans}
 use Rattle.peer_view.proofs.MovingLemmas.{Appends-take-add, Appends-along, Moves-front, Moves-all}

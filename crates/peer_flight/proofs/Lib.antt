@@ -1,0 +1,10 @@
+pub mod ListSteps
+pub mod PlaceCases
+pub mod EntryNumbers
+pub mod Sound
+pub mod Counting
+pub mod Tabling
+pub mod Turning
+pub mod EventSteps
+pub mod EveryRun
+pub mod Seeing

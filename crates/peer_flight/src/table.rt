@@ -1,0 +1,132 @@
+//! The table of the open flights (`Group` of `singleflight.go`).
+ghost use Rattle.std.specs.Prelude.{◌≡◌, ℕ, ◌+◌, ◌^◌, ◌≤◌, ◌<◌, None, Some, IfOk, OnErr, IsErr, IsErrOf};
+ghost use Rattle.std.specs.Option.{ForSome};
+ghost use Rattle.std.specs.HashMap.{get};
+ghost use Rattle.peer_flight.specs.SingleFlight.{Place, place_eq};
+
+use crate::flight::{FillRight, Flight};
+use crate::place::Place;
+use peer_source::{GroupId, Source};
+use peer_view::ByteView;
+use std::alloc::{AllocError, Global};
+use std::collections::HashMap;
+
+/// What a want gave.
+#[derive(Drop)]
+pub enum Ask<S: Source> {
+    /// A new flight, with its right.
+    Led(Flight<S>, FillRight<S>),
+    /// The open flight of the place.
+    Joined(Flight<S>),
+}
+
+/// Why a want was refused.
+#[derive(Debug, Drop)]
+pub enum AskFault {
+    /// Too many were led: the next number would be 2^62.
+    Worn,
+    /// Memory was refused.
+    Memory,
+}
+
+impl From<AllocError> for AskFault {
+    ghost use Rattle.peer_flight.specs.declared.table.AskFault.TheVariants.{Memory};
+
+    ghost from_gives = { λ _ fault. fault ≡ Memory };
+
+    fn from(_: AllocError) -> AskFault {
+        AskFault::Memory
+    }
+}
+
+/// The open flights, one for a place at most.
+#[derive(Drop)]
+pub struct Table<S: Source> {
+    next: u64,
+    flights: HashMap<Place, Flight<S>>,
+    ghost most: { next ≤ 2 ^ 62 },
+    ghost each: { (p : Place) → ForSome (get place_eq flights p) (λ f. (f.place ≡ p) × (f.number < next)) },
+}
+
+// The number that no flight is given.
+const MOST: u64 = 1 << 62;
+
+impl<S: Source> Table<S> {
+    ghost use Rattle.peer_flight.specs.SingleFlight.{HasOpen, IsSame, Lands, no_flights, place_of};
+    ghost use Rattle.peer_flight.specs.Tables.{Gives, IsWorn, state_of};
+
+    /// A table without flights. The allocator is for its growths.
+    pub fn new(alloc: Global) -> Table<S>
+        ensures { IsSame no_flights (state_of result) }
+    {
+        Table {
+            next: 0,
+            flights: HashMap::new(alloc),
+        }
+    }
+
+    /// Joins the open flight of the group and the key, or leads one.
+    pub fn want(
+        &mut self,
+        alloc: Global,
+        group: GroupId,
+        key: &ByteView,
+    ) -> Result<Ask<S>, AskFault>
+        ensures gives { IfOk result (λ ask. Gives ask (state_of self.old) (state_of self.new) (place_of group.number key.now)) }
+        ensures refused { OnErr result (IsSame (state_of self.old) (state_of self.new)) }
+        ensures worn { IsErrOf result AskFault.Worn → IsWorn (state_of self.old) (place_of group.number key.now) }
+        ensures room { IsWorn (state_of self.old) (place_of group.number key.now) → IsErr result }
+    {
+        let place = Place::of(group, key)?;
+        if let Some(flight) = self.flights.get(&place) {
+            let share = flight.share()?;
+            return Ok(Ask::Joined(share));
+        }
+        if self.next >= MOST {
+            return Err(AskFault::Worn);
+        }
+        let (flight, right, share) = Table::lead(alloc, self.next, &place)?;
+        let Ok(_none) = self.flights.insert(place, share) else {
+            return Err(AskFault::Memory);
+        };
+        self.next += 1;
+        Ok(Ask::Led(flight, right))
+    }
+
+    // A new flight of the place, with its right and a share for the table.
+    fn lead(
+        alloc: Global,
+        number: u64,
+        place: &Place,
+    ) -> Result<(Flight<S>, FillRight<S>, Flight<S>), AllocError>
+        ensures number { IfOk result (λ led. led.0.number ≡ number) }
+        ensures place { IfOk result (λ led. led.0.place ≡ place.now) }
+        ensures right { IfOk result (λ led. led.1 ≡ led.0) }
+        ensures share { IfOk result (λ led. led.2 ≡ led.0) }
+    {
+        let (flight, right) = Flight::lead(alloc, number, place.share()?)?;
+        let share = flight.share()?;
+        Ok((flight, right, share))
+    }
+
+    /// Takes the flight out, where it is the open one of its place.
+    pub fn land(&mut self, flight: &Flight<S>)
+        ensures { Lands (state_of self.old) (state_of self.new) flight.now.place flight.now.number }
+    {
+        let place = flight.place();
+        let Some(found) = self.flights.get(place) else {
+            return;
+        };
+        if found.number() == flight.number() {
+            let _landed = self.flights.remove(place);
+        }
+    }
+
+    /// The flights led so far, and the flights open.
+    pub fn counts(&self) -> (u64, usize)
+        ensures led { result.0 ≡ (state_of self.now).number }
+        ensures open_flights { HasOpen (state_of self.now) result.1 }
+    {
+        (self.next, self.flights.len())
+    }
+}
