@@ -1,8 +1,6 @@
 -- What a connection writes is a prefix of the replies to what it read.
 use Rattle.std.proofs.Common.{◌≡◌, ℕ, ◌<◌, List, [], ◌∷◌, ◌++◌, ◌⊎◌, inl, inr, refl, sym, ◌∙◌, ap, subst, arith, append_assoc, append-nil, Option}
 use Rattle.std.specs.Io.KnownBytes.{Appends}
-use Rattle.peer_head.specs.Looks.{LooksAs}
-use Rattle.peer_head.specs.declared.look.Look.{Look}
 use Rattle.peer_source.specs.Answers.{Answer}
 use Rattle.peer_reply.specs.declared.wish.Wish.{Wish}
 use Rattle.peer_conn.specs.Wishes.{AreFirst, MOST}
@@ -16,11 +14,11 @@ use Rattle.peer_conn.proofs.SendLemmas.{join-append}
 use Rattle.peer_conn.proofs.TotalLemmas.{whole, replies_of}
 use Rattle.peer_conn.proofs.WholeLemmas.{begins_with_first_law, replies_begin}
 
-module _ (looks : (t : List ℕ) → (a : Look) × LooksAs t a) (numbers : List ℕ → Option ℕ) (answer : ℕ → List ℕ → Answer) (r : Reading) (w : Writing) (t o : List ℕ) (gave : Appends r.given r.given' t) (took : Appends w.taken w.taken' o) where
+module _ (numbers : List ℕ → Option ℕ) (answer : ℕ → List ℕ → Answer) (r : Reading) (w : Writing) (t o : List ℕ) (gave : Appends r.given r.given' t) (took : Appends w.taken w.taken' o) where
   -- a front of the replies to first wishes is a front of all replies
   of_front : (e : End) (ws : List Wish) → (e ≡ end.Clean → ⊥) → AreFirst numbers 0 t ws → AreFrontOfReplies (λ g k a. a ≡ answer g k) ws o → WritesReplies numbers answer r w e
   of_front e ws other first h =
-      let all = whole looks numbers 0 t (omega arith) in
+      let all = whole numbers 0 t (omega arith) in
       let more = begins_with_first_law numbers 0 t ws all.0 first all.1 in
       let replies = replies_of answer all.0 in
       let P : List Wish → Type 0 = λ v. Replies (λ g k a. a ≡ answer g k) v replies.0 in

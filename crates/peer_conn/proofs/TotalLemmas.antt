@@ -5,6 +5,7 @@ use Rattle.peer_head.specs.Looks.{LooksAs}
 use Rattle.peer_head.specs.declared.look.Look.{Look}
 use Rattle.peer_head.specs.declared.look.Look.TheVariants.{Need, Head, Fault}
 use Rattle.peer_head.proofs.BlockLaws.{leaves_less_law}
+use Rattle.peer_head.proofs.LookSearch.{looks_some_way_law}
 use Rattle.peer_source.specs.Answers.{Answer}
 use Rattle.peer_reply.specs.Texts.{fault_reply, answer_reply}
 use Rattle.peer_reply.specs.declared.wish.Wish.{Wish}
@@ -34,10 +35,10 @@ bool_cases : (b : Bool) → (b ≡ true) ⊎ (b ≡ false)
 bool_cases true = inl refl
 bool_cases false = inr refl
 
-module _ (looks : (t : List ℕ) → (a : Look) × LooksAs t a) (numbers : List ℕ → Option ℕ) where
+module _ (numbers : List ℕ → Option ℕ) where
   -- a text is unfinished or has a next wish
   next_of : (t : List ℕ) → IsUnfinished t ⊎ ((w : Wish) × IsNextWish numbers t w)
-  next_of t = by_look (looks t).0 (looks t).1
+  next_of t = by_look (looks_some_way_law t).0 (looks_some_way_law t).1
     where
     by_look : (a : Look) → LooksAs t a → IsUnfinished t ⊎ ((w : Wish) × IsNextWish numbers t w)
     by_look Need h = inl h

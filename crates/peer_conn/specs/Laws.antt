@@ -1,8 +1,8 @@
 -- Laws of the wishes of a text and of the replies to them.
-use Rattle.std.specs.Prelude.{◌≡◌, ℕ, ◌⊎◌, List, [], ◌++◌, Option}
+use Rattle.std.specs.Prelude.{◌≡◌, ℕ, ◌<◌, ◌⊎◌, List, [], ◌++◌, Option}
 use Rattle.peer_source.specs.Answers.{Answer}
 use Rattle.peer_reply.specs.declared.wish.Wish.{Wish}
-use Rattle.peer_conn.specs.Wishes.{OpenWishes, ClosedWishes, AreFirst, AreAll}
+use Rattle.peer_conn.specs.Wishes.{MOST, OpenWishes, ClosedWishes, AreFirst, AreAll}
 use Rattle.peer_conn.specs.Replies.{Replies}
 
 -- all wishes of a text, after n others: the last one closes, or none does and what is left is unfinished
@@ -16,6 +16,10 @@ BeginsWith {A} xs front = (more : List A) × (xs ≡ front ++ more)
 -- a text has one list of wishes at most
 abbrev pub HasOneListOfWishes : Type 0
 HasOneListOfWishes = (numbers : List ℕ → Option ℕ) (n : ℕ) (t : List ℕ) (ws vs : List Wish) → IsWhole numbers n t ws → IsWhole numbers n t vs → ws ≡ vs
+
+-- and it has one, where fewer than the most were answered before it
+abbrev pub HasListOfWishes : Type 0
+HasListOfWishes = (numbers : List ℕ → Option ℕ) (n : ℕ) (t : List ℕ) → n < MOST → (ws : List Wish) × IsWhole numbers n t ws
 
 -- its list of wishes begins with any first wishes of it
 abbrev pub BeginsWithFirst : Type 0

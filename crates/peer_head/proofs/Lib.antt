@@ -1,7 +1,11 @@
 pub mod BlockLaws
 pub mod BlockLemmas
+pub mod BlockSearch
 pub mod BufferLemmas
+pub mod Deciding
+pub mod HeadReader
 pub mod LookLaws
+pub mod LookSearch
 pub mod PairLemmas
 pub mod ParseLemmas
 pub mod TallyLemmas

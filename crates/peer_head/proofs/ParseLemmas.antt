@@ -51,7 +51,7 @@ head_found block fields r room within x whole paired visible =
     }
 
 -- how many fields a head has
-fields_few : (block : List ℕ) (p : HeadParts) (y : IsHead block p) → length y.head.fields ≤ MOST_FIELDS
+pub fields_few : (block : List ℕ) (p : HeadParts) (y : IsHead block p) → length y.head.fields ≤ MOST_FIELDS
 fields_few block p y = omega (arith, y.few, length-map y.head.fields field_of, ap (λ q. length q.fields) y.parts)
 
 -- what the parser finds of a head

@@ -28,3 +28,7 @@ IsOneHead = (block : List ℕ) (p q : HeadParts) → IsHead block p → IsHead b
 -- a text looks one way only
 abbrev pub LooksOneWay : Type 0
 LooksOneWay = (t : List ℕ) (a b : Look) → LooksAs t a → LooksAs t b → a ≡ b
+
+-- each text looks some way
+abbrev pub LooksSomeWay : Type 0
+LooksSomeWay = (t : List ℕ) → (a : Look) × LooksAs t a

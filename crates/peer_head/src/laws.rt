@@ -1,7 +1,7 @@
 //! Laws of blocks, heads and looks, each the contract of a function that does nothing.
 //!
 //! They are about the definitions alone, for whoever reads a stream head by head.
-ghost use Rattle.peer_head.specs.Laws.{BeginsOnce, KeepsBlock, LeavesLess, StaysTooLong, IsOneHead, LooksOneWay};
+ghost use Rattle.peer_head.specs.Laws.{BeginsOnce, KeepsBlock, LeavesLess, StaysTooLong, IsOneHead, LooksOneWay, LooksSomeWay};
 
 /// A text begins with at most one block.
 pub fn begins_once()
@@ -31,4 +31,9 @@ pub fn is_one_head()
 /// A text looks one way only.
 pub fn looks_one_way()
     ensures { LooksOneWay }
+{}
+
+/// Each text looks some way.
+pub fn looks_some_way()
+    ensures { LooksSomeWay }
 {}

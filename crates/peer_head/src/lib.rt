@@ -5,8 +5,8 @@
 //! The crate stands on `httparse`, which parses a head, and on `memchr`, which finds its end.
 //!
 //! The contracts say exactly which bytes are a head, which fault comes first, whether the connection
-//! closes and whether the reply goes without content; [`laws`] says that no text looks two ways. Only
-//! `HeadBuf::new` takes memory.
+//! closes and whether the reply goes without content; [`laws`] says that each text looks one way and
+//! no other. Only `HeadBuf::new` takes memory.
 #![tactic(auto)]
 
 mod block;

@@ -3,6 +3,7 @@ use mathlib.Core.Path.{fun_ext}
 use Rattle.peer_source.specs.Answers.{Answer}
 use Rattle.peer_conn.specs.Ends.{Serves, reading, writing}
 use Rattle.peer_conn.proofs.AnswerLemmas.{serves}
+use Rattle.peer_conn.proofs.HeadlineLemmas.{writes}
 use Rattle.peer_conn.proofs.functional.serve_functional.Goals as goal
 
 -- the source's answers are allowed, and so the one answer; its names are those of its type
@@ -18,3 +19,9 @@ returns-clause-serves g c =
     (serves (g.S.Source.answers c.args.source.now) (λ group k a. a ≡ g.S.FunctionalSource.the_answer group k)
     (λ group k a h. functional.single group k a (source.within c.args.source.now group k a h))
     (g.S.Source.number_of c.args.source.now) c.args.reads _ _ c.serve_serial.result.end c.serve_serial.ensures.serves)
+
+-- and so what is written is a front of the replies of that one answer
+pub returns-clause-writes_replies : goal.returns-clause-writes_replies
+returns-clause-writes_replies g c =
+    let h = returns-clause-serves g c in
+    writes g.S.FunctionalSource.the_number g.S.FunctionalSource.the_answer _ _ h.text h.output h.gave h.took c.args.reads c.serve_serial.result.end h.ends

@@ -1,4 +1,4 @@
-use Rattle.std.proofs.Common.{◌≡◌, ◌≢◌, ◌≤◌, ℕ, List, [], ◌∷◌, ◌++◌, length, take, drop, sym, ◌∙◌, ap, arith, append-nil, refl}
+use Rattle.std.proofs.Common.{◌≡◌, ◌≢◌, ℕ, List, [], ◌++◌, length, take, drop, sym, ◌∙◌, ap, arith, append-nil}
 use Rattle.std.proofs.lemmas.List.{drop_all, length-drop}
 use Rattle.std.proofs.lemmas.Grind.{common_steps}
 use Rattle.peer_head.specs.Blocks.{pairs, pair, IsPastPairs}
@@ -24,6 +24,6 @@ all_past t at h p =
 
 pub returns : goal.returns
 returns c = (
-    λ same. let e : c.skip_pairs.result ≡ length c.args.text.now = grind (arith, common_steps, same) in only_pairs c.args.text.now c.skip_pairs.result c.skip_pairs.ensures e,
-    λ p. let e = all_past c.args.text.now c.skip_pairs.result c.skip_pairs.ensures p in grind (arith, common_steps, e)
-  )
+  λ same. let e : c.skip_pairs.result ≡ length c.args.text.now = grind (arith, common_steps, same) in only_pairs c.args.text.now c.skip_pairs.result c.skip_pairs.ensures e,
+  λ p. let e = all_past c.args.text.now c.skip_pairs.result c.skip_pairs.ensures p in grind (arith, common_steps, e),
+)
