@@ -24,11 +24,15 @@ module _ (numbers : List ℕ → Option ℕ) (answer : ℕ → List ℕ → Answ
       let P : List Wish → Type 0 = λ v. Replies (λ g k a. a ≡ answer g k) v replies.0 in
       let behind = replies_begin answer ws more.0 h.replies replies.0 h.each (subst P more.1 replies.1) in
       record {
-        text = t; output = o; gave = gave; took = took; replies = replies.0;
+        text = t;
+        output = o;
+        gave = gave;
+        took = took;
+        replies = replies.0;
         all = record { wishes = all.0; whole = all.1; each = replies.1 };
         rest = h.rest ++ join behind.0;
         prefix = sym (append_assoc o h.rest (join behind.0)) ∙ ap (λ v. v ++ join behind.0) h.front ∙ join-append h.replies behind.0 ∙ ap join (sym behind.1);
-        clean = λ is. absurd (other is)
+        clean = λ is. absurd (other is);
       }
 
   of_whole : (e : End) (ws : List Wish) → (e ≡ end.Clean → ⊥) → AreFirst numbers 0 t ws → AreReplies (λ g k a. a ≡ answer g k) ws o → WritesReplies numbers answer r w e
@@ -36,13 +40,19 @@ module _ (numbers : List ℕ → Option ℕ) (answer : ℕ → List ℕ → Answ
 
   pub writes : (reads : ℕ) (e : End) → EndsAs numbers (λ g k a. a ≡ answer g k) reads r w t o e → WritesReplies numbers answer r w e
   writes reads end.Clean h = record {
-    text = t; output = o; gave = gave; took = took; replies = h.replies.replies;
+    text = t;
+    output = o;
+    gave = gave;
+    took = took;
+    replies = h.replies.replies;
     all = record {
       wishes = h.wishes;
       whole = elim h.whole as (λ _. IsWhole numbers 0 t h.wishes) [ inl c ↦ inl c | inr c ↦ inr (c.0, c.1) ];
-      each = h.replies.each
+      each = h.replies.each;
     };
-    rest = []; prefix = append-nil o ∙ h.replies.all; clean = λ is. refl
+    rest = [];
+    prefix = append-nil o ∙ h.replies.all;
+    clean = λ is. refl;
   }
   writes reads end.Cut h = of_whole end.Cut h.wishes (λ is. cc) (inl (h.rest, h.whole.opens)) h.replies
   writes reads end.ReadFault h = of_whole end.ReadFault h.wishes (λ is. cc) (inl (h.rest, h.whole.opens)) h.replies

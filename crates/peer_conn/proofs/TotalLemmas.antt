@@ -22,8 +22,8 @@ module _ (numbers : List ℕ → Option ℕ) where
   before_whole : (n : ℕ) (t u : List ℕ) (w : Wish) (ws : List Wish) → AsksOpen numbers n t w u → IsWhole numbers (n + 1) u ws → IsWhole numbers n t (w ∷ ws)
   before_whole n t u w ws h (inl k) = inl (Closed-append numbers n (n + 1) t u (w ∷ []) ws (one n t u w h) refl k)
     where
-    one : (n : ℕ) (t u : List ℕ) (w : Wish) → AsksOpen numbers n t w u → OpenWishes numbers n t (w ∷ []) u
-    one n t u w h = Open-more numbers n n t t u [] w (Open-none numbers n t (omega (arith, h.count))) (omega arith) h
+      one : (n : ℕ) (t u : List ℕ) (w : Wish) → AsksOpen numbers n t w u → OpenWishes numbers n t (w ∷ []) u
+      one n t u w h = Open-more numbers n n t t u [] w (Open-none numbers n t (omega (arith, h.count))) (omega arith) h
   before_whole n t u w ws h (inr k) =
       inr (k.0, record { opens = Open-append numbers n (n + 1) t u k.0 (w ∷ []) ws (Open-more numbers n n t t u [] w (Open-none numbers n t (omega (arith, h.count))) (omega arith) h) refl k.1.opens; unfinished = k.1.unfinished })
 
@@ -40,25 +40,25 @@ module _ (numbers : List ℕ → Option ℕ) where
   next_of : (t : List ℕ) → IsUnfinished t ⊎ ((w : Wish) × IsNextWish numbers t w)
   next_of t = by_look (looks_some_way_law t).0 (looks_some_way_law t).1
     where
-    by_look : (a : Look) → LooksAs t a → IsUnfinished t ⊎ ((w : Wish) × IsNextWish numbers t w)
-    by_look Need h = inl h
-    by_look (Head p) h = inr (head_wish numbers p, head_next numbers t p h)
-    by_look (Fault f bare) h = inr (fault_wish f bare, fault_next numbers t f bare h)
+      by_look : (a : Look) → LooksAs t a → IsUnfinished t ⊎ ((w : Wish) × IsNextWish numbers t w)
+      by_look Need h = inl h
+      by_look (Head p) h = inr (head_wish numbers p, head_next numbers t p h)
+      by_look (Fault f bare) h = inr (fault_wish f bare, fault_next numbers t f bare h)
 
   -- a text of fewer bytes than `fuel` has its list
   whole_below : (fuel n : ℕ) (t : List ℕ) → n < MOST → length t < fuel → (ws : List Wish) × IsWhole numbers n t ws
   whole_below zero n t lt short = absurd (omega (arith, short))
   whole_below (suc fuel) n t lt short =
       elim (next_of t) as (λ _. (ws : List Wish) × IsWhole numbers n t ws) [
-        inl h ↦ ([], inr (t, record { opens = Open-none numbers n t lt; unfinished = h }))
-      | inr k ↦ elim (bool_cases (closes_after n k.0.closing)) as (λ _. (ws : List Wish) × IsWhole numbers n t ws) [
-          inl e ↦ (record k.0 { closing = true } ∷ [], closing_whole numbers n t (record k.0 { closing = true }) lt (next_closes numbers n t k.0 k.1 e))
-        | inr e ↦
-            let b = next_block numbers n t k.0 k.1 e in
-            let asks = next_stays numbers n t k.0 b.1.0 k.1 e lt (b.0, b.1.1) in
-            let shorter : length b.1.0 < fuel = omega (arith, leaves_less_law t b.0 b.1.0 b.1.1, short) in
-            let more = whole_below fuel (n + 1) b.1.0 asks.count shorter in
-            (k.0 ∷ more.0, before_whole numbers n t b.1.0 k.0 more.0 asks more.1)
+        | inl h ↦ ([], inr (t, record { opens = Open-none numbers n t lt; unfinished = h }))
+        | inr k ↦ elim (bool_cases (closes_after n k.0.closing)) as (λ _. (ws : List Wish) × IsWhole numbers n t ws) [
+          | inl e ↦ (record k.0 { closing = true } ∷ [], closing_whole numbers n t (record k.0 { closing = true }) lt (next_closes numbers n t k.0 k.1 e))
+          | inr e ↦
+              let b = next_block numbers n t k.0 k.1 e in
+              let asks = next_stays numbers n t k.0 b.1.0 k.1 e lt (b.0, b.1.1) in
+              let shorter : length b.1.0 < fuel = omega (arith, leaves_less_law t b.0 b.1.0 b.1.1, short) in
+              let more = whole_below fuel (n + 1) b.1.0 asks.count shorter in
+              (k.0 ∷ more.0, before_whole numbers n t b.1.0 k.0 more.0 asks more.1)
         ]
       ]
 
@@ -71,9 +71,9 @@ module _ (answer : ℕ → List ℕ → Answer) where
   reply_of : (w : Wish) → (r : List ℕ) × IsReply (λ g k a. a ≡ answer g k) w r
   reply_of w = by_body w.closing w.bare w.body
     where
-    by_body : (c b : Bool) (body : WishBody) → (r : List ℕ) × RepliesTo (λ g k a. a ≡ answer g k) c b body r
-    by_body c b (body.Fault f) = (fault_reply c b f, refl)
-    by_body c b (body.Get g k) = (answer_reply c b (answer g.number k), (answer g.number k, refl, refl))
+      by_body : (c b : Bool) (body : WishBody) → (r : List ℕ) × RepliesTo (λ g k a. a ≡ answer g k) c b body r
+      by_body c b (body.Fault f) = (fault_reply c b f, refl)
+      by_body c b (body.Get g k) = (answer_reply c b (answer g.number k), (answer g.number k, refl, refl))
 
   -- wishes have their list of replies
   pub replies_of : (ws : List Wish) → (rs : List (List ℕ)) × Replies (λ g k a. a ≡ answer g k) ws rs

@@ -61,17 +61,17 @@ may_bring allowed p (Some answer) law = law
 -- what a connection wanted, the world wanted
 pub wants_from : (w : World) (c : ℕ) (old new : Connection) (table : State) (flights : List Flight) → slice_get w.connections c ≡ Some old → WantsAt w.table table w.flights flights old new → Wants w (record w { table = table; flights = flights; connections = slice_set w.connections c new }) c
 wants_from w c old new table flights here at = record {
-    old = old;
-    here = here;
-    empty = at.empty;
-    arrives = at.arrives;
-    wish = at.wish;
-    place = at.place;
-    asks = at.asks;
-    number = at.number;
-    wanted =
+  old = old;
+  here = here;
+  empty = at.empty;
+  arrives = at.arrives;
+  wish = at.wish;
+  place = at.place;
+  asks = at.asks;
+  number = at.number;
+  wanted =
       elim at.wanted [
-        inl joins ↦ inl (record { table = table; joins = joins.0; after = λ i. record w { table = table; flights = joins.1 i; connections = slice_set w.connections c (joins.2 i) } })
-      | inr leads ↦ inr (record { table = table; leads = leads.0; after = λ i. record w { table = table; flights = leads.1 i; connections = slice_set w.connections c (leads.2 i) } })
+        | inl joins ↦ inl (record { table = table; joins = joins.0; after = λ i. record w { table = table; flights = joins.1 i; connections = slice_set w.connections c (joins.2 i) } })
+        | inr leads ↦ inr (record { table = table; leads = leads.0; after = λ i. record w { table = table; flights = leads.1 i; connections = slice_set w.connections c (leads.2 i) } })
       ];
-  }
+}

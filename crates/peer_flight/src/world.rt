@@ -217,10 +217,7 @@ impl<S: Source> FlightEntry<S> {
 }
 
 // Lists a flight that was just led.
-fn list<S: Source>(
-    flights: &mut Vec<FlightEntry<S>>,
-    flight: Flight<S>,
-) -> Result<(), AllocError>
+fn list<S: Source>(flights: &mut Vec<FlightEntry<S>>, flight: Flight<S>) -> Result<(), AllocError>
     ensures { OnOk result (flights.new.items ≡ flights.old.items ++ new_flight flight.place ∷ []) }
 {
     flights.push(FlightEntry::new(flight))?;
@@ -494,10 +491,7 @@ fn idle_workers(alloc: Global, count: usize) -> Result<Vec<Worker>, AllocError>
 }
 
 // So many connections at which nothing arrived.
-fn new_connections<S: Source>(
-    alloc: Global,
-    count: usize,
-) -> Result<Vec<Connection<S>>, AllocError>
+fn new_connections<S: Source>(alloc: Global, count: usize) -> Result<Vec<Connection<S>>, AllocError>
     ensures { IfOk result (λ connections. connections.items ≡ replicate count new_connection) }
 {
     let mut connections = Vec::new(alloc);
@@ -513,11 +507,7 @@ impl<S: Source> World<S> {
     ghost use Rattle.peer_flight.specs.Worlds.{world_of};
 
     /// An empty world with so many workers and connections.
-    pub fn new(
-        alloc: Global,
-        workers: usize,
-        connections: usize,
-    ) -> Result<World<S>, AllocError>
+    pub fn new(alloc: Global, workers: usize, connections: usize) -> Result<World<S>, AllocError>
         ensures table { IfOk result (λ world. IsSame no_flights (world_of world).table) }
         ensures rest { IfOk result (λ world. world_of world ≡ record (start workers connections) { table = (world_of world).table }) }
     {
@@ -614,12 +604,7 @@ impl<S: Source> World<S> {
 
     /// Want: a wish with a place arrives at an empty hand, and joins or leads a flight.
     #[tactic(auto, using(crate::proofs::Seeing::wants_from))]
-    pub fn want(
-        &mut self,
-        alloc: Global,
-        connection: usize,
-        wish: Wish,
-    ) -> Result<bool, AskFault>
+    pub fn want(&mut self, alloc: Global, connection: usize, wish: Wish) -> Result<bool, AskFault>
         ensures { IfOk result (λ wanted. MatchBool wanted (Wants (world_of self.old) (world_of self.new) connection) (world_of self.new ≡ world_of self.old)) }
     {
         let Some(reader) = self.connections.get_mut(connection) else {

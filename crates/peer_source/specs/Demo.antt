@@ -1,5 +1,5 @@
 -- The groups and answers of the source for demonstrations.
-use Rattle.std.specs.Prelude.{◌≡◌, ℕ, ◌+◌, ◌-◌, ◌*◌, List, [], ◌∷◌, length, codes, cond, nat_lt, nat_le, ◌==◌, ◌&&◌, Bool, Option, Some, None, bytes_eq, replicate, decimal}
+use Rattle.std.specs.Prelude.{◌≡◌, ℕ, ◌+◌, ◌-◌, ◌*◌, List, [], ◌∷◌, length, codes, cond, nat_lt, nat_le, ◌==◌, ◌&&◌, Option, Some, None, bytes_eq, replicate, decimal}
 use Rattle.std.proofs.Common.{◌<◌, refl, arith}
 use Rattle.std.specs.List.{list_all}
 use Rattle.std.specs.Char.{is_ascii_digit}

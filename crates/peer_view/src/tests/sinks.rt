@@ -1,4 +1,7 @@
 //! The last value that each sink was given, by its own calls and through the trait.
+ghost use Rattle.std.specs.Prelude.{◌≡◌, Some, length, OnOk, OnErr};
+ghost use Rattle.peer_view.specs.Sinks.{placed};
+
 use crate::{AllocSink, ByteView, Sink, SinkFault, TruncSink, VALUE_LIMIT, ViewSink};
 use std::alloc::Global;
 use std::test::Fail;
@@ -8,6 +11,35 @@ fn set_each<S: Sink>(sink: &mut S, alloc: Global, last: &ByteView) -> Result<(),
     sink.set_bytes(alloc, b"abcd")?;
     sink.set_str(alloc, "bc")?;
     sink.set_view(last)
+}
+
+// Whoever lends a view knows what it ends as.
+fn set_lent(view: &mut ByteView, other: &ByteView) -> Result<(), SinkFault>
+    ensures ok { OnOk result (view.new ≡ other.now) }
+    ensures err { OnErr result (view.new ≡ view.old) }
+{
+    let mut sink = ViewSink::new(view);
+    sink.set_view(other)
+}
+
+// Whoever lends a destination knows what it ends as.
+fn fill_front(destination: &mut [u8], value: &[u8]) -> usize
+    ensures { destination.new ≡ placed (Some (length destination.old)) value.now destination.old }
+{
+    let mut sink = TruncSink::new(destination);
+    sink.set_bytes(value);
+    sink.len()
+}
+
+#[test]
+fn a_lender_gets_back_what_was_set(rt: HostRuntime) -> Result<(), Fail> {
+    let mut view = ByteView::copy_of(rt.alloc(), b"old")?;
+    set_lent(&mut view, &ByteView::copy_of(rt.alloc(), b"new")?)?;
+    assert_eq!(rt; view.as_slice(), b"new".as_slice());
+    let mut destination = *b"...";
+    assert_eq!(rt; fill_front(&mut destination, b"no"), 2);
+    assert_eq!(rt; destination, *b"no.");
+    Ok(())
 }
 
 #[test]

@@ -13,7 +13,7 @@ returns g c =
     let was = c.args.self.now in
     let of = c.if-not-is_of.ensures refl in
     let law : ∥ IfSome fill.answer (allowed was.place.group was.place.key) ∥₁ =
-      subst (λ n. ∥ IfSome fill.answer (allowed n was.place.key) ∥₁) of.0 (subst (λ k. ∥ IfSome fill.answer (allowed fill.group k) ∥₁) of.1 c.law.ensures) in
+    subst (λ n. ∥ IfSome fill.answer (allowed n was.place.key) ∥₁) of.0 (subst (λ k. ∥ IfSome fill.answer (allowed fill.group k) ∥₁) of.1 c.law.ensures) in
     let is = c.self.view_is in
     record {
       outcome = outcome_by fill.answer;
