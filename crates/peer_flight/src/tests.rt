@@ -53,11 +53,12 @@ fn one_flight_until_it_lands(rt: HostRuntime) -> Result<(), Fail> {
     let mut table = Table::new(alloc);
     let (first, right) = led(&mut table, alloc, ECHO, &key).expect(&rt, "led");
     let second = joined(&mut table, alloc, ECHO, &key).expect(&rt, "joined");
-    assert_eq!(rt; first.number(), 0);
-    assert_eq!(rt; second.number(), 0);
-    assert_eq!(rt; right.flight().number(), 0);
-    assert_eq!(rt; second.group(), ECHO);
-    assert_eq!(rt; second.key().as_slice(), b"k".as_slice());
+    let numbers = [first.number(), second.number(), right.flight().number()];
+    assert_eq!(rt; numbers, [0, 0, 0]);
+    assert_eq!(rt;
+        (second.group(), second.key().as_slice()),
+        (ECHO, b"k".as_slice())
+    );
 
     let mut note = second.note();
     assert!(rt; second.look(&mut note).is_none());
@@ -69,12 +70,15 @@ fn one_flight_until_it_lands(rt: HostRuntime) -> Result<(), Fail> {
 
     table.land(&first);
     table.land(&first);
-    assert_eq!(rt; table.counts(), (1, 0));
+    let landed = table.counts();
     let (third, _right) = led(&mut table, alloc, ECHO, &key).expect(&rt, "led");
-    assert_eq!(rt; third.number(), 1);
-    assert_eq!(rt; table.counts(), (2, 1));
+    let led_again = table.counts();
     table.land(&first);
-    assert_eq!(rt; table.counts(), (2, 1));
+    assert_eq!(rt; third.number(), 1);
+    assert_eq!(rt;
+        [landed, led_again, table.counts()],
+        [(1, 0), (2, 1), (2, 1)]
+    );
     Ok(())
 }
 
@@ -144,6 +148,34 @@ impl SlowTable {
     }
 }
 
+// One want of both tables: whether they gave the same. The flight is kept.
+fn wants_alike(
+    table: &mut Table<DemoSource>,
+    slow: &mut SlowTable,
+    flights: &mut Vec<Flight<DemoSource>>,
+    alloc: Global,
+    place: (usize, u8),
+) -> Result<bool, Fail> {
+    let key = ByteView::copy_of(alloc, &[place.1])?;
+    let slow_one = slow.want(place.0, place.1)?;
+    let (flight, is_led) = match table.want(alloc, GroupId { number: place.0 }, &key) {
+        Ok(Ask::Led(flight, _right)) => (flight, true),
+        Ok(Ask::Joined(flight)) => (flight, false),
+        Err(_) => return Ok(false),
+    };
+    let alike = (flight.number(), is_led) == slow_one;
+    flights.push(flight)?;
+    Ok(alike)
+}
+
+// One landing in both tables, of a flight that may have landed before.
+fn land_both(table: &mut Table<DemoSource>, slow: &mut SlowTable, flight: &Flight<DemoSource>) {
+    if let Some(letter) = flight.key().as_slice().first() {
+        slow.land(flight.group().number, *letter, flight.number());
+    }
+    table.land(flight);
+}
+
 #[test]
 fn as_a_slow_table(rt: HostRuntime) -> Result<(), Fail> {
     let alloc = rt.alloc();
@@ -154,65 +186,85 @@ fn as_a_slow_table(rt: HostRuntime) -> Result<(), Fail> {
     };
     let mut flights: Vec<Flight<DemoSource>> = Vec::new(alloc);
     let mut seed = 1u32;
+    let mut alike = 0u32;
     for _ in 0..400 {
         seed = seed.wrapping_mul(1_103_515_245).wrapping_add(12_345);
-        let group = (seed >> 16) as usize % 3;
-        let letter = ((seed >> 20) % 4) as u8;
+        let place = ((seed >> 16) as usize % 3, ((seed >> 20) % 4) as u8);
         if (seed >> 26) % 2 == 0 {
-            let key = ByteView::copy_of(alloc, &[letter])?;
-            let (number, is_led) = slow.want(group, letter)?;
-            let ask = table.want(alloc, GroupId { number: group }, &key);
-            let (flight, was_led) = match ask.expect(&rt, "memory") {
-                Ask::Led(flight, _right) => (flight, true),
-                Ask::Joined(flight) => (flight, false),
-            };
-            assert_eq!(rt; (flight.number(), was_led), (number, is_led));
-            flights.push(flight)?;
+            let same = wants_alike(&mut table, &mut slow, &mut flights, alloc, place)?;
+            alike = u32::saturating_add(alike, u32::from(same));
         } else if let Some(flight) = flights.get((seed >> 8) as usize % 32) {
-            let key = flight.key().as_slice();
-            if let Some(letter) = key.first() {
-                slow.land(flight.group().number, *letter, flight.number());
-            }
-            table.land(flight);
+            land_both(&mut table, &mut slow, flight);
+            alike = u32::saturating_add(alike, 1);
+        } else {
+            alike = u32::saturating_add(alike, 1);
         }
-        assert_eq!(rt; table.counts(), (slow.next, slow.open.len()));
+        let counted = table.counts() == (slow.next, slow.open.len());
+        alike = u32::saturating_add(alike, u32::from(counted));
     }
+    assert_eq!(rt; alike, 800);
     Ok(())
+}
+
+// Two wishes for one place at connections 0 and 1, a third at a full hand, and the right put before the tickets.
+fn read_both(world: &mut World<DemoSource>, alloc: Global, key: &ByteView) -> [bool; 7] {
+    [
+        wants(world, alloc, 0, key),
+        wants(world, alloc, 1, key),
+        wants(world, alloc, 0, key),
+        matches!(world.put_ticket(0), Ok(true)),
+        matches!(world.put_job(0), Ok(true)),
+        matches!(world.put_job(1), Ok(true)),
+        matches!(world.put_ticket(0), Ok(true)) && matches!(world.put_ticket(1), Ok(true)),
+    ]
+}
+
+// Whether a wish for the place arrived.
+fn wants(world: &mut World<DemoSource>, alloc: Global, connection: usize, key: &ByteView) -> bool {
+    match Wish::of(ECHO, key, false) {
+        Ok(wish) => matches!(world.want(alloc, connection, wish), Ok(true)),
+        Err(_) => false,
+    }
+}
+
+// The worker takes the job once, and lands only what it has set.
+fn fill_once(world: &mut World<DemoSource>, fill: Fill<DemoSource>) -> [bool; 6] {
+    [
+        world.take_job(0),
+        world.take_job(0),
+        world.land(0),
+        world.set_outcome(0, fill),
+        world.land(0),
+        world.land(0),
+    ]
+}
+
+// Whether each writer took a ticket, and saw an outcome.
+fn write_both(world: &mut World<DemoSource>) -> [bool; 4] {
+    [
+        matches!(world.take_ticket(0), Ok(true)),
+        matches!(world.take_ticket(1), Ok(true)),
+        matches!(world.see_outcome(0), Ok(true)),
+        matches!(world.see_outcome(1), Ok(true)),
+    ]
 }
 
 #[test]
 fn two_connections_share_a_flight(rt: HostRuntime) -> Result<(), Fail> {
     let alloc = rt.alloc();
     let key = ByteView::copy_of(alloc, b"k")?;
-    let mut world: World<DemoSource> = World::new(alloc, 1, 2)?;
-    for connection in 0..2 {
-        let wish = Wish::of(ECHO, &key, false)?;
-        assert!(rt; world.want(alloc, connection, wish).expect(&rt, "memory"));
-    }
-    let wish = Wish::of(ECHO, &key, true)?;
-    assert!(rt; !world.want(alloc, 0, wish).expect(&rt, "memory"));
-    assert!(rt; !world.put_ticket(0)?);
-    assert!(rt; world.put_job(0)?);
-    assert!(rt; !world.put_job(1)?);
-    for connection in 0..2 {
-        assert!(rt; world.put_ticket(connection)?);
-        assert!(rt; world.take_ticket(connection)?);
-        assert!(rt; !world.see_outcome(connection)?);
-    }
-    assert!(rt; world.take_job(0));
-    assert!(rt; !world.take_job(0));
-    assert!(rt; !world.land(0));
     let fill = Fill::run(alloc, &DemoSource, ECHO, key.share()?);
-    assert!(rt; world.set_outcome(0, fill));
-    assert!(rt; world.see_outcome(0)?);
-    assert!(rt; world.land(0));
-    assert!(rt; !world.land(0));
-    assert!(rt; world.see_outcome(1)?);
-    assert!(rt; !world.see_outcome(1)?);
-
-    assert!(rt; world.put_ready(1, Wish::fault(true))?);
-    assert!(rt; !world.put_ready(1, Wish::fault(false))?);
-    assert!(rt; world.take_ticket(1)?);
-    assert!(rt; !world.take_ticket(1)?);
+    let mut world: World<DemoSource> = World::new(alloc, 1, 2)?;
+    let read = read_both(&mut world, alloc, &key);
+    let waited = write_both(&mut world);
+    let filled = fill_once(&mut world, fill);
+    let wrote = write_both(&mut world);
+    let closed = matches!(world.put_ready(1, Wish::fault(true)), Ok(true));
+    let after = matches!(world.put_ready(1, Wish::fault(true)), Ok(true));
+    assert_eq!(rt; read, [true, true, false, false, true, false, true]);
+    assert_eq!(rt; waited, [true, true, false, false]);
+    assert_eq!(rt; filled, [true, false, false, true, true, false]);
+    assert_eq!(rt; wrote, [false, false, true, true]);
+    assert_eq!(rt; (closed, after), (true, false));
     Ok(())
 }
