@@ -1,0 +1,99 @@
+//! Runs of a connection over texts cut into pieces.
+ghost use Rattle.std.specs.Prelude.{◌≤◌, ◌<◌, length};
+
+use peer_conn::{End, Served, serve_serial};
+use peer_source::DemoSource;
+use peer_view::{MemReader, MemWriter};
+use std::alloc::{AllocError, Global};
+use std::process::Abort;
+
+/// More reads than any text here needs.
+pub const READS: u64 = 1_000_000;
+
+// Texts up to this length are cut in two at every place.
+const SHORT: usize = 400;
+
+/// A text in one piece.
+pub fn whole(alloc: Global, text: &[u8]) -> Result<Vec<Vec<u8>>, AllocError> {
+    let mut pieces = Vec::new(alloc);
+    pieces.push(text.to_vec(alloc)?)?;
+    Ok(pieces)
+}
+
+/// A text in two pieces.
+pub fn halves(alloc: Global, text: &[u8], at: usize) -> Result<Vec<Vec<u8>>, AllocError>
+    requires { at ≤ length text.now }
+{
+    let mut pieces = Vec::new(alloc);
+    pieces.push(text[..at].to_vec(alloc)?)?;
+    pieces.push(text[at..].to_vec(alloc)?)?;
+    Ok(pieces)
+}
+
+/// A text byte by byte.
+pub fn by_bytes(alloc: Global, text: &[u8]) -> Result<Vec<Vec<u8>>, AllocError> {
+    let mut pieces = Vec::new(alloc);
+    for byte in text {
+        pieces.push([*byte].to_vec(alloc)?)?;
+    }
+    Ok(pieces)
+}
+
+/// A connection over the source for demonstrations, whose reader gives these pieces and then fails or tells its end.
+pub fn served(
+    alloc: Global,
+    pieces: Vec<Vec<u8>>,
+    fails: bool,
+    reads: u64,
+) -> Served<MemReader, MemWriter> {
+    serve_serial(
+        alloc,
+        &DemoSource,
+        MemReader::new(pieces, fails),
+        MemWriter::new(alloc, 65_536, None),
+        reads,
+    )
+}
+
+/// The same with a writer that takes so many bytes a call, and fails at a limit.
+pub fn served_into(
+    alloc: Global,
+    pieces: Vec<Vec<u8>>,
+    step: usize,
+    limit: usize,
+) -> Served<MemReader, MemWriter>
+    requires { 0 < step }
+{
+    serve_serial(
+        alloc,
+        &DemoSource,
+        MemReader::new(pieces, false),
+        MemWriter::new(alloc, step, Some(limit)),
+        READS,
+    )
+}
+
+/// Demands these bytes and this end for the pieces.
+pub fn demand(rt: &(impl Abort + AllocGlobal), pieces: Vec<Vec<u8>>, replies: &[u8], end: End) {
+    let served = served(rt.alloc(), pieces, false, READS);
+    assert_eq!(rt; served.end, end);
+    assert_eq!(rt; served.writer.taken(), replies);
+}
+
+/// Demands these bytes and this end for a text in one piece, byte by byte, and in two pieces at every place of a
+/// short text.
+pub fn demand_all_ways(
+    rt: &(impl Abort + AllocGlobal),
+    text: &[u8],
+    replies: &[u8],
+    end: End,
+) -> Result<(), AllocError> {
+    demand(rt, whole(rt.alloc(), text)?, replies, end);
+    demand(rt, by_bytes(rt.alloc(), text)?, replies, end);
+    if text.len() <= SHORT {
+        for at in 0..text.len() {
+            demand(rt, halves(rt.alloc(), text, at)?, replies, end);
+        }
+    }
+    Ok(())
+}

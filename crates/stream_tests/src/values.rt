@@ -1,0 +1,125 @@
+//! Found values: keys, escapes, lengths.
+
+use crate::runs::{READS, demand_all_ways, served, whole};
+use crate::texts::{Then, fault_reply, joined, request, value_reply};
+use peer_conn::End;
+use std::alloc::{AllocError, Global};
+use std::process::Abort;
+use std::test::Fail;
+
+// What Go's own client sends for the key `k` of the group `echo`.
+const GO_REQUEST: &[u8] =
+    b"GET /_groupcache/echo/k HTTP/1.1\r\nHost: 10.0.0.2:8000\r\nUser-Agent: Go-http-client/1.1\r\nAccept-Encoding: gzip\r\n\r\n";
+
+// The reply with the value `k`.
+const REPLY_K: &[u8] =
+    b"HTTP/1.1 200 OK\r\nContent-Type: application/x-protobuf\r\nContent-Length: 3\r\n\r\n\x0A\x01k";
+
+// Demands the value with this body for GET of a target.
+fn demand_body(
+    rt: &(impl Abort + AllocGlobal),
+    target: &str,
+    body: &[u8],
+) -> Result<(), AllocError> {
+    let text = request(rt.alloc(), target)?;
+    let replies = value_reply(rt.alloc(), Then::Stays, body)?;
+    demand_all_ways(rt, &text, &replies, End::Clean)
+}
+
+// Demands the source's error with this text for GET of a target.
+fn demand_error(
+    rt: &(impl Abort + AllocGlobal),
+    target: &str,
+    error: &str,
+) -> Result<(), AllocError> {
+    let text = request(rt.alloc(), target)?;
+    let replies = fault_reply(rt.alloc(), Then::Stays, "500 Internal Server Error", error)?;
+    demand_all_ways(rt, &text, &replies, End::Clean)
+}
+
+// A prefix, and so many bytes `x`.
+fn filled(alloc: Global, prefix: &[u8], count: usize) -> Result<Vec<u8>, AllocError> {
+    let fill = vec![in alloc; b'x'; count]?;
+    joined(alloc, &[prefix, fill.as_slice()])
+}
+
+// A line stands in a text.
+fn has_line(text: &[u8], line: &[u8]) -> bool {
+    text.windows(line.len().max(1)).any(|part| part == line)
+}
+
+#[test]
+fn answers_what_go_sends(rt: HostRuntime) -> Result<(), Fail> {
+    assert_eq!(rt; REPLY_K.len(), 79);
+    let plain = value_reply(rt.alloc(), Then::Stays, b"\x0A\x01k")?;
+    assert_eq!(rt; plain.as_slice(), REPLY_K);
+    demand_all_ways(&rt, GO_REQUEST, REPLY_K, End::Clean)?;
+    Ok(())
+}
+
+#[test]
+fn reads_no_more_than_it_may(rt: HostRuntime) -> Result<(), Fail> {
+    let none = served(rt.alloc(), whole(rt.alloc(), GO_REQUEST)?, false, 0);
+    assert_eq!(rt; none.end, End::Spent);
+    assert_eq!(rt; none.writer.taken(), b"".as_slice());
+    let one = served(rt.alloc(), whole(rt.alloc(), GO_REQUEST)?, false, 1);
+    assert_eq!(rt; one.end, End::Spent);
+    assert_eq!(rt; one.writer.taken(), REPLY_K);
+    let two = served(rt.alloc(), whole(rt.alloc(), GO_REQUEST)?, false, 2);
+    assert_eq!(rt; two.end, End::Clean);
+    assert_eq!(rt; two.writer.taken(), REPLY_K);
+    Ok(())
+}
+
+#[test]
+fn echoes_keys(rt: HostRuntime) -> Result<(), Fail> {
+    demand_body(&rt, "/_groupcache/echo/a%2Fb+c", b"\x0A\x05a/b+c")?;
+    demand_body(&rt, "/_groupcache/echo/%ff", b"\x0A\x01\xFF")?;
+    demand_body(&rt, "/%5Fgroupcache/echo%2Fk", b"\x0A\x01k")?;
+    demand_body(&rt, "/_groupcache/echo/%3F?x=%G1", b"\x0A\x01?")?;
+    demand_body(&rt, "/_groupcache/echo/", b"\x0A\x00")?;
+    demand_body(&rt, "http://10.0.0.2:8000/_groupcache/echo/k", b"\x0A\x01k")?;
+    Ok(())
+}
+
+#[test]
+fn squares_numbers(rt: HostRuntime) -> Result<(), Fail> {
+    demand_body(&rt, "/_groupcache/square/12", b"\x0A\x03144")?;
+    demand_body(&rt, "/_groupcache/square/007", b"\x0A\x0249")?;
+    demand_error(&rt, "/_groupcache/square/x", "not a number")?;
+    Ok(())
+}
+
+#[test]
+fn fills_up_to_the_limit(rt: HostRuntime) -> Result<(), Fail> {
+    let rows: [(&str, &[u8], usize, &[u8]); 3] = [
+        (
+            "/_groupcache/fill/128",
+            b"\x0A\x80\x01",
+            128,
+            b"\r\nContent-Length: 131\r\n",
+        ),
+        (
+            "/_groupcache/fill/16384",
+            b"\x0A\x80\x80\x01",
+            16_384,
+            b"\r\nContent-Length: 16388\r\n",
+        ),
+        (
+            "/_groupcache/fill/1048576",
+            b"\x0A\x80\x80\x40",
+            1_048_576,
+            b"\r\nContent-Length: 1048580\r\n",
+        ),
+    ];
+    for (target, prefix, count, line) in rows {
+        let body = filled(rt.alloc(), prefix, count)?;
+        demand_body(&rt, target, &body)?;
+        let text = request(rt.alloc(), target)?;
+        let served = served(rt.alloc(), whole(rt.alloc(), &text)?, false, READS);
+        assert!(rt; has_line(served.writer.taken(), line), "at {target}");
+    }
+    demand_error(&rt, "/_groupcache/fill/1048577", "value too long")?;
+    demand_error(&rt, "/_groupcache/fill/2000001", "not a size")?;
+    Ok(())
+}
