@@ -1,13 +1,13 @@
 -- What a connection writes is a prefix of the replies to what it read.
-use Rattle.std.proofs.Common.{◌≡◌, ℕ, ◌<◌, List, [], ◌∷◌, ◌++◌, ◌⊎◌, inl, inr, refl, sym, ◌∙◌, ap, subst, arith, append_assoc, append-nil, Option}
+use Rattle.std.proofs.Common.{◌≡◌, ℕ, List, [], ◌++◌, inl, inr, refl, sym, ◌∙◌, ap, subst, arith, append_assoc, append-nil, Option}
 use Rattle.std.specs.Io.KnownBytes.{Appends}
 use Rattle.peer_source.specs.Answers.{Answer}
 use Rattle.peer_reply.specs.declared.wish.Wish.{Wish}
-use Rattle.peer_conn.specs.Wishes.{AreFirst, MOST}
+use Rattle.peer_conn.specs.Wishes.{AreFirst}
 use Rattle.peer_conn.specs.Replies.{Replies, AreReplies, AreFrontOfReplies, join}
 use Rattle.peer_conn.specs.Laws.{IsWhole}
-use Rattle.peer_conn.specs.Headline.{AreAllReplies, WritesReplies}
-use Rattle.peer_conn.specs.Ends.{Reading, Writing, EndsAs, Serves}
+use Rattle.peer_conn.specs.Headline.{WritesReplies}
+use Rattle.peer_conn.specs.Ends.{Reading, Writing, EndsAs}
 use Rattle.peer_conn.specs.declared.end.End.{End}
 use Rattle.peer_conn.specs.declared.end.End.TheVariants as end
 use Rattle.peer_conn.proofs.SendLemmas.{join-append}

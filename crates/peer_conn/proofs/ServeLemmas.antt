@@ -1,12 +1,12 @@
 -- A connection while it runs, and how it ends.
-use Rattle.std.proofs.Common.{◌≡◌, ℕ, ◌+◌, ◌<◌, ◌≤◌, List, [], ◌∷◌, ◌++◌, length, ◌⊎◌, inl, inr, refl, sym, ◌∙◌, ap, subst, arith, append-nil, length-append, Option}
+use Rattle.std.proofs.Common.{◌≡◌, ℕ, ◌+◌, ◌<◌, ◌≤◌, List, [], ◌∷◌, ◌++◌, length, inl, inr, refl, sym, ◌∙◌, ap, subst, arith, append-nil, length-append, Option}
 use Rattle.std.specs.Io.KnownBytes.{Appends}
 use Rattle.std.proofs.KnownBytes.{Appends-nil, Appends-trans}
 use Rattle.peer_head.specs.Blocks.{Begins, IsUnfinished}
 use Rattle.peer_source.specs.Answers.{Answer}
 use Rattle.peer_reply.specs.declared.wish.Wish.{Wish}
-use Rattle.peer_conn.specs.Wishes.{OpenWishes, ClosedWishes, AreFirst, AreAll, MOST}
-use Rattle.peer_conn.specs.Replies.{AreReplies, AreFrontOfReplies, join}
+use Rattle.peer_conn.specs.Wishes.{OpenWishes}
+use Rattle.peer_conn.specs.Replies.{AreReplies}
 use Rattle.peer_conn.specs.Sending.{Answered, Failed}
 use Rattle.peer_conn.specs.Turns.{Handles, EndToldAs}
 use Rattle.peer_conn.specs.Ends.{Reading, Writing, Serves}

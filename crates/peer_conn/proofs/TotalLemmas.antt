@@ -1,6 +1,6 @@
 -- Every text has its list of wishes, and a source with one answer for each group and key its list of replies.
-use Rattle.std.proofs.Common.{◌≡◌, ℕ, zero, suc, ◌+◌, ◌<◌, ◌≤◌, Bool, true, false, List, [], ◌∷◌, ◌++◌, length, ◌⊎◌, inl, inr, refl, sym, ◌∙◌, ap, subst, arith, append_assoc, append-nil, Option}
-use Rattle.peer_head.specs.Blocks.{Begins, IsTooLong, IsUnfinished}
+use Rattle.std.proofs.Common.{◌≡◌, ℕ, zero, suc, ◌+◌, ◌<◌, Bool, true, false, List, [], ◌∷◌, length, ◌⊎◌, inl, inr, refl, arith, Option}
+use Rattle.peer_head.specs.Blocks.{IsUnfinished}
 use Rattle.peer_head.specs.Looks.{LooksAs}
 use Rattle.peer_head.specs.declared.look.Look.{Look}
 use Rattle.peer_head.specs.declared.look.Look.TheVariants.{Need, Head, Fault}
@@ -11,10 +11,10 @@ use Rattle.peer_reply.specs.Texts.{fault_reply, answer_reply}
 use Rattle.peer_reply.specs.declared.wish.Wish.{Wish}
 use Rattle.peer_reply.specs.declared.wish.WishBody.{WishBody}
 use Rattle.peer_reply.specs.declared.wish.WishBody.TheVariants as body
-use Rattle.peer_conn.specs.Wishes.{Asks, fault_wish, head_wish, IsLastWish, closes_after, OpenWishes, ClosedWishes, AreFirst, AreAll, MOST}
-use Rattle.peer_conn.specs.Replies.{IsReply, RepliesTo, Replies, join}
-use Rattle.peer_conn.specs.Laws.{IsWhole, BeginsWith}
-use Rattle.peer_conn.specs.Turns.{IsNextWish, too_long, first, AsksOpen}
+use Rattle.peer_conn.specs.Wishes.{fault_wish, head_wish, IsLastWish, closes_after, OpenWishes, MOST}
+use Rattle.peer_conn.specs.Replies.{IsReply, RepliesTo, Replies}
+use Rattle.peer_conn.specs.Laws.{IsWhole}
+use Rattle.peer_conn.specs.Turns.{IsNextWish, AsksOpen}
 use Rattle.peer_conn.proofs.WishLemmas.{fault_next, head_next, next_closes, next_stays, next_block, Open-none, Open-more, Open-append, Closed-last, Closed-append}
 
 module _ (numbers : List ℕ → Option ℕ) where

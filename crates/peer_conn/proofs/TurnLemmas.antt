@@ -1,12 +1,12 @@
 -- Laws of turns: what was done with the bytes held.
-use Rattle.std.proofs.Common.{◌≡◌, ℕ, ◌+◌, ◌<◌, List, [], ◌∷◌, ◌++◌, length, Option, ◌⊎◌, inl, inr, refl, sym, ◌∙◌, ap, subst, arith, length-append}
+use Rattle.std.proofs.Common.{◌≡◌, ℕ, ◌+◌, List, [], ◌∷◌, ◌++◌, length, Option, inl, inr, refl, sym, subst, arith, length-append}
 use Rattle.peer_head.specs.Blocks.{IsUnfinished}
 use Rattle.peer_source.specs.Answers.{Answer}
 use Rattle.peer_view.specs.Moves.{Moves}
 use Rattle.peer_reply.specs.declared.wish.Wish.{Wish}
-use Rattle.peer_conn.specs.Wishes.{OpenWishes, ClosedWishes, AreFirst, IsLastWish}
-use Rattle.peer_conn.specs.Sending.{Answered, Failed, Sent}
-use Rattle.peer_conn.specs.Turns.{Turns, Handles, AsksOpen}
+use Rattle.peer_conn.specs.Wishes.{OpenWishes, AreFirst}
+use Rattle.peer_conn.specs.Sending.{Answered, Failed}
+use Rattle.peer_conn.specs.Turns.{Turns, Handles}
 use Rattle.peer_conn.specs.declared.answer.Turn.{Turn}
 use Rattle.peer_conn.specs.declared.answer.Turn.TheVariants.{More, Need, Closed, Memory, WriteFault}
 use Rattle.peer_conn.proofs.WishLemmas.{Open-more, Closed-last}

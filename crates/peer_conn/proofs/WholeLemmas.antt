@@ -1,10 +1,9 @@
 -- Laws of whole lists of wishes.
-use Rattle.std.proofs.Common.{◌≡◌, ℕ, zero, suc, ◌+◌, ◌<◌, ◌≤◌, Bool, true, false, eqb, ◌||◌, List, [], ◌∷◌, ◌++◌, length, ◌⊎◌, inl, inr, refl, sym, ◌∙◌, ap, subst, arith, append_assoc, append-nil, length-append, Option, None, Some}
-use Rattle.peer_head.specs.Blocks.{Begins, IsTooLong, IsUnfinished}
-use Rattle.peer_head.specs.Heads.{HeadParts, IsHead}
+use Rattle.std.proofs.Common.{◌≡◌, ℕ, ◌+◌, ◌<◌, Bool, true, false, List, [], ◌∷◌, ◌++◌, length, ◌⊎◌, inl, inr, refl, sym, ◌∙◌, ap, subst, arith, append_assoc, append-nil, length-append, Option, None, Some}
+use Rattle.peer_head.specs.Blocks.{IsTooLong, IsUnfinished}
+use Rattle.peer_head.specs.Heads.{HeadParts}
 use Rattle.peer_head.specs.Faults.{head_fault, is_bare}
 use Rattle.peer_head.specs.declared.fault.HeadFault.{HeadFault}
-use Rattle.peer_head.specs.declared.fault.HeadFault.TheVariants as head
 use Rattle.peer_head.proofs.BlockLaws.{begins_once_law, keeps_block_law, stays_too_long_law}
 use Rattle.peer_head.proofs.LookLaws.{is_one_head_law}
 use Rattle.peer_source.specs.Answers.{Answer}

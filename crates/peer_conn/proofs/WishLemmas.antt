@@ -1,12 +1,12 @@
 -- Laws of the wishes of a text.
-use Rattle.std.proofs.Common.{◌≡◌, ℕ, ◌+◌, ◌<◌, Bool, true, false, List, [], ◌∷◌, ◌++◌, length, ◌⊎◌, inl, inr, refl, sym, ◌∙◌, ap, subst, arith, append_assoc, append-nil, length-append, Option}
+use Rattle.std.proofs.Common.{◌≡◌, ℕ, ◌+◌, ◌<◌, Bool, true, false, List, [], ◌∷◌, ◌++◌, length, inl, inr, refl, sym, ◌∙◌, ap, subst, arith, append_assoc, length-append, Option}
 use Rattle.peer_head.specs.Blocks.{Begins, HasBlock}
-use Rattle.peer_head.specs.Heads.{HeadParts, IsHead}
+use Rattle.peer_head.specs.Heads.{HeadParts}
 use Rattle.peer_head.specs.Looks.{ShowsHead, IsFault, too_long as TooLong, no_head as NoHead, of_head}
 use Rattle.peer_head.specs.declared.fault.HeadFault.{HeadFault}
 use Rattle.peer_head.proofs.BlockLaws.{begins_once_law, keeps_block_law}
 use Rattle.peer_reply.specs.declared.wish.Wish.{Wish}
-use Rattle.peer_conn.specs.Wishes.{Asks, IsWish, no_head, refused, asked, head_wish, fault_wish, AsksInTurn, IsLastWish, too_long as TooLongLast, closes, closes_after, OpenWishes, ClosedWishes, AreFirst, MOST}
+use Rattle.peer_conn.specs.Wishes.{Asks, no_head, refused, asked, head_wish, fault_wish, AsksInTurn, IsLastWish, too_long as TooLongLast, closes, closes_after, OpenWishes, ClosedWishes, AreFirst, MOST}
 use Rattle.peer_conn.specs.Turns.{IsNextWish, too_long, first, AsksOpen}
 
 module _ (numbers : List ℕ → Option ℕ) where

@@ -5,7 +5,6 @@ use Rattle.peer_head.specs.declared.fault.HeadFault.TheVariants.{TooLong}
 use Rattle.peer_source.specs.Answers.{Answer}
 use Rattle.peer_reply.specs.declared.wish.Wish.{Wish}
 use Rattle.peer_conn.specs.Wishes.{Asks, IsLastWish, OpenWishes, ClosedWishes, AreFirst, MOST, fault_wish}
-use Rattle.peer_conn.specs.Replies.{IsReply}
 use Rattle.peer_conn.specs.Sending.{Sending, Sent, Broke, Answered, Failed}
 use Rattle.peer_head.specs.Pairs.{ArePairs}
 use Rattle.peer_conn.specs.declared.end.End.{End}

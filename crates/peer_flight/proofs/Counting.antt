@@ -1,12 +1,11 @@
 -- How the counts of a flight move with each event.
-use Rattle.std.proofs.Common.{◌≡◌, ◌≢◌, ℕ, ◌+◌, ◌<◌, ◌≤◌, Bool, true, false, cond, List, [], ◌∷◌, ◌++◌, length, Some, refl, ap, sym, subst, ◌∙◌, ◌⊎◌, inl, inr, arith, length-append}
+use Rattle.std.proofs.Common.{◌≡◌, ◌≢◌, ℕ, ◌+◌, ◌≤◌, true, cond, List, [], ◌∷◌, ◌++◌, length, refl, ap, sym, subst, inl, inr, arith, length-append}
 use Rattle.std.proofs.Math.ListN.{set, length-set}
-use Rattle.std.specs.List.{slice_get}
 use Rattle.std.proofs.lemmas.Bool.{eq-eqb, ne_eqb}
 use Rattle.std.proofs.lemmas.Option.{slice_get_within}
 use Rattle.peer_flight.specs.SingleFlight.{Place}
-use Rattle.peer_flight.specs.World.{Outcome, Unset, Flight, new_flight}
-use Rattle.peer_flight.specs.Counts.{same, spent}
+use Rattle.peer_flight.specs.World.{Outcome, Flight, new_flight}
+use Rattle.peer_flight.specs.Counts.{same}
 use Rattle.peer_flight.specs.Laws.{IsFlight}
 use Rattle.peer_flight.proofs.ListSteps.{at_set, at_push}
 use Rattle.peer_flight.proofs.Sound.{Balances, Counted, outcomes}

@@ -1,18 +1,18 @@
 -- Each of the eight events keeps a world sound.
-use Rattle.std.proofs.Common.{◌≡◌, ◌≢◌, ℕ, ◌+◌, ◌<◌, ◌≤◌, Bool, true, false, List, [], ◌∷◌, ◌++◌, length, Option, Some, None, refl, ap, sym, subst, ◌∙◌, ◌⊎◌, inl, inr, arith}
-use Rattle.std.proofs.Math.ListN.{set, length-set}
+use Rattle.std.proofs.Common.{◌≡◌, ℕ, ◌+◌, Bool, true, false, List, [], ◌∷◌, ◌++◌, length, Option, Some, None, refl, ap, sym, subst, ◌∙◌, inl, inr, arith}
+use Rattle.std.proofs.Math.ListN.{set}
 use Rattle.std.proofs.lemmas.List.Elements.{All-set, All-weaker}
 use Rattle.std.proofs.lemmas.List.Sums.{sum_by-cons}
 use Rattle.std.proofs.lemmas.Option.{same_Some}
-use Rattle.std.specs.List.{slice_get, All, sum_by}
+use Rattle.std.specs.List.{slice_get, All}
 use Rattle.peer_source.specs.Answers.{Answer}
-use Rattle.peer_flight.specs.SingleFlight.{Place, State, IsSame, Leads, Joins, Lands}
-use Rattle.peer_flight.specs.World.{Wish, Ticket, Outcome, Unset, Answered, NoMemory, Flight, new_flight, Hand, Empty, WithTicket, WithRight, Worker, Idle, Filling, Landing, Written, Connection, World, in_hand}
-use Rattle.peer_flight.specs.Counts.{same, rights_in, filling, landing, hands, jobs, fillers, landers, spent}
-use Rattle.peer_flight.specs.Events.{Event, Want, JobPut, LanePut, JobTaken, OutcomeSet, Landed, OutcomeSeen, LaneTaken, pending, with_wish, JoinsFlight, LeadsFlight, Wants, PutsJob, PutsTicket, answered, RepliesBy, TakesBy, TakesAs, TakesJob, MayBring, SetsOutcome, LandsFlight, SeesOutcome, TakesTicket, GoesOn, Happens}
+use Rattle.peer_flight.specs.SingleFlight.{Place}
+use Rattle.peer_flight.specs.World.{Wish, Ticket, Outcome, Unset, Answered, NoMemory, Flight, new_flight, WithTicket, WithRight, Idle, Filling, Landing, Connection, World}
+use Rattle.peer_flight.specs.Counts.{same, rights_in, filling, landing, hands, jobs, fillers, landers}
+use Rattle.peer_flight.specs.Events.{Event, Want, JobPut, LanePut, JobTaken, OutcomeSet, Landed, OutcomeSeen, LaneTaken, pending, with_wish, JoinsFlight, LeadsFlight, Wants, PutsJob, PutsTicket, RepliesBy, TakesBy, TakesAs, TakesJob, MayBring, SetsOutcome, LandsFlight, SeesOutcome, TakesTicket, GoesOn, Happens}
 use Rattle.peer_flight.specs.Laws.{IsFlight, NamesItsPlace}
 use Rattle.peer_flight.proofs.ListSteps.{All_at, sum_set, sum_push, push_last}
-use Rattle.peer_flight.proofs.Sound.{outcomes, Balances, Counted, Tabled, IsGood, Allowed, Sound}
+use Rattle.peer_flight.proofs.Sound.{outcomes, IsGood, Sound}
 use Rattle.peer_flight.proofs.Counting.{same_self, counted_same_f, counted_same_l, counted_moved, counted_led, counted_taken, counted_set, counted_landed, unset_while_filling, open_while_landing}
 use Rattle.peer_flight.proofs.Tabling.{tabled_same, tabled_led, tabled_kept, tabled_landed, allowed_kept, allowed_led}
 use Rattle.peer_flight.proofs.Turning.{Grows, grows_push, grows_set, good_still, wanted_good, handed_good, put_good, taken_good, seen_good}

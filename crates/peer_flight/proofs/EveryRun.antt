@@ -1,5 +1,5 @@
 -- Every run from an empty world ends in a sound one, and what follows of a sound world.
-use Rattle.std.proofs.Common.{◌≡◌, ◌≢◌, ℕ, ◌+◌, ◌*◌, ◌<◌, ◌≤◌, ◌↔◌, Bool, true, false, cond, IsTrue, List, [], ◌∷◌, ◌++◌, length, get_or, replicate, Some, None, refl, ap, sym, subst, ◌∙◌, ◌⊎◌, inl, inr, arith}
+use Rattle.std.proofs.Common.{◌≡◌, ℕ, ◌+◌, ◌↔◌, Bool, true, false, cond, IsTrue, List, [], ◌∷◌, get_or, Some, refl, ap, sym, subst, ◌∙◌, ◌⊎◌, inl, inr, arith}
 use Rattle.std.proofs.Math.ListN.{set}
 use Rattle.std.proofs.lemmas.List.Elements.{All-weaker, All-replicate, All-nil}
 use Rattle.std.proofs.lemmas.List.Folds.{sum_by-replicate}
@@ -7,14 +7,13 @@ use Rattle.std.proofs.lemmas.Bool.{cases_eq}
 use Rattle.std.proofs.lemmas.Option.{none-some, same_Some, slice_get-get_or}
 use Rattle.std.specs.List.{slice_get, All}
 use Rattle.peer_source.specs.Answers.{Answer}
-use Rattle.peer_flight.specs.SingleFlight.{Place}
-use Rattle.peer_flight.specs.World.{Ticket, Outcome, Unset, Answered, NoMemory, Flight, Worker, Idle, Filling, Landing, Connection, new_connection, World, start, tickets_of}
-use Rattle.peer_flight.specs.Counts.{same, rights_in, filling, landing, hands, jobs, fillers, landers, spent}
-use Rattle.peer_flight.specs.Events.{Event, Happens, Run}
-use Rattle.peer_flight.specs.Laws.{Always, IsFlight, NamesItsPlace, IsServed, HasOutcome, HasOneRight, GoesOnce, Holds, TableIsExact, OpenFlightsDiffer, TicketsNameTheirPlaces, RightsStandOnce, TicketsAreServed, FlightsGoOnce, RepliesFollowOutcomes, WishesKeepOrder, WorkersDiffer, AnswersAreAllowed, IsAnswered}
+use Rattle.peer_flight.specs.World.{Outcome, Unset, Answered, NoMemory, Flight, Worker, Idle, Filling, Landing, Connection, new_connection, World, start, tickets_of}
+use Rattle.peer_flight.specs.Counts.{same, rights_in, filling, landing, fillers, landers}
+use Rattle.peer_flight.specs.Events.{Event, Run}
+use Rattle.peer_flight.specs.Laws.{Always, IsFlight, NamesItsPlace, IsServed, HasOutcome, Holds, TableIsExact, OpenFlightsDiffer, TicketsNameTheirPlaces, RightsStandOnce, TicketsAreServed, FlightsGoOnce, RepliesFollowOutcomes, WishesKeepOrder, WorkersDiffer, IsAnswered}
 use Rattle.peer_flight.proofs.ListSteps.{sum_set, set_else}
 use Rattle.peer_flight.proofs.Counting.{same_self}
-use Rattle.peer_flight.proofs.Sound.{outcomes, Balances, Counted, Tabled, IsGood, Sound}
+use Rattle.peer_flight.proofs.Sound.{outcomes, IsGood, Sound}
 use Rattle.peer_flight.proofs.EventSteps.{event_keeps}
 
 -- an empty world is sound

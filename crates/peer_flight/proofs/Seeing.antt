@@ -7,8 +7,8 @@ use Rattle.peer_source.specs.declared.fill.Outcome.TheVariants as source
 use Rattle.std.specs.Option.{IfSome}
 use Rattle.std.specs.List.{slice_get, slice_set}
 use Rattle.peer_flight.specs.SingleFlight.{Place, State}
-use Rattle.peer_flight.specs.World.{Ticket, Flight, Outcome, Connection, Written, World}
-use Rattle.peer_flight.specs.Events.{Wants, SeesOutcome, RepliesBy, answered, MayBring}
+use Rattle.peer_flight.specs.World.{Ticket, Flight, Connection, Written, World}
+use Rattle.peer_flight.specs.Events.{Wants, SeesOutcome, RepliesBy, MayBring}
 use Rattle.peer_flight.specs.WorldViews.{Brings, WantsAt, outcome_by}
 
 -- a source that had memory gave an answer

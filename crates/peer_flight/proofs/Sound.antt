@@ -1,11 +1,11 @@
 -- What every event keeps of a world: how often each flight stands where, what the table has, what each connection has.
-use Rattle.std.proofs.Common.{◌≡◌, ◌≢◌, ℕ, ◌+◌, ◌≤◌, Bool, false, List, length, Some, map}
-use Rattle.std.specs.List.{slice_get, All}
+use Rattle.std.proofs.Common.{◌≡◌, ℕ, ◌+◌, ◌≤◌, false, List, length, Some, map}
+use Rattle.std.specs.List.{All}
 use Rattle.peer_source.specs.Answers.{Answer}
 use Rattle.peer_flight.specs.SingleFlight.{Place, State}
 use Rattle.peer_flight.specs.World.{Ticket, Outcome, Unset, Answered, NoMemory, Flight, Connection, World, tickets_of}
 use Rattle.peer_flight.specs.Counts.{hands, jobs, fillers, landers, spent}
-use Rattle.peer_flight.specs.Laws.{IsFlight, NamesItsPlace, IsAnswered, AnswersAreAllowed}
+use Rattle.peer_flight.specs.Laws.{IsFlight, NamesItsPlace, IsAnswered}
 
 -- 1 where there is an outcome
 abbrev pub outcomes : Outcome → ℕ

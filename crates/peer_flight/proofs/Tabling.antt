@@ -1,12 +1,12 @@
 -- How the table and the flights go on together.
-use Rattle.std.proofs.Common.{◌≡◌, ◌≢◌, ℕ, ◌+◌, ◌<◌, ◌≤◌, List, [], ◌∷◌, ◌++◌, length, Some, None, refl, ap, sym, subst, ◌∙◌, ◌⊎◌, inl, inr, arith, length-append}
+use Rattle.std.proofs.Common.{◌≡◌, ◌≢◌, ℕ, ◌+◌, List, [], ◌∷◌, ◌++◌, length, Some, refl, ap, sym, subst, ◌∙◌, inl, inr, arith, length-append}
 use Rattle.std.proofs.Math.ListN.{set, length-set}
 use Rattle.std.specs.List.{slice_get}
-use Rattle.std.proofs.lemmas.Option.{none-some, same_Some, slice_get_within}
+use Rattle.std.proofs.lemmas.Option.{none-some, same_Some}
 use Rattle.std.proofs.lemmas.Bool.{cases_eq}
 use Rattle.peer_source.specs.Answers.{Answer}
 use Rattle.peer_flight.specs.SingleFlight.{Place, State, IsSame, Leads, Lands}
-use Rattle.peer_flight.specs.World.{Outcome, Unset, Answered, Flight, new_flight}
+use Rattle.peer_flight.specs.World.{Unset, Answered, Flight, new_flight}
 use Rattle.peer_flight.specs.Laws.{IsFlight}
 use Rattle.peer_flight.proofs.ListSteps.{at_set, set_here, set_else, at_push, push_keeps, push_last}
 use Rattle.peer_flight.proofs.PlaceCases.{cases_place}

@@ -1,17 +1,16 @@
 -- How a connection goes on, and what stays true of it as flights go on.
-use Rattle.std.proofs.Common.{◌≡◌, ◌≢◌, ℕ, ◌+◌, ◌<◌, ◌≤◌, Bool, true, false, List, [], ◌∷◌, ◌++◌, length, map, Option, Some, None, refl, ap, sym, subst, ◌∙◌, ◌⊎◌, inl, inr, arith, length-append, append_assoc, zero}
+use Rattle.std.proofs.Common.{◌≡◌, ℕ, ◌≤◌, Bool, true, false, List, [], ◌∷◌, ◌++◌, length, map, Option, Some, None, refl, ap, sym, subst, ◌∙◌, inl, inr, arith, length-append, append_assoc}
 use Rattle.std.proofs.Math.ListN.{set}
 use Rattle.std.proofs.lemmas.List.{append-nil, map-append}
-use Rattle.std.proofs.lemmas.List.Elements.{All-append, All-push, All-same, All-weaker, All-nil, All-cons}
+use Rattle.std.proofs.lemmas.List.Elements.{All-push, All-same, All-weaker}
 use Rattle.std.proofs.lemmas.Option.{none-some, same_Some}
 use Rattle.std.proofs.lemmas.Bool.{true≢false, cases_eq}
 use Rattle.std.specs.List.{slice_get, All}
 use Rattle.peer_source.specs.Answers.{Answer}
-use Rattle.peer_flight.specs.SingleFlight.{Place}
-use Rattle.peer_flight.specs.World.{Wish, Ticket, Outcome, Unset, Answered, NoMemory, Flight, new_flight, Hand, Empty, WithTicket, WithRight, Written, Connection, new_connection, in_hand, tickets_of}
-use Rattle.peer_flight.specs.Events.{ready, pending, with_wish, PutsHand, PutsReady, PutsTicket, answered, RepliesBy, SeesOutcome, TakesBy, TakesAs, TakesTicket}
+use Rattle.peer_flight.specs.World.{Wish, Ticket, Outcome, Unset, Answered, NoMemory, Flight, Hand, Empty, WithTicket, WithRight, Written, Connection, in_hand, tickets_of}
+use Rattle.peer_flight.specs.Events.{ready, with_wish, PutsTicket, answered, RepliesBy, SeesOutcome, TakesBy, TakesAs, TakesTicket}
 use Rattle.peer_flight.specs.Laws.{IsFlight, NamesItsPlace, IsAnswered}
-use Rattle.peer_flight.proofs.ListSteps.{at_set, set_here, set_else, push_keeps}
+use Rattle.peer_flight.proofs.ListSteps.{set_here, set_else, push_keeps}
 use Rattle.peer_flight.proofs.Sound.{IsGood}
 
 -- every flight is still there with its place, and with its answer if it had one

@@ -1,7 +1,7 @@
 -- At how many places of a world a flight stands.
-use Rattle.std.specs.Prelude.{ℕ, ◌==◌, Bool, cond, List}
+use Rattle.std.specs.Prelude.{ℕ, ◌==◌, cond, List}
 use Rattle.std.specs.List.{sum_by}
-use Rattle.peer_flight.specs.World.{World, Flight, Connection, Hand, Empty, WithTicket, WithRight, Worker, Idle, Filling, Landing}
+use Rattle.peer_flight.specs.World.{Flight, Connection, Hand, Empty, WithTicket, WithRight, Worker, Idle, Filling, Landing}
 
 -- 1 where both are the same number
 abbrev pub same : ℕ → ℕ → ℕ

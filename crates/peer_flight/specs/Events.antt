@@ -3,7 +3,7 @@ use Rattle.std.specs.Prelude.{◌≡◌, ℕ, ◌+◌, ◌<◌, Bool, true, fals
 use Rattle.std.specs.List.{slice_get, slice_set}
 use Rattle.peer_source.specs.Answers.{Answer}
 use Rattle.peer_flight.specs.SingleFlight.{Place, State, Leads, Joins, Lands}
-use Rattle.peer_flight.specs.World.{Wish, Ticket, Outcome, Unset, Answered, NoMemory, Flight, new_flight, Hand, Empty, WithTicket, WithRight, Worker, Idle, Filling, Landing, Written, Connection, World, start}
+use Rattle.peer_flight.specs.World.{Wish, Ticket, Outcome, Unset, Answered, NoMemory, Flight, new_flight, Hand, Empty, WithTicket, WithRight, Idle, Filling, Landing, Connection, World}
 
 -- the most jobs in the list
 abbrev pub JOBS : ℕ

@@ -1,9 +1,9 @@
 -- What holds after every list of events.
-use Rattle.std.specs.Prelude.{◌≡◌, ℕ, ◌+◌, ◌<◌, ◌≤◌, ◌↔◌, Bool, true, false, IsTrue, List, [], ◌∷◌, ◌++◌, length, Option, None, Some, All, map, ◌⊎◌}
+use Rattle.std.specs.Prelude.{◌≡◌, ℕ, ◌+◌, ◌≤◌, ◌↔◌, false, IsTrue, List, length, Some, All, map, ◌⊎◌}
 use Rattle.std.specs.List.{slice_get}
 use Rattle.peer_source.specs.Answers.{Answer}
-use Rattle.peer_flight.specs.SingleFlight.{Place, State}
-use Rattle.peer_flight.specs.World.{Wish, Ticket, Outcome, Unset, Answered, NoMemory, Flight, Worker, Idle, Filling, Landing, Written, Connection, World, start, tickets_of}
+use Rattle.peer_flight.specs.SingleFlight.{Place}
+use Rattle.peer_flight.specs.World.{Ticket, Outcome, Unset, Answered, NoMemory, Flight, Worker, Idle, Filling, Landing, Written, World, start, tickets_of}
 use Rattle.peer_flight.specs.Counts.{hands, jobs, fillers, spent}
 use Rattle.peer_flight.specs.Events.{Event, Run}
 

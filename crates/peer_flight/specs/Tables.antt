@@ -1,9 +1,8 @@
 -- What the calls of a table do to the state of single flight.
-use Rattle.std.specs.Prelude.{◌≡◌, ℕ, None, option_map}
+use Rattle.std.specs.Prelude.{◌≡◌, None, option_map}
 use Rattle.std.specs.HashMap.{get}
 use Rattle.peer_source.specs.declared.source.Source as Source
 use Rattle.peer_flight.specs.SingleFlight.{Place, place_eq, State, Joins, Leads}
-use Rattle.peer_flight.specs.Flights.{FlightId}
 use Rattle.peer_flight.specs.declared.table.Table.{Table}
 use Rattle.peer_flight.specs.declared.table.TheConstants.{MOST}
 use Rattle.peer_flight.specs.declared.table.Ask.{Ask}

@@ -1,5 +1,5 @@
 -- The world of a pool: what its connections and workers share, and what each has in its hands.
-use Rattle.std.specs.Prelude.{◌≡◌, ℕ, Bool, false, List, [], ◌∷◌, ◌++◌, Option, None, map, replicate}
+use Rattle.std.specs.Prelude.{ℕ, Bool, false, List, [], ◌∷◌, ◌++◌, Option, map, replicate}
 use Rattle.peer_source.specs.Answers.{Answer}
 use Rattle.peer_flight.specs.SingleFlight.{Place, State, no_flights}
 

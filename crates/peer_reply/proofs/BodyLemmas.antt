@@ -1,12 +1,9 @@
 -- Laws of bodies: what begins with one begins with no other.
-use Rattle.std.proofs.Common.{◌≡◌, ◌≢◌, ℕ, ◌+◌, ◌-◌, ◌*◌, ◌<◌, ◌≤◌, List, [], ◌∷◌, ◌++◌, length, drop, refl, sym, ◌∙◌, ap, subst, arith, append_assoc, append-nil, length-append}
-use Rattle.std.specs.Borrow.{Bor}
-use Rattle.std.specs.Prelude.{Result, Ok, Err}
+use Rattle.std.proofs.Common.{◌≡◌, ℕ, ◌<◌, ◌≤◌, List, [], ◌∷◌, ◌++◌, length, drop, refl, sym, ◌∙◌, ap, subst, arith, append_assoc, append-nil, length-append}
 use Rattle.peer_view.specs.declared.sink.TheConstants.{VALUE_LIMIT}
-use Rattle.peer_reply.specs.Bodies.{varint, body_of}
-use Rattle.peer_reply.specs.Responses.{IsBody, IsCutShort, HasOtherTag, HasBadLength, GoesOn, ReadsAs}
+use Rattle.peer_reply.specs.Bodies.{varint}
+use Rattle.peer_reply.specs.Responses.{IsBody, IsCutShort, HasOtherTag, HasBadLength, GoesOn}
 use Rattle.peer_reply.specs.Laws.{BodiesDiffer, HasOneFault, BodyHasNoFault}
-use Rattle.peer_reply.specs.declared.response.PbFault.{PbFault}
 use Rattle.peer_reply.specs.declared.response.PbFault.TheVariants as fault
 use Rattle.peer_reply.proofs.VarintLemmas.{HasForm, one, two, three, form_of}
 

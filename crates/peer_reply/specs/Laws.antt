@@ -1,5 +1,5 @@
 -- Laws of bodies, and of reading them.
-use Rattle.std.specs.Prelude.{◌≡◌, ℕ, ◌≤◌, List, [], ◌++◌, length, Result, Ok, Err}
+use Rattle.std.specs.Prelude.{◌≡◌, ℕ, ◌≤◌, List, [], ◌++◌, length, Ok, Err}
 use Rattle.std.specs.Borrow.{Bor}
 use Rattle.peer_view.specs.declared.sink.TheConstants.{VALUE_LIMIT}
 use Rattle.peer_reply.specs.Bodies.{body_of}

@@ -1,5 +1,5 @@
 -- What a list of bytes is beside the bodies of values (`GetResponse` of `groupcache.proto`).
-use Rattle.std.specs.Prelude.{◌≡◌, ◌≢◌, ℕ, ◌<◌, ◌≤◌, List, [], ◌∷◌, ◌++◌, length, Result, Ok, Err}
+use Rattle.std.specs.Prelude.{◌≡◌, ◌≢◌, ℕ, ◌<◌, ◌≤◌, List, ◌∷◌, ◌++◌, length, Result, Ok, Err}
 use Rattle.std.specs.Borrow.{Bor}
 use Rattle.peer_view.specs.declared.sink.TheConstants.{VALUE_LIMIT}
 use Rattle.peer_reply.specs.Bodies.{body_of}

@@ -1,5 +1,5 @@
 -- The texts of replies (RFC 9112, section 4; `ServeHTTP` of `http.go`).
-use Rattle.std.specs.Prelude.{ℕ, ◌+◌, Bool, cond, List, [], ◌∷◌, ◌++◌, length, codes, decimal}
+use Rattle.std.specs.Prelude.{ℕ, Bool, cond, List, [], ◌∷◌, ◌++◌, length, codes, decimal}
 use Rattle.std.specs.Borrow.{Bor}
 use Rattle.peer_source.specs.Answers.{Answer, Found, Failed}
 use Rattle.peer_reply.specs.declared.fault.Fault.{Fault}

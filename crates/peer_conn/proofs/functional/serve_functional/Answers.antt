@@ -1,6 +1,5 @@
 use Rattle.std.proofs.Common.{◌≡◌, ℕ, List, Option, subst}
 use mathlib.Core.Path.{fun_ext}
-use Rattle.peer_source.specs.Answers.{Answer}
 use Rattle.peer_conn.specs.Ends.{Serves, reading, writing}
 use Rattle.peer_conn.proofs.AnswerLemmas.{serves}
 use Rattle.peer_conn.proofs.HeadlineLemmas.{writes}

@@ -1,4 +1,4 @@
-use Rattle.std.proofs.Common.{◌≡◌, ◌+◌, ◌++◌, refl, arith, subst}
+use Rattle.std.proofs.Common.{◌≡◌, ◌+◌, arith, subst}
 use Rattle.std.proofs.lemmas.Grind.{common_steps}
 use Rattle.peer_conn.proofs.ServeLemmas.{runs_none, unfinished_none, runs_after, runs_on, serves_read_fault, serves_told, serves_spent, serves_closed, serves_memory, serves_write_fault}
 use Rattle.peer_conn.specs.Turns.{EndToldAs}

@@ -1,4 +1,4 @@
-use Rattle.std.proofs.Common.{List, ℕ, subst, sym}
+use Rattle.std.proofs.Common.{subst, sym}
 use Rattle.peer_reply.specs.Lengths.{IsCutLength}
 use Rattle.peer_reply.proofs.VarintLemmas.{nothing, cut_none}
 use Rattle.peer_reply.proofs.response.read_length.Goals as goal

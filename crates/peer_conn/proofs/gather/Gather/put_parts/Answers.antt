@@ -1,4 +1,4 @@
-use Rattle.std.proofs.Common.{◌≡◌, ◌+◌, ◌∙◌, drop, ap, refl}
+use Rattle.std.proofs.Common.{◌+◌, ◌∙◌, drop, ap, refl}
 use Rattle.peer_reply.specs.Texts.{joined}
 use Rattle.peer_conn.proofs.SendLemmas.{Moves-then, Moves-cut}
 use Rattle.peer_conn.proofs.gather.Gather.put_parts.Goals as goal

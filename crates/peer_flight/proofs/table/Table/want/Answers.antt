@@ -1,7 +1,7 @@
-use Rattle.std.proofs.Common.{◌≡◌, ◌+◌, ◌<◌, Some, None, ap, sym, ◌∙◌, refl, inl, inr, arith}
+use Rattle.std.proofs.Common.{◌≡◌, Some, None, ap, sym, ◌∙◌, refl, inl, inr, arith}
 use Rattle.std.proofs.lemmas.Option.{same_Some}
 use Rattle.std.specs.HashMap.{get}
-use Rattle.peer_flight.specs.SingleFlight.{Place, place_of, place_eq}
+use Rattle.peer_flight.specs.SingleFlight.{place_of, place_eq}
 use Rattle.peer_flight.specs.Flights.{FlightId}
 use Rattle.peer_flight.proofs.EntryNumbers.{number_at, at_place, at_other, entry_cases}
 use Rattle.peer_flight.proofs.table.Table.want.Goals as goal

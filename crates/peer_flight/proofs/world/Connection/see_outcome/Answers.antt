@@ -1,10 +1,10 @@
-use Rattle.std.proofs.Common.{◌≡◌, true, List, [], ◌∷◌, ◌++◌, Option, Some, None, get_or, ap, sym, subst, ◌∙◌, refl}
+use Rattle.std.proofs.Common.{◌≡◌, true, [], ◌∷◌, ◌++◌, Option, Some, None, get_or, ap, sym, subst, ◌∙◌, refl}
 use Rattle.std.proofs.lemmas.Bool.{ltb-true}
 use Rattle.peer_source.specs.Answers.{Answer, Filled}
 use Rattle.peer_source.specs.Outcomes.{answer_of}
-use Rattle.peer_flight.specs.World.{Connection, Ticket, Written}
+use Rattle.peer_flight.specs.World.{Connection}
 use Rattle.peer_flight.specs.Events.{SeesOutcome}
-use Rattle.peer_flight.specs.WorldViews.{hand_of, Brings, answer_in}
+use Rattle.peer_flight.specs.WorldViews.{hand_of, Brings}
 use Rattle.peer_flight.proofs.Seeing.{answer_there, end_seen, answer_seen, first_of}
 use Rattle.peer_flight.proofs.world.Connection.see_outcome.Goals as goal
 

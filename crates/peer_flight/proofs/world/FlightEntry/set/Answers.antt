@@ -1,8 +1,7 @@
-use Rattle.std.proofs.Common.{◌≡◌, ◌+◌, ℕ, List, Some, true, refl, subst, ap, ◌∙◌}
+use Rattle.std.proofs.Common.{◌+◌, true, refl, subst, ap, ◌∙◌}
 use Rattle.std.specs.Option.{IfSome}
-use Rattle.peer_source.specs.Answers.{Answer}
 use Rattle.peer_flight.specs.World.{Flight}
-use Rattle.peer_flight.specs.WorldViews.{Sets, outcome_of, outcome_by}
+use Rattle.peer_flight.specs.WorldViews.{outcome_by}
 use Rattle.peer_flight.proofs.Seeing.{may_bring}
 use Rattle.peer_flight.proofs.world.FlightEntry.set.Goals as goal
 
