@@ -2,7 +2,7 @@
 ghost use Rattle.std.specs.Prelude.{true, ◌≡◌, ℕ, ◌+◌, ◌-◌, ◌^◌, ◌<◌};
 ghost use Rattle.peer_head.specs.Blocks.{IsUnfinished};
 
-use peer_head::{HeadBuf, Look};
+use peer_head::{FieldPlaces, HeadBuf, Look};
 use peer_view::{PeerRead, ReadFailed};
 
 /// How many reads are made at most.
@@ -22,6 +22,7 @@ pub fn count_heads<R: PeerRead + Drop>(held: HeadBuf, reader: R) -> (u64, Stop)
     requires { R.calls reader + READS < 2 ^ 64 }
 {
     let mut held = held;
+    let mut places = FieldPlaces::new();
     let mut reader = reader;
     let mut count = 0;
     for made in 0..READS {
@@ -30,7 +31,7 @@ pub fn count_heads<R: PeerRead + Drop>(held: HeadBuf, reader: R) -> (u64, Stop)
             Ok(0) => return (count, Stop::Ended),
             Ok(_) => {}
         }
-        if !take_heads(&mut held, &mut count) {
+        if !take_heads(&mut held, &mut places, &mut count) {
             return (count, Stop::Fault);
         }
     }
@@ -52,16 +53,17 @@ fn read_more<R: PeerRead>(held: &mut HeadBuf, reader: &mut R) -> Result<usize, R
 }
 
 // Takes the heads that are held off the front, up to a fault, and tells whether there was none.
-fn take_heads(held: &mut HeadBuf, count: &mut u64) -> bool
+fn take_heads(held: &mut HeadBuf, places: &mut FieldPlaces, count: &mut u64) -> bool
     ensures { result ≡ true → IsUnfinished held.new.held }
 {
     loop {
-        match held.look() {
+        let (look, len) = held.look(places);
+        match look {
             Look::Need => return true,
             Look::Head(_) => {}
             Look::Fault(..) => return false,
         }
-        held.drop_front();
+        held.drop_front(len);
         *count = count.saturating_add(1);
     }
 }

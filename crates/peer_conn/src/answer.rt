@@ -1,12 +1,13 @@
 //! Replies to the wishes that are held.
 ghost use Rattle.std.specs.Prelude.{true, ◌≡◌, ℕ, ◌+◌, ◌-◌, ◌^◌, ◌<◌, []};
+ghost use Rattle.peer_head.specs.Blocks.{IsFrontLength};
 ghost use Rattle.peer_conn.specs.Wishes.{MOST, closes_after, get_wish};
 ghost use Rattle.peer_conn.specs.Sending.{sending};
 ghost use Rattle.peer_conn.specs.Turns.{PutsReply, Puts, IsNextWish, Turns, Handles};
 
 use crate::gather::Gather;
 use crate::wish::next_wish;
-use peer_head::HeadBuf;
+use peer_head::{FieldPlaces, HeadBuf};
 use peer_reply::{Reply, Wish, WishBody};
 use peer_source::{Fill, GroupId, Names, Source};
 use peer_view::{ByteView, PeerWrite};
@@ -108,11 +109,12 @@ fn closing(wish: Wish) -> Wish
     }
 }
 
-// Answers the next wish of the bytes held, after `count` replies.
+// Answers the next wish of the bytes held, whose block takes `len` bytes of them, after `count` replies.
 fn answer_next<S: Source, W: PeerWrite>(
     alloc: Global,
     source: &S,
     wish: Wish,
+    len: usize,
     held: &mut HeadBuf,
     out: &mut Gather<W>,
     count: u64,
@@ -120,6 +122,7 @@ fn answer_next<S: Source, W: PeerWrite>(
     requires failures { W.failures out.old.writer < 2 ^ 64 - 1 }
     requires count { count < MOST }
     requires next { IsNextWish (S.number_of source.now) held.old.held wish }
+    requires front { IsFrontLength held.old.held len }
     ensures { Turns (S.number_of source.now) (S.answers source.now) count held.old.held held.new.held (sending W.failures W.taken out.old out.new) result }
 {
     if closes_after(count, wish.closing) {
@@ -129,7 +132,7 @@ fn answer_next<S: Source, W: PeerWrite>(
             Put::WriteFault => Turn::WriteFault,
         };
     }
-    held.drop_front();
+    held.drop_front(len);
     match put_wish(alloc, source, wish, out) {
         Put::Done => Turn::More,
         Put::Memory => Turn::Memory,
@@ -142,6 +145,7 @@ fn answer_one<S: Source, W: PeerWrite>(
     alloc: Global,
     source: &S,
     held: &mut HeadBuf,
+    places: &mut FieldPlaces,
     out: &mut Gather<W>,
     count: u64,
 ) -> Turn
@@ -149,10 +153,12 @@ fn answer_one<S: Source, W: PeerWrite>(
     requires count { count < MOST }
     ensures { Turns (S.number_of source.now) (S.answers source.now) count held.old.held held.new.held (sending W.failures W.taken out.old out.new) result }
 {
-    match next_wish(alloc, &Names::of(source), held) {
-        Ok(Some(wish)) => answer_next(alloc, source, wish, held, out, count),
-        Ok(None) => Turn::Need,
-        Err(_) => Turn::Memory,
+    let Ok((next, len)) = next_wish(alloc, &Names::of(source), held, places) else {
+        return Turn::Memory;
+    };
+    match next {
+        Some(wish) => answer_next(alloc, source, wish, len, held, out, count),
+        None => Turn::Need,
     }
 }
 
@@ -161,6 +167,7 @@ fn answer_held<S: Source, W: PeerWrite>(
     alloc: Global,
     source: &S,
     held: &mut HeadBuf,
+    places: &mut FieldPlaces,
     out: &mut Gather<W>,
     count: &mut u64,
 ) -> Turn
@@ -169,7 +176,7 @@ fn answer_held<S: Source, W: PeerWrite>(
     ensures { Handles (S.number_of source.now) (S.answers source.now) count.old count.new held.old.held held.new.held (sending W.failures W.taken out.old out.new) result }
 {
     loop {
-        match answer_one(alloc, source, held, out, *count) {
+        match answer_one(alloc, source, held, places, out, *count) {
             Turn::More => *count += 1,
             turn => return turn,
         }
@@ -181,6 +188,7 @@ pub(crate) fn answer_flushed<S: Source, W: PeerWrite>(
     alloc: Global,
     source: &S,
     held: &mut HeadBuf,
+    places: &mut FieldPlaces,
     out: &mut Gather<W>,
     count: &mut u64,
 ) -> Turn
@@ -189,7 +197,7 @@ pub(crate) fn answer_flushed<S: Source, W: PeerWrite>(
     ensures handles { Handles (S.number_of source.now) (S.answers source.now) count.old count.new held.old.held held.new.held (sending W.failures W.taken out.old out.new) result }
     ensures empty { out.new.gathered.items ≡ [] }
 {
-    let turn = answer_held(alloc, source, held, out, count);
+    let turn = answer_held(alloc, source, held, places, out, count);
     if let Turn::WriteFault = turn {
         out.clear();
         return turn;

@@ -1,9 +1,11 @@
 //! What a request asks for.
-ghost use Rattle.std.specs.Prelude.{◌≡◌, IfOk};
+ghost use Rattle.std.specs.Prelude.{◌≡◌, ℕ, List, IfOk};
+ghost use Rattle.peer_head.specs.Blocks.{IsFrontLength};
+ghost use Rattle.peer_head.specs.Looks.{LooksAs};
 ghost use Rattle.peer_conn.specs.Wishes.{head_wish, head_body, target_body, in_group, fault_of, fault_wish, is_served};
 ghost use Rattle.peer_conn.specs.Turns.{IsNext};
 
-use peer_head::{HeadBuf, HeadFault, HeadView, Look};
+use peer_head::{FieldPlaces, HeadBuf, HeadFault, HeadView, Look};
 use peer_path::{PathFault, locate};
 use peer_reply::{Fault, Wish, WishBody};
 use peer_source::{Names, Source};
@@ -94,15 +96,15 @@ fn fault_of(fault: HeadFault) -> Fault
     }
 }
 
-/// The next wish of the bytes held, none where they are unfinished.
-pub(crate) fn next_wish<S: Source>(
+// What a look at a text asks for, none where the text is unfinished.
+fn seen_wish<S: Source>(
     alloc: Global,
     names: &Names<'_, S>,
-    held: &HeadBuf,
+    look: Look<'_>,
 ) -> Result<Option<Wish>, AllocError>
-    ensures { IfOk result (IsNext (S.number_of names.now) held.now.held) }
+    ensures { IfOk result (λ next. (text : List ℕ) → LooksAs text look.entry → IsNext (S.number_of names.now) text next) }
 {
-    match held.look() {
+    match look {
         Look::Need => Ok(None),
         Look::Fault(fault, bare) => Ok(Some(Wish {
             body: WishBody::Fault(fault_of(fault)),
@@ -111,4 +113,19 @@ pub(crate) fn next_wish<S: Source>(
         })),
         Look::Head(head) => Ok(Some(wish_of(alloc, names, &head)?)),
     }
+}
+
+/// The next wish of the bytes held, none where they are unfinished, and how many bytes the first block takes with the
+/// pairs before it.
+pub(crate) fn next_wish<S: Source>(
+    alloc: Global,
+    names: &Names<'_, S>,
+    held: &HeadBuf,
+    places: &mut FieldPlaces,
+) -> Result<(Option<Wish>, usize), AllocError>
+    ensures next { IfOk result (λ next. IsNext (S.number_of names.now) held.now.held next.0) }
+    ensures front { IfOk result (λ next. IsFrontLength held.now.held next.1) }
+{
+    let (look, len) = held.look(places);
+    Ok((seen_wish(alloc, names, look)?, len))
 }

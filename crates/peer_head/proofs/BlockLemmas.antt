@@ -6,9 +6,7 @@ use Rattle.std.proofs.lemmas.List.Folds.{drop_split}
 use Rattle.memchr.specs.Find.{OccursAt, NoneBefore, Nowhere}
 use Rattle.memchr.proofs.lemmas.MatchLemmas.{OccursAt-part, OccursAt-from_part}
 use Rattle.peer_head.specs.Blocks.{Begins, LIMIT, pairs, pair, blank_line, HasNoBlock, IsPastPairs}
-use Rattle.peer_head.specs.declared.block.Cut.{Cut}
-use Rattle.peer_head.specs.declared.block.Cut.TheVariants.{Unfinished, TooLong, Block}
-use Rattle.peer_head.specs.Cuts.{IsBlockAt, IsCutOf}
+use Rattle.peer_head.specs.Cuts.{IsBlockAt}
 
 -- the bytes up to `at` are pairs
 pub record PairsBefore (t : List ℕ) (at : ℕ) : Type 0 where
@@ -118,9 +116,3 @@ pub far_blank_line : (t : List ℕ) (s k : ℕ) → IsPastPairs t s → NoneBefo
 far_blank_line t s k h none far b r x =
     let l = lies_at t b r s h x in
     none.before l.k (omega arith) (omega (arith, l.fits, far)) l.occurs
-
--- a cut that is no block says that there is none
-pub no_cut : (t : List ℕ) (cut : Cut) → ((start end : ℕ) → cut ≢ Block start end) → IsCutOf t cut → HasNoBlock t
-no_cut t Unfinished other h = h.none
-no_cut t TooLong other h = h.none
-no_cut t (Block start end) other h = absurd (other start end refl)

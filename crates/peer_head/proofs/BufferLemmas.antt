@@ -29,6 +29,10 @@ back_part xs h f i e n = ap (drop i) e ∙ ap (λ k. drop k (h ++ f)) n ∙ drop
 pub piece_length : (xs : List ℕ) (s i : ℕ) → s + i ≤ length xs → i ≡ length (take i (drop s xs))
 piece_length xs s i le = sym (length-take-le i (drop s xs) (omega (arith, length-drop s xs)))
 
+-- a front of a piece is no longer than the piece
+pub piece_within : (xs piece : List ℕ) (s i e : ℕ) → s + i ≤ length xs → take i (drop s xs) ≡ piece → e ≤ length piece → e ≤ i
+piece_within xs piece s i e fits is le = omega (arith, piece_length xs s i fits, ap length is, le)
+
 -- the parts of a buffer after the loan of what is behind its first i bytes
 pub lent_parts : (xs ys h f w : List ℕ) (i : ℕ) → i ≡ length h → xs ≡ h ++ f → ys ≡ take i xs ++ fitted (drop i xs) w → (take (i - 0) ys ≡ h) × (drop (i - 0) ys ≡ fitted f w)
 lent_parts xs ys h f w i n e same =

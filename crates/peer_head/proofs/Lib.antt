@@ -9,3 +9,4 @@ pub mod LookSearch
 pub mod PairLemmas
 pub mod ParseLemmas
 pub mod TallyLemmas
+pub mod VisibleLemmas

@@ -1,5 +1,5 @@
 -- How far CR and LF stand in pairs.
-use Rattle.std.proofs.Common.{◌≡◌, ◌≢◌, ℕ, ◌+◌, ◌-◌, ◌<◌, Bool, true, false, not, eqb, List, length, get_or, refl, sym, ◌∙◌, ap, arith, inl, inr}
+use Rattle.std.proofs.Common.{◌≡◌, ◌≢◌, ℕ, ◌+◌, ◌-◌, ◌<◌, Bool, true, false, not, eqb, List, length, get_or, refl, sym, ◌∙◌, ap, subst, arith, ◌⊎◌, inl, inr, ◌||◌, ◌↔◌, IsTrue}
 use Rattle.std.proofs.lemmas.Bool.{cases_lt, cases_Bool, cases_eq, eqb-true, eq-eqb, ne_eqb, false≢true}
 use Rattle.std.proofs.Math.Bool.{beq}
 use Rattle.std.specs.Cmp.{booleans_Decides}
@@ -137,3 +137,27 @@ pub paired_hangs : (xs : List ℕ) (i : ℕ) → i ≡ length xs → PairedUpTo 
 paired_hangs xs i n h p =
     let a = h.waiting refl in
     zero_not 10 (sym (get_or_past xs (a.place + 1) 0 (omega (arith, a.next, n))) ∙ p.cr a.place a.is_cr) (omega arith)
+
+-- the bytes before a place are paired so far, or all of them are not, whatever follows
+abbrev pub Judged : List ℕ → ℕ → Bool → Bool → Type 0
+Judged xs i odd waits = ((odd ≡ false) × PairedUpTo xs i waits) ⊎ ((odd ≡ true) × (IsPaired xs → ⊥))
+
+-- one byte more
+pub judged_more : (xs : List ℕ) (i : ℕ) (odd waits : Bool) → Judged xs i odd waits → Judged xs (i + 1) (odd || not (beq (eqb (get_or xs i 0) 10) waits)) (eqb (get_or xs i 0) 13)
+judged_more xs i odd waits (inr k) = inr (ap (λ (b : Bool). b || not (beq (eqb (get_or xs i 0) 10) waits)) k.0, k.1)
+judged_more xs i odd waits (inl k) =
+    let differ : Bool = not (beq (eqb (get_or xs i 0) 10) waits) in
+    elim (cases_Bool differ) as (λ _. Judged xs (i + 1) (odd || differ) (eqb (get_or xs i 0) 13)) [
+      | inl e ↦ inr (ap (λ (b : Bool). b || differ) k.0 ∙ e, paired_stops xs i waits k.1 (differing _ _ e))
+      | inr e ↦ inl (ap (λ (b : Bool). b || differ) k.0 ∙ e, paired_more xs i waits k.1 (not_differing _ _ e))
+    ]
+
+-- no byte is odd and no CR waits at the end
+pub judged_whole : (xs : List ℕ) (i : ℕ) (odd waits : Bool) → i ≡ length xs → Judged xs i odd waits → IsTrue (not (odd || waits)) ↔ IsPaired xs
+judged_whole xs i odd waits n (inr k) = (λ e. absurd (false≢true (sym (ap (λ (b : Bool). not (b || waits)) k.0) ∙ e)), λ p. absurd (k.1 p))
+judged_whole xs i odd waits n (inl k) =
+    let first : not (odd || waits) ≡ not waits = ap (λ (b : Bool). not (b || waits)) k.0 in
+    elim (cases_Bool waits) as (λ _. IsTrue (not (odd || waits)) ↔ IsPaired xs) [
+      | inl w ↦ (λ e. absurd (false≢true (sym (first ∙ ap not w) ∙ e)), λ p. absurd (paired_hangs xs i n (subst (λ (b : Bool). PairedUpTo xs i b) w k.1) p))
+      | inr w ↦ (λ e. paired_whole xs i n (subst (λ (b : Bool). PairedUpTo xs i b) w k.1), λ p. first ∙ ap not w)
+    ]

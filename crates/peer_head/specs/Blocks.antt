@@ -33,6 +33,10 @@ pub record Begins (t block rest : List ℕ) : Type 0 where
 abbrev pub HasBlock : List ℕ → Type 0
 HasBlock t = (block : List ℕ) × ((rest : List ℕ) × Begins t block rest)
 
+-- the first block and the pairs before it take n bytes, if the text begins with a block
+abbrev pub IsFrontLength : List ℕ → ℕ → Type 0
+IsFrontLength t n = (block rest : List ℕ) → Begins t block rest → (n ≤ length t) × (rest ≡ drop n t)
+
 -- a text begins with no block
 abbrev pub HasNoBlock : List ℕ → Type 0
 HasNoBlock t = (block rest : List ℕ) → ¬ (Begins t block rest)

@@ -4,11 +4,11 @@
 //! grows; what is held moves to its front when the free part is lent.
 ghost use Rattle.std.specs.Prelude.{◌≡◌, ℕ, ◌+◌, ◌-◌, ◌<◌, ◌≤◌, List, [], ◌++◌, length, take, drop, IfOk};
 ghost use Rattle.std.specs.Borrow.{sem};
-ghost use Rattle.peer_head.specs.Blocks.{HasBlock, Begins};
+ghost use Rattle.peer_head.specs.Blocks.{HasBlock, Begins, IsFrontLength};
 ghost use Rattle.peer_head.specs.Looks.{LooksAs};
 
-use crate::block::{Cut, find_block};
 use crate::look::{Look, look_at};
+use crate::places::FieldPlaces;
 use std::alloc::{AllocError, Global};
 use std::marker::Model;
 
@@ -84,24 +84,24 @@ impl HeadBuf {
         &self.bytes[self.start..self.end]
     }
 
-    /// What the bytes held are.
-    pub fn look(&self) -> Look<'_>
-        ensures look { LooksAs self.now.held result }
-        ensures room { result ≡ Look.Need → 0 < length self.now.free }
+    /// What the bytes held are, and how many of them the first block takes with the pairs before it, 0 where there is no
+    /// block. Where the fields of a head stand is written into `places`.
+    pub fn look<'b>(&'b self, places: &'b mut FieldPlaces) -> (Look<'b>, usize)
+        ensures look { LooksAs self.now.held result.0 }
+        ensures front { IsFrontLength self.now.held result.1 }
+        ensures room { result.0 ≡ Look.Need → 0 < length self.now.free }
     {
-        look_at(self.rest())
+        look_at(self.rest(), &mut places.places)
     }
 
-    /// Drops the first block, and the pairs CR LF before it.
-    pub fn drop_front(&mut self)
-        requires { HasBlock self.old.held }
+    /// Drops the first block, and the pairs CR LF before it, which take `len` bytes.
+    pub fn drop_front(&mut self, len: usize)
+        requires block { HasBlock self.old.held }
+        requires len { IsFrontLength self.old.held len }
         ensures rest { (block : List ℕ) × Begins self.old.held block self.new.held }
         ensures within { length self.new.held + length self.new.free ≡ HEAD_LIMIT }
     {
-        match find_block(self.rest()) {
-            Cut::Block { end, .. } => self.start += end,
-            _ => unreachable!(),
-        }
+        self.start += len;
     }
 }
 

@@ -1,7 +1,7 @@
 //! A request head, lent out of the bytes that hold it.
 //!
 //! Contracts see its parts: the method, the target, the version and the fields. It copies no byte of
-//! the block, and keeps where the parts stand.
+//! the block, and keeps where the parts stand; where its fields stand is lent too.
 ghost use Rattle.std.specs.Prelude.{◌≡◌, ◌<◌, ◌≤◌, length, map, slice_get, All, bytes_eq, codes};
 ghost use Rattle.httparse.specs.Spans.{IsHeaderWithin, IsRequestWithin};
 ghost use Rattle.peer_head.specs.Views.{field_at, parts_at};
@@ -15,7 +15,7 @@ use std::marker::Model;
 pub struct HeadView<'b> {
     block: &'b [u8],
     spans: RequestSpans,
-    fields: [HeaderSpan; MOST_FIELDS],
+    fields: &'b [HeaderSpan],
     closing: bool,
 }
 
@@ -26,9 +26,9 @@ impl<'b> Model for HeadView<'b> {
 
     ghost use Rattle.peer_head.specs.Views.{parts_at, IsViewOf};
 
-    ghost view = { λ v. parts_at v.block.now v.fields v.spans };
+    ghost view = { λ v. parts_at v.block.now v.fields.now v.spans };
 
-    ghost invariant = { λ v. IsViewOf v.block.now v.fields v.spans v.closing };
+    ghost invariant = { λ v. IsViewOf v.block.now v.fields.now v.spans v.closing };
 }
 
 impl<'b> HeadView<'b> {
@@ -38,12 +38,13 @@ impl<'b> HeadView<'b> {
     pub(crate) fn new(
         block: &'b [u8],
         spans: RequestSpans,
-        fields: [HeaderSpan; MOST_FIELDS],
+        fields: &'b [HeaderSpan],
         closing: bool,
     ) -> HeadView<'b>
-        requires within { IsRequestWithin block.now fields spans }
-        requires closes { closing ≡ is_closing (parts_at block.now fields spans) }
-        ensures { result ≡ parts_at block.now fields spans }
+        requires within { IsRequestWithin block.now fields.now spans }
+        requires few { length fields.now ≡ MOST_FIELDS }
+        requires closes { closing ≡ is_closing (parts_at block.now fields.now spans) }
+        ensures { result ≡ parts_at block.now fields.now spans }
     {
         HeadView {
             block,

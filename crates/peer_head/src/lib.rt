@@ -18,12 +18,14 @@ mod idle;
 pub mod laws;
 mod look;
 mod parse;
+mod places;
 mod tally;
 
 pub use buffer::{HEAD_LIMIT, HeadBuf};
 pub use fault::HeadFault;
 pub use head::HeadView;
 pub use look::Look;
+pub use places::FieldPlaces;
 
 #[cfg(test)]
 mod tests;

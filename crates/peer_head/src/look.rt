@@ -1,14 +1,16 @@
 //! What the bytes at the front of a stream are: the cut, the parser and the rules on heads in turn.
-ghost use Rattle.std.specs.Prelude.{List, ℕ};
-ghost use Rattle.peer_head.specs.Blocks.{Begins};
+ghost use Rattle.std.specs.Prelude.{◌≡◌, List, ℕ, length};
+ghost use Rattle.peer_head.specs.Blocks.{Begins, IsFrontLength};
+ghost use Rattle.peer_head.specs.Heads.{MOST_FIELDS};
 ghost use Rattle.peer_head.specs.Looks.{LooksAs};
+ghost use Rattle.peer_head.specs.Views.{IsHeadAt};
 
 use crate::block::{Cut, find_block};
 use crate::fault::HeadFault;
 use crate::head::{HeadView, is_bare};
-use crate::parse::{MOST_FIELDS, parse_head};
+use crate::parse::parse_head;
 use crate::tally::tally_of;
-use httparse::spans::EMPTY_HEADER_SPAN;
+use httparse::spans::{HeaderSpan, RequestSpans};
 
 /// What the bytes at the front of a stream are.
 #[derive(Drop)]
@@ -20,26 +22,36 @@ pub enum Look<'b> {
     Fault(HeadFault, bool),
 }
 
-/// Looks at the first block of the text.
-pub fn look_at(text: &[u8]) -> Look<'_>
-    ensures { LooksAs text.now result }
+/// Looks at the first block of the text, and tells how many bytes it takes with the pairs before it.
+pub fn look_at<'b>(text: &'b [u8], places: &'b mut [HeaderSpan]) -> (Look<'b>, usize)
+    requires { length places.old ≡ MOST_FIELDS }
+    ensures look { LooksAs text.now result.0 }
+    ensures front { IsFrontLength text.now result.1 }
 {
     match find_block(text) {
-        Cut::Unfinished => Look::Need,
-        Cut::TooLong => Look::Fault(HeadFault::TooLong, false),
-        Cut::Block { start, end } => look_at_block(&text[start..end]),
+        Cut::Unfinished => (Look::Need, 0),
+        Cut::TooLong => (Look::Fault(HeadFault::TooLong, false), 0),
+        Cut::Block { start, end } => (look_at_block(&text[start..end], places), end),
     }
 }
 
 /// Reads a block, and asks the rules on heads.
-fn look_at_block(block: &[u8]) -> Look<'_>
+fn look_at_block<'b>(block: &'b [u8], places: &'b mut [HeaderSpan]) -> Look<'b>
+    requires { length places.old ≡ MOST_FIELDS }
     ensures { (text rest : List ℕ) → Begins text block.now rest → LooksAs text result }
 {
-    let mut fields = [EMPTY_HEADER_SPAN; MOST_FIELDS];
-    let spans = match parse_head(block, &mut fields) {
-        Some(spans) => spans,
-        None => return Look::Fault(HeadFault::NotAHead, false),
-    };
+    match parse_head(block, places) {
+        Some(spans) => judge(block, spans, places),
+        None => Look::Fault(HeadFault::NotAHead, false),
+    }
+}
+
+/// Asks the rules on heads of a block that is one.
+fn judge<'b>(block: &'b [u8], spans: RequestSpans, fields: &'b [HeaderSpan]) -> Look<'b>
+    requires head { IsHeadAt block.now fields.now spans }
+    requires few { length fields.now ≡ MOST_FIELDS }
+    ensures { (text rest : List ℕ) → Begins text block.now rest → LooksAs text result }
+{
     let tally = tally_of(block, &fields[..spans.headers]);
     match tally.fault(spans.version) {
         Some(fault) => Look::Fault(fault, is_bare(spans.method.of(block))),

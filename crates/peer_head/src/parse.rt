@@ -34,23 +34,27 @@ pub fn parse_head(block: &[u8], fields: &mut [HeaderSpan]) -> Option<RequestSpan
 }
 
 /// Whether each CR and each LF stands in a pair CR LF.
+///
+/// It has no early way out, so that a compiler may compare many bytes at once.
 fn is_paired(bytes: &[u8]) -> bool
     ensures { IsTrue result ↔ IsPaired bytes.now }
 {
+    let mut is_odd = false;
     let mut after_cr = false;
     for b in bytes {
-        let is_lf = *b == b'\n';
-        if is_lf != after_cr {
-            return false;
-        }
+        is_odd = is_odd | ((*b == b'\n') != after_cr);
         after_cr = *b == b'\r';
     }
-    !after_cr
+    !(is_odd | after_cr)
 }
 
-/// Whether each byte is visible ASCII.
+/// Whether each byte is visible ASCII, again with no early way out.
 fn is_visible(bytes: &[u8]) -> bool
     ensures { IsTrue result ↔ All IsVisible bytes.now }
 {
-    bytes.iter().all(|b| b.is_ascii_graphic())
+    let mut visible = true;
+    for b in bytes {
+        visible = visible & b.is_ascii_graphic();
+    }
+    visible
 }

@@ -1,7 +1,7 @@
 //! Worked heads, in one piece and byte by byte.
 ghost use Rattle.std.specs.Prelude.{◌≡◌, ◌≤◌, ◌++◌, length, take};
 
-use crate::{HeadBuf, HeadFault, Look};
+use crate::{FieldPlaces, HeadBuf, HeadFault, Look};
 use std::alloc::AllocError;
 use std::test::Fail;
 
@@ -48,18 +48,19 @@ fn seen_whole(rt: &HostRuntime, text: &[u8]) -> Result<&'static str, AllocError>
     let mut buf = HeadBuf::new(rt.alloc())?;
     let room = buf.room().len();
     feed(&mut buf, &text[..text.len().min(room)]);
-    Ok(word_of(&buf.look()))
+    Ok(word_of(&buf.look(&mut FieldPlaces::new()).0))
 }
 
 // The same byte by byte, by the first look that needs no more.
 fn seen_by_bytes(rt: &HostRuntime, text: &[u8]) -> Result<&'static str, AllocError> {
     let mut buf = HeadBuf::new(rt.alloc())?;
+    let mut places = FieldPlaces::new();
     for b in text {
         if buf.room().is_empty() {
             return Ok("no room");
         }
         feed(&mut buf, &[*b]);
-        let word = word_of(&buf.look());
+        let word = word_of(&buf.look(&mut places).0);
         if word != "need" {
             return Ok(word);
         }
@@ -70,7 +71,7 @@ fn seen_by_bytes(rt: &HostRuntime, text: &[u8]) -> Result<&'static str, AllocErr
 #[test]
 fn a_new_buffer_has_room(rt: HostRuntime) -> Result<(), Fail> {
     let mut buf = HeadBuf::new(rt.alloc())?;
-    assert_eq!(rt; word_of(&buf.look()), "need");
+    assert_eq!(rt; word_of(&buf.look(&mut FieldPlaces::new()).0), "need");
     assert_eq!(rt; buf.rest(), b"".as_slice());
     assert_eq!(rt; buf.room().len(), 16384);
     Ok(())
@@ -81,12 +82,13 @@ fn a_head_is_seen_at_its_last_byte(rt: HostRuntime) -> Result<(), Fail> {
     let text =
         b"GET /_groupcache/echo/k HTTP/1.1\r\nHost: 10.0.0.2:8000\r\nUser-Agent: Go-http-client/1.1\r\nAccept-Encoding: gzip\r\n\r\n".as_slice();
     let mut buf = HeadBuf::new(rt.alloc())?;
+    let mut places = FieldPlaces::new();
     for b in text {
-        assert_eq!(rt; word_of(&buf.look()), "need");
+        assert_eq!(rt; word_of(&buf.look(&mut places).0), "need");
         assert!(rt; !buf.room().is_empty());
         feed(&mut buf, &[*b]);
     }
-    let Look::Head(view) = buf.look() else {
+    let (Look::Head(view), _) = buf.look(&mut places) else {
         return Err("no head".into());
     };
     assert_eq!(rt; view.method(), b"GET".as_slice());
@@ -103,7 +105,7 @@ fn a_head_is_seen_at_its_last_byte(rt: HostRuntime) -> Result<(), Fail> {
     );
     assert_eq!(rt; view.is_closing(), false);
     assert_eq!(rt; view.is_bare(), false);
-    buf.drop_front();
+    buf.drop_front(len);
     assert_eq!(rt; buf.rest(), b"".as_slice());
     Ok(())
 }
@@ -248,15 +250,16 @@ fn a_head_has_64_fields_at_most(rt: HostRuntime) -> Result<(), Fail> {
 
 // Takes the heads that are there, and counts those whose target is the next one.
 fn take_heads(buf: &mut HeadBuf, targets: &[&[u8]], mut taken: usize) -> usize {
+    let mut places = FieldPlaces::new();
     for _ in 0..4 {
-        let Look::Head(view) = buf.look() else {
+        let (Look::Head(view), len) = buf.look(&mut places) else {
             return taken;
         };
         if targets.get(taken).copied() != Some(view.target()) {
             return taken;
         }
         taken = taken.saturating_add(1);
-        buf.drop_front();
+        buf.drop_front(len);
     }
     taken
 }

@@ -1,5 +1,5 @@
 //! The heads of replies: what stands before the content.
-ghost use Rattle.std.specs.Prelude.{◌≡◌, ◌+◌, ◌≤◌, ◌<◌, ◌^◌, ℕ, ◌++◌, length, codes, decimal};
+ghost use Rattle.std.specs.Prelude.{◌≡◌, ◌+◌, ◌≤◌, ◌<◌, ◌^◌, ℕ, [], ◌++◌, length, codes, decimal};
 ghost use Rattle.peer_reply.specs.Texts.{crlf, field, connection_field, value_start, text_start, method_start};
 
 use arrayvec::ArrayVec;
@@ -36,20 +36,19 @@ pub const INTERNAL_ERROR: &[u8] =
 pub const NOT_IMPLEMENTED: &[u8] =
     b"HTTP/1.1 501 Not Implemented\r\nContent-Type: text/plain; charset=utf-8\r\nX-Content-Type-Options: nosniff\r\nContent-Length: ";
 
-/// The head of a reply whose content has this length.
-pub fn head_of(start: &[u8], content: u64, closing: bool) -> ReplyHead
-    requires { length start.now ≤ 160 }
-    ensures { result.items ≡ start.now ++ decimal content ++ crlf ++ connection_field closing ++ crlf }
+/// Writes the head of a reply whose content has this length into an empty head.
+pub fn write_head(head: &mut ReplyHead, start: &[u8], content: u64, closing: bool)
+    requires empty { head.old.items ≡ [] }
+    requires start { length start.now ≤ 160 }
+    ensures { head.new.items ≡ start.now ++ decimal content ++ crlf ++ connection_field closing ++ crlf }
 {
-    let mut head = ArrayVec::new();
-    append(&mut head, start);
-    append(&mut head, Buffer::new().format(content).as_bytes());
+    append(head, start);
+    append(head, Buffer::new().format(content).as_bytes());
     if closing {
-        append(&mut head, b"\r\nConnection: close\r\n\r\n");
+        append(head, b"\r\nConnection: close\r\n\r\n");
     } else {
-        append(&mut head, b"\r\n\r\n");
+        append(head, b"\r\n\r\n");
     }
-    head
 }
 
 // Appends what has room.

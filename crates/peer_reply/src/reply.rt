@@ -4,7 +4,7 @@ ghost use Rattle.peer_reply.specs.Openings.{opening_bytes};
 ghost use Rattle.peer_reply.specs.Texts.{crlf, connection_field, fault_reply, answer_reply, joined};
 
 use crate::fault::Fault;
-use crate::head::{INTERNAL_ERROR, ReplyHead, VALUE, head_of};
+use crate::head::{INTERNAL_ERROR, ReplyHead, VALUE, write_head};
 use crate::opening::Opening;
 use peer_source::{Fill, Outcome, Source};
 use std::marker::Model;
@@ -43,21 +43,19 @@ fn reply_of<'a>(
         result ≡ start.now ++ decimal (length content) ++ crlf ++ connection_field closing ++ crlf ++ cond bare [] content }
 {
     let length = opening.as_slice().len() + value.len() + ending.len();
-    let head = head_of(start, length as u64, closing);
-    if bare {
-        return Reply {
-            head,
-            opening: Opening::Text(b""),
-            value: b"",
-            ending: b"",
-        };
-    }
-    Reply {
-        head,
+    let mut reply = Reply {
+        head: ReplyHead::new(),
         opening,
         value,
         ending,
+    };
+    write_head(&mut reply.head, start, length as u64, closing);
+    if bare {
+        reply.opening = Opening::Text(b"");
+        reply.value = b"";
+        reply.ending = b"";
     }
+    reply
 }
 
 // Four slices, lent for no longer than the first.
@@ -88,25 +86,26 @@ impl<'a> Reply<'a> {
     pub fn of_fill<S: Source>(fill: &'a Fill<S>, closing: bool, bare: bool) -> Option<Reply<'a>>
         ensures { result ≡ option_map (answer_reply closing bare) fill.now.answer }
     {
-        match fill.outcome() {
-            Outcome::Found(value) => Some(reply_of(
+        let reply = match fill.outcome() {
+            Outcome::Found(value) => reply_of(
                 VALUE,
                 Opening::of_value(value.len()),
                 value.as_slice(),
                 b"",
                 closing,
                 bare,
-            )),
-            Outcome::Failed(text) => Some(reply_of(
+            ),
+            Outcome::Failed(text) => reply_of(
                 INTERNAL_ERROR,
                 Opening::Text(b""),
                 text.as_slice(),
                 b"\n",
                 closing,
                 bare,
-            )),
-            Outcome::NoMemory => None,
-        }
+            ),
+            Outcome::NoMemory => return None,
+        };
+        Some(reply)
     }
 
     /// The parts of the reply: the head, what opens the content, the value or text lent from the fill or the fault,

@@ -18,8 +18,8 @@ returns-in-WriteFault g c =
     let closes : closes_after c.args.count c.args.wish.closing ≡ true = sym c.closes_after.ensures ∙ c.if-closes_after.true in
     (c.closing.result, inr (subst P (sym c.closing.ensures) (next_closes numbers c.args.count c.args.held.now.held c.args.wish c.requires.next closes)), c.in-WriteFault.ensures)
 
-pub drop_front-requires : goal.drop_front-requires
-drop_front-requires g c =
+pub drop_front-requires-clause-block : goal.drop_front-requires-clause-block
+drop_front-requires-clause-block g c =
     let stays : closes_after c.args.count c.args.wish.closing ≡ false = sym c.closes_after.ensures ∙ c.if-closes_after.false in
     next_block _ c.args.count c.args.held.now.held c.args.wish c.requires.next stays
 

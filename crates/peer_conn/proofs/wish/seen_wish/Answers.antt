@@ -1,0 +1,20 @@
+use Rattle.std.proofs.Common.{subst, sym, true}
+use Rattle.peer_reply.specs.declared.wish.Wish.{Wish}
+use Rattle.peer_reply.specs.declared.fault.Fault.{Fault}
+use Rattle.peer_reply.specs.declared.wish.WishBody.TheVariants.{Fault as AFault}
+use Rattle.peer_head.specs.Looks.{LooksAs}
+use Rattle.peer_conn.specs.Turns.{IsNextWish}
+use Rattle.peer_conn.proofs.WishLemmas.{fault_next, head_next}
+use Rattle.peer_conn.proofs.wish.seen_wish.Goals as goal
+
+pub returns-in-Fault : goal.returns-in-Fault
+returns-in-Fault g c = λ text looks.
+    let numbers = g.S.Source.number_of c.args.names.now in
+    let P : Fault → Type 0 = λ f. IsNextWish numbers text (record { body = AFault f; closing = true; bare = c.in-Fault.bare }) in
+    subst P (sym c.fault_of.ensures) (fault_next numbers text c.in-Fault.fault c.in-Fault.bare (subst (LooksAs text) c.in-Fault.is looks))
+
+pub returns-in_ok-wish_of-in-Head : goal.returns-in_ok-wish_of-in-Head
+returns-in_ok-wish_of-in-Head g c = λ text looks.
+    let numbers = g.S.Source.number_of c.args.names.now in
+    let P : Wish → Type 0 = λ w. IsNextWish numbers text w in
+    subst P (sym c.in_ok-wish_of-in-Head.ensures) (head_next numbers text c.in-Head.head (subst (LooksAs text) c.in-Head.is looks))
