@@ -88,7 +88,7 @@ fn a_head_is_seen_at_its_last_byte(rt: HostRuntime) -> Result<(), Fail> {
         assert!(rt; !buf.room().is_empty());
         feed(&mut buf, &[*b]);
     }
-    let (Look::Head(view), _) = buf.look(&mut places) else {
+    let (Look::Head(view), len) = buf.look(&mut places) else {
         return Err("no head".into());
     };
     assert_eq!(rt; view.method(), b"GET".as_slice());
