@@ -88,7 +88,8 @@ fn a_head_is_seen_at_its_last_byte(rt: HostRuntime) -> Result<(), Fail> {
         assert!(rt; !buf.room().is_empty());
         feed(&mut buf, &[*b]);
     }
-    let (Look::Head(view), len) = buf.look(&mut places) else {
+    let (look, len) = buf.look(&mut places);
+    let Look::Head(view) = look else {
         return Err("no head".into());
     };
     assert_eq!(rt; view.method(), b"GET".as_slice());
@@ -252,7 +253,8 @@ fn a_head_has_64_fields_at_most(rt: HostRuntime) -> Result<(), Fail> {
 fn take_heads(buf: &mut HeadBuf, targets: &[&[u8]], mut taken: usize) -> usize {
     let mut places = FieldPlaces::new();
     for _ in 0..4 {
-        let (Look::Head(view), len) = buf.look(&mut places) else {
+        let (look, len) = buf.look(&mut places);
+        let Look::Head(view) = look else {
             return taken;
         };
         if targets.get(taken).copied() != Some(view.target()) {
