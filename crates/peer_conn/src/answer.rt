@@ -6,11 +6,11 @@ ghost use Rattle.peer_conn.specs.Sending.{sending};
 ghost use Rattle.peer_conn.specs.Turns.{PutsReply, Puts, IsNextWish, Turns, Handles};
 
 use crate::gather::Gather;
-use crate::wish::next_wish;
+use crate::wish::{Next, next_wish};
 use peer_head::{FieldPlaces, HeadBuf};
-use peer_reply::{Reply, Wish, WishBody};
-use peer_source::{Fill, GroupId, Names, Source};
-use peer_view::{ByteView, PeerWrite};
+use peer_reply::{HeadRoom, Reply, Wish, WishBody};
+use peer_source::{Fill, Names, Source};
+use peer_view::PeerWrite;
 use std::alloc::Global;
 
 /// How many replies a connection gets at most. The last of them closes.
@@ -37,6 +37,22 @@ pub(crate) enum Turn {
     WriteFault,
 }
 
+/// Room that each look and each reply writes over.
+#[derive(Drop)]
+pub(crate) struct Rooms {
+    places: FieldPlaces,
+    head: HeadRoom,
+}
+
+impl Rooms {
+    pub(crate) fn new() -> Rooms {
+        Rooms {
+            places: FieldPlaces::new(),
+            head: HeadRoom::new(),
+        }
+    }
+}
+
 // Puts a reply behind what is gathered.
 fn put_reply<W: PeerWrite>(reply: &Reply<'_>, out: &mut Gather<W>) -> Put
     requires { W.failures out.old.writer < 2 ^ 64 - 1 }
@@ -48,31 +64,12 @@ fn put_reply<W: PeerWrite>(reply: &Reply<'_>, out: &mut Gather<W>) -> Put
     }
 }
 
-// Calls the source, and puts its answer.
-fn put_answer<S: Source, W: PeerWrite>(
-    alloc: Global,
-    source: &S,
-    group: GroupId,
-    key: ByteView,
-    closing: bool,
-    bare: bool,
-    out: &mut Gather<W>,
-) -> Put
-    requires { W.failures out.old.writer < 2 ^ 64 - 1 }
-    ensures { Puts (S.answers source.now) (get_wish group key closing bare) (sending W.failures W.taken out.old out.new) result }
-{
-    let fill = Fill::run(alloc, source, group, key);
-    match Reply::of_fill(&fill, closing, bare) {
-        Some(reply) => put_reply(&reply, out),
-        None => Put::Memory,
-    }
-}
-
-// Puts the reply to a wish.
+// Puts the reply to a wish, for which it calls the source where the wish has no fault.
 fn put_wish<S: Source, W: PeerWrite>(
     alloc: Global,
     source: &S,
     wish: Wish,
+    room: &mut HeadRoom,
     out: &mut Gather<W>,
 ) -> Put
     requires { W.failures out.old.writer < 2 ^ 64 - 1 }
@@ -84,8 +81,14 @@ fn put_wish<S: Source, W: PeerWrite>(
         bare,
     } = wish;
     match body {
-        WishBody::Fault(fault) => put_reply(&Reply::of_fault(&fault, closing, bare), out),
-        WishBody::Get(group, key) => put_answer(alloc, source, group, key, closing, bare, out),
+        WishBody::Fault(fault) => put_reply(&Reply::of_fault(room, &fault, closing, bare), out),
+        WishBody::Get(group, key) => {
+            let fill = Fill::run(alloc, source, group, key);
+            match Reply::of_fill(room, &fill, closing, bare) {
+                Some(reply) => put_reply(&reply, out),
+                None => Put::Memory,
+            }
+        }
     }
 }
 
@@ -109,31 +112,32 @@ fn closing(wish: Wish) -> Wish
     }
 }
 
-// Answers the next wish of the bytes held, whose block takes `len` bytes of them, after `count` replies.
+// Answers the next wish of the bytes held, after `count` replies.
 fn answer_next<S: Source, W: PeerWrite>(
     alloc: Global,
     source: &S,
-    wish: Wish,
-    len: usize,
+    next: Next,
     held: &mut HeadBuf,
+    room: &mut HeadRoom,
     out: &mut Gather<W>,
     count: u64,
 ) -> Turn
     requires failures { W.failures out.old.writer < 2 ^ 64 - 1 }
     requires count { count < MOST }
-    requires next { IsNextWish (S.number_of source.now) held.old.held wish }
-    requires front { IsFrontLength held.old.held len }
+    requires next { IsNextWish (S.number_of source.now) held.old.held next.wish }
+    requires front { IsFrontLength held.old.held next.len }
     ensures { Turns (S.number_of source.now) (S.answers source.now) count held.old.held held.new.held (sending W.failures W.taken out.old out.new) result }
 {
+    let Next { wish, len } = next;
     if closes_after(count, wish.closing) {
-        return match put_wish(alloc, source, closing(wish), out) {
+        return match put_wish(alloc, source, closing(wish), room, out) {
             Put::Done => Turn::Closed,
             Put::Memory => Turn::Memory,
             Put::WriteFault => Turn::WriteFault,
         };
     }
     held.drop_front(len);
-    match put_wish(alloc, source, wish, out) {
+    match put_wish(alloc, source, wish, room, out) {
         Put::Done => Turn::More,
         Put::Memory => Turn::Memory,
         Put::WriteFault => Turn::WriteFault,
@@ -145,7 +149,7 @@ fn answer_one<S: Source, W: PeerWrite>(
     alloc: Global,
     source: &S,
     held: &mut HeadBuf,
-    places: &mut FieldPlaces,
+    rooms: &mut Rooms,
     out: &mut Gather<W>,
     count: u64,
 ) -> Turn
@@ -153,12 +157,10 @@ fn answer_one<S: Source, W: PeerWrite>(
     requires count { count < MOST }
     ensures { Turns (S.number_of source.now) (S.answers source.now) count held.old.held held.new.held (sending W.failures W.taken out.old out.new) result }
 {
-    let Ok((next, len)) = next_wish(alloc, &Names::of(source), held, places) else {
-        return Turn::Memory;
-    };
-    match next {
-        Some(wish) => answer_next(alloc, source, wish, len, held, out, count),
-        None => Turn::Need,
+    match next_wish(alloc, &Names::of(source), held, &mut rooms.places) {
+        Ok(Some(next)) => answer_next(alloc, source, next, held, &mut rooms.head, out, count),
+        Ok(None) => Turn::Need,
+        Err(_) => Turn::Memory,
     }
 }
 
@@ -167,7 +169,7 @@ fn answer_held<S: Source, W: PeerWrite>(
     alloc: Global,
     source: &S,
     held: &mut HeadBuf,
-    places: &mut FieldPlaces,
+    rooms: &mut Rooms,
     out: &mut Gather<W>,
     count: &mut u64,
 ) -> Turn
@@ -176,7 +178,7 @@ fn answer_held<S: Source, W: PeerWrite>(
     ensures { Handles (S.number_of source.now) (S.answers source.now) count.old count.new held.old.held held.new.held (sending W.failures W.taken out.old out.new) result }
 {
     loop {
-        match answer_one(alloc, source, held, places, out, *count) {
+        match answer_one(alloc, source, held, rooms, out, *count) {
             Turn::More => *count += 1,
             turn => return turn,
         }
@@ -188,7 +190,7 @@ pub(crate) fn answer_flushed<S: Source, W: PeerWrite>(
     alloc: Global,
     source: &S,
     held: &mut HeadBuf,
-    places: &mut FieldPlaces,
+    rooms: &mut Rooms,
     out: &mut Gather<W>,
     count: &mut u64,
 ) -> Turn
@@ -197,7 +199,7 @@ pub(crate) fn answer_flushed<S: Source, W: PeerWrite>(
     ensures handles { Handles (S.number_of source.now) (S.answers source.now) count.old count.new held.old.held held.new.held (sending W.failures W.taken out.old out.new) result }
     ensures empty { out.new.gathered.items ≡ [] }
 {
-    let turn = answer_held(alloc, source, held, places, out, count);
+    let turn = answer_held(alloc, source, held, rooms, out, count);
     if let Turn::WriteFault = turn {
         out.clear();
         return turn;

@@ -3,11 +3,11 @@ ghost use Rattle.std.specs.Prelude.{◌≡◌, ◌≢◌, ℕ, ◌+◌, ◌-◌,
 ghost use Rattle.peer_conn.specs.Ends.{Serves, reading, writing};
 ghost use Rattle.peer_conn.specs.Turns.{EndToldAs};
 
-use crate::answer::{Turn, answer_flushed};
+use crate::answer::{Rooms, Turn, answer_flushed};
 use crate::end::{End, Served};
 use crate::gather::Gather;
 use crate::intake::read_more;
-use peer_head::{FieldPlaces, HeadBuf};
+use peer_head::HeadBuf;
 use peer_source::Source;
 use peer_view::{PeerRead, PeerWrite};
 use std::alloc::Global;
@@ -67,7 +67,7 @@ fn run<S: Source, R: PeerRead, W: PeerWrite>(
     ensures never_worn { result ≢ End.Worn }
 {
     let mut held = held;
-    let mut places = FieldPlaces::new();
+    let mut rooms = Rooms::new();
     let mut count = 0;
     for made in 0..reads {
         match read_more(&mut held, reader) {
@@ -75,7 +75,7 @@ fn run<S: Source, R: PeerRead, W: PeerWrite>(
             Ok(0) => return end_told(&held),
             Ok(_) => {}
         }
-        match answer_flushed(alloc, source, &mut held, &mut places, out, &mut count) {
+        match answer_flushed(alloc, source, &mut held, &mut rooms, out, &mut count) {
             Turn::Need => {}
             Turn::More => unreachable!(),
             Turn::Closed => return End::Clean,

@@ -1,8 +1,8 @@
 //! What a request asks for.
 ghost use Rattle.std.specs.Prelude.{◌≡◌, ℕ, List, IfOk};
-ghost use Rattle.peer_head.specs.Blocks.{IsFrontLength};
 ghost use Rattle.peer_head.specs.Looks.{LooksAs};
 ghost use Rattle.peer_conn.specs.Wishes.{head_wish, head_body, target_body, in_group, fault_of, fault_wish, is_served};
+ghost use Rattle.peer_conn.specs.Nexts.{IsNextOf};
 ghost use Rattle.peer_conn.specs.Turns.{IsNext};
 
 use peer_head::{FieldPlaces, HeadBuf, HeadFault, HeadView, Look};
@@ -115,17 +115,25 @@ fn seen_wish<S: Source>(
     }
 }
 
-/// The next wish of the bytes held, none where they are unfinished, and how many bytes the first block takes with the
-/// pairs before it.
+/// A wish, and how many of the bytes held its block takes with the pairs before it.
+#[derive(Drop)]
+pub(crate) struct Next {
+    pub(crate) wish: Wish,
+    pub(crate) len: usize,
+}
+
+/// The next wish of the bytes held, none where they are unfinished.
 pub(crate) fn next_wish<S: Source>(
     alloc: Global,
     names: &Names<'_, S>,
     held: &HeadBuf,
     places: &mut FieldPlaces,
-) -> Result<(Option<Wish>, usize), AllocError>
-    ensures next { IfOk result (λ next. IsNext (S.number_of names.now) held.now.held next.0) }
-    ensures front { IfOk result (λ next. IsFrontLength held.now.held next.1) }
+) -> Result<Option<Next>, AllocError>
+    ensures { IfOk result (λ next. IsNextOf (S.number_of names.now) held.now.held next) }
 {
     let (look, len) = held.look(places);
-    Ok((seen_wish(alloc, names, look)?, len))
+    match seen_wish(alloc, names, look)? {
+        Some(wish) => Ok(Some(Next { wish, len })),
+        None => Ok(None),
+    }
 }

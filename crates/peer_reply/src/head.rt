@@ -1,15 +1,15 @@
 //! The heads of replies: what stands before the content.
-ghost use Rattle.std.specs.Prelude.{◌≡◌, ◌+◌, ◌≤◌, ◌<◌, ◌^◌, ℕ, [], ◌++◌, length, codes, decimal};
+ghost use Rattle.std.specs.Prelude.{◌≡◌, ◌+◌, ◌≤◌, ◌<◌, ◌^◌, ℕ, ◌++◌, length, codes, decimal};
 ghost use Rattle.peer_reply.specs.Texts.{crlf, field, connection_field, value_start, text_start, method_start};
 
 use arrayvec::ArrayVec;
 use itoa::Buffer;
 
-/// Room for the head of any reply.
+/// How many bytes the head of any reply has at most.
 pub const HEAD_ROOM: usize = 256;
 
-/// The head of a reply.
-pub type ReplyHead = ArrayVec<u8, HEAD_ROOM>;
+/// Room for the head of a reply. It is made once, and each reply writes over it.
+pub type HeadRoom = ArrayVec<u8, HEAD_ROOM>;
 
 /// What stands before the number of the content length, for each status.
 pub const VALUE: &[u8] =
@@ -36,27 +36,27 @@ pub const INTERNAL_ERROR: &[u8] =
 pub const NOT_IMPLEMENTED: &[u8] =
     b"HTTP/1.1 501 Not Implemented\r\nContent-Type: text/plain; charset=utf-8\r\nX-Content-Type-Options: nosniff\r\nContent-Length: ";
 
-/// Writes the head of a reply whose content has this length into an empty head.
-pub fn write_head(head: &mut ReplyHead, start: &[u8], content: u64, closing: bool)
-    requires empty { head.old.items ≡ [] }
-    requires start { length start.now ≤ 160 }
-    ensures { head.new.items ≡ start.now ++ decimal content ++ crlf ++ connection_field closing ++ crlf }
+/// Writes the head of a reply whose content has this length over what is in the room.
+pub fn write_head(room: &mut HeadRoom, start: &[u8], content: u64, closing: bool)
+    requires { length start.now ≤ 160 }
+    ensures { room.new.items ≡ start.now ++ decimal content ++ crlf ++ connection_field closing ++ crlf }
 {
-    append(head, start);
-    append(head, Buffer::new().format(content).as_bytes());
+    room.clear();
+    append(room, start);
+    append(room, Buffer::new().format(content).as_bytes());
     if closing {
-        append(head, b"\r\nConnection: close\r\n\r\n");
+        append(room, b"\r\nConnection: close\r\n\r\n");
     } else {
-        append(head, b"\r\n\r\n");
+        append(room, b"\r\n\r\n");
     }
 }
 
 // Appends what has room.
-fn append(head: &mut ReplyHead, part: &[u8])
-    requires { length head.old.items + length part.now ≤ HEAD_ROOM }
-    ensures { head.new.items ≡ head.old.items ++ part.now }
+fn append(room: &mut HeadRoom, part: &[u8])
+    requires { length room.old.items + length part.now ≤ HEAD_ROOM }
+    ensures { room.new.items ≡ room.old.items ++ part.now }
 {
-    match head.try_extend_from_slice(part) {
+    match room.try_extend_from_slice(part) {
         Ok(()) => {}
         Err(_) => unreachable!(),
     }

@@ -13,6 +13,7 @@ mod response;
 mod wish;
 
 pub use fault::Fault;
+pub use head::HeadRoom;
 pub use reply::Reply;
 pub use response::{PbFault, read_response};
 pub use wish::{Wish, WishBody};

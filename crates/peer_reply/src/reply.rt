@@ -4,16 +4,16 @@ ghost use Rattle.peer_reply.specs.Openings.{opening_bytes};
 ghost use Rattle.peer_reply.specs.Texts.{crlf, connection_field, fault_reply, answer_reply, joined};
 
 use crate::fault::Fault;
-use crate::head::{INTERNAL_ERROR, ReplyHead, VALUE, write_head};
+use crate::head::{HeadRoom, INTERNAL_ERROR, VALUE, write_head};
 use crate::opening::Opening;
 use peer_source::{Fill, Outcome, Source};
 use std::marker::Model;
 
-/// A reply. It holds its head, and lends its value or text from the fill or the fault that it answers. Contracts see
-/// its text.
+/// A reply. It lends its head from the room where that was written, and its value or text from the fill or the fault
+/// that it answers. Contracts see its text.
 #[derive(Drop)]
 pub struct Reply<'a> {
-    head: ReplyHead,
+    head: &'a [u8],
     opening: Opening,
     value: &'a [u8],
     ending: &'static [u8],
@@ -25,11 +25,12 @@ impl<'a> Model for Reply<'a> {
 
     ghost Value = { List ℕ };
 
-    ghost view = { λ r. r.head.items ++ (opening_bytes r.opening ++ r.value.now ++ r.ending.now) };
+    ghost view = { λ r. r.head.now ++ (opening_bytes r.opening ++ r.value.now ++ r.ending.now) };
 }
 
 // The reply with the content of these three parts, which a bare reply leaves out.
 fn reply_of<'a>(
+    room: &'a mut HeadRoom,
     start: &[u8],
     opening: Opening,
     value: &'a [u8],
@@ -43,13 +44,13 @@ fn reply_of<'a>(
         result ≡ start.now ++ decimal (length content) ++ crlf ++ connection_field closing ++ crlf ++ cond bare [] content }
 {
     let length = opening.as_slice().len() + value.len() + ending.len();
+    write_head(room, start, length as u64, closing);
     let mut reply = Reply {
-        head: ReplyHead::new(),
+        head: room.as_slice(),
         opening,
         value,
         ending,
     };
-    write_head(&mut reply.head, start, length as u64, closing);
     if bare {
         reply.opening = Opening::Text(b"");
         reply.value = b"";
@@ -66,13 +67,19 @@ fn four<'s>(head: &'s [u8], opening: &'s [u8], value: &'s [u8], ending: &'s [u8]
 }
 
 impl<'a> Reply<'a> {
-    /// The reply to a fault.
-    pub fn of_fault(fault: &'a Fault, closing: bool, bare: bool) -> Reply<'a>
+    /// The reply to a fault. Its head is written into the room.
+    pub fn of_fault(
+        room: &'a mut HeadRoom,
+        fault: &'a Fault,
+        closing: bool,
+        bare: bool,
+    ) -> Reply<'a>
         ensures { result ≡ fault_reply closing bare fault.now }
     {
         let line = fault.line();
         let opening = Opening::Text(line.text);
         reply_of(
+            room,
             line.start,
             opening,
             fault.name(),
@@ -82,12 +89,18 @@ impl<'a> Reply<'a> {
         )
     }
 
-    /// The reply to what the source answered, none where memory was refused.
-    pub fn of_fill<S: Source>(fill: &'a Fill<S>, closing: bool, bare: bool) -> Option<Reply<'a>>
+    /// The reply to what the source answered, none where memory was refused. Its head is written into the room.
+    pub fn of_fill<S: Source>(
+        room: &'a mut HeadRoom,
+        fill: &'a Fill<S>,
+        closing: bool,
+        bare: bool,
+    ) -> Option<Reply<'a>>
         ensures { result ≡ option_map (answer_reply closing bare) fill.now.answer }
     {
         let reply = match fill.outcome() {
             Outcome::Found(value) => reply_of(
+                room,
                 VALUE,
                 Opening::of_value(value.len()),
                 value.as_slice(),
@@ -96,6 +109,7 @@ impl<'a> Reply<'a> {
                 bare,
             ),
             Outcome::Failed(text) => reply_of(
+                room,
                 INTERNAL_ERROR,
                 Opening::Text(b""),
                 text.as_slice(),
@@ -113,7 +127,6 @@ impl<'a> Reply<'a> {
     pub fn parts(&self) -> [&[u8]; 4]
         ensures { joined result ≡ self.now }
     {
-        let head = self.head.as_slice();
-        four(head, self.opening.as_slice(), self.value, self.ending)
+        four(self.head, self.opening.as_slice(), self.value, self.ending)
     }
 }

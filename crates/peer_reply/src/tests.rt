@@ -1,6 +1,7 @@
 //! Tests of what no clause says: replies and bodies against the bytes that are written out.
 
 use crate::fault::Fault;
+use crate::head::HeadRoom;
 use crate::reply::Reply;
 use crate::response::{PbFault, read_response};
 use peer_source::{DemoSource, Fill, GroupId};
@@ -25,7 +26,10 @@ fn fault_text(
     closing: bool,
     bare: bool,
 ) -> Result<Vec<u8>, AllocError> {
-    text_of(alloc, &Reply::of_fault(fault, closing, bare))
+    text_of(
+        alloc,
+        &Reply::of_fault(&mut HeadRoom::new(), fault, closing, bare),
+    )
 }
 
 // The fill of a key of the source for demonstrations: group 0 is `echo`, 1 `square`, 2 `fill`.
@@ -38,17 +42,18 @@ fn fill_of(alloc: Global, number: usize, key: &[u8]) -> Result<Fill<DemoSource>,
 fn replies_with_a_value(rt: HostRuntime) -> Result<(), Fail> {
     let alloc = rt.alloc();
     let fill = fill_of(alloc, 0, b"k")?;
-    let reply = Reply::of_fill(&fill, false, false).expect(&rt, "a reply");
+    let mut room = HeadRoom::new();
+    let reply = Reply::of_fill(&mut room, &fill, false, false).expect(&rt, "a reply");
     assert_eq!(rt;
         text_of(alloc, &reply)?.as_slice(),
         b"HTTP/1.1 200 OK\r\nContent-Type: application/x-protobuf\r\nContent-Length: 3\r\n\r\n\x0A\x01k".as_slice()
     );
-    let closing = Reply::of_fill(&fill, true, false).expect(&rt, "a reply");
+    let closing = Reply::of_fill(&mut room, &fill, true, false).expect(&rt, "a reply");
     assert_eq!(rt;
         text_of(alloc, &closing)?.as_slice(),
         b"HTTP/1.1 200 OK\r\nContent-Type: application/x-protobuf\r\nContent-Length: 3\r\nConnection: close\r\n\r\n\x0A\x01k".as_slice()
     );
-    let bare = Reply::of_fill(&fill, false, true).expect(&rt, "a reply");
+    let bare = Reply::of_fill(&mut room, &fill, false, true).expect(&rt, "a reply");
     assert_eq!(rt;
         text_of(alloc, &bare)?.as_slice(),
         b"HTTP/1.1 200 OK\r\nContent-Type: application/x-protobuf\r\nContent-Length: 3\r\n\r\n".as_slice()
@@ -60,7 +65,8 @@ fn replies_with_a_value(rt: HostRuntime) -> Result<(), Fail> {
 fn replies_with_an_error_of_the_source(rt: HostRuntime) -> Result<(), Fail> {
     let alloc = rt.alloc();
     let fill = fill_of(alloc, 1, b"x")?;
-    let reply = Reply::of_fill(&fill, false, false).expect(&rt, "a reply");
+    let mut room = HeadRoom::new();
+    let reply = Reply::of_fill(&mut room, &fill, false, false).expect(&rt, "a reply");
     assert_eq!(rt;
         text_of(alloc, &reply)?.as_slice(),
         b"HTTP/1.1 500 Internal Server Error\r\nContent-Type: text/plain; charset=utf-8\r\nX-Content-Type-Options: nosniff\r\nContent-Length: 13\r\n\r\nnot a number\n".as_slice()
@@ -77,7 +83,8 @@ fn check_large(
     count: usize,
 ) -> Result<(), AllocError> {
     let fill = fill_of(alloc, 2, key)?;
-    let reply = Reply::of_fill(&fill, false, false).expect(rt, "a reply");
+    let mut room = HeadRoom::new();
+    let reply = Reply::of_fill(&mut room, &fill, false, false).expect(rt, "a reply");
     let text = text_of(alloc, &reply)?;
     assert!(rt; text.starts_with(head), "the head and the prefix");
     let value = &text.as_slice()[head.len()..];
