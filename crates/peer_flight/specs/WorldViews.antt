@@ -4,10 +4,10 @@ use Rattle.peer_source.specs.Answers.{Answer, Filled}
 use Rattle.peer_flight.specs.World.{Wish, Ticket, Flight, new_flight, Connection, Outcome, Unset, Answered, NoMemory, Hand, Empty, WithTicket, WithRight, Worker, Idle, Filling, Landing}
 use Rattle.peer_flight.specs.SingleFlight.{Place, State, Joins, Leads, Lands}
 use Rattle.peer_flight.specs.Events.{MayArrive, MayBring, pending, with_wish}
-use Rattle.peer_flight.specs.declared.world.Hands.{Hands}
-use Rattle.peer_flight.specs.declared.world.Hands.TheVariants as hands
-use Rattle.peer_flight.specs.declared.world.Hand.{Hand as Held}
-use Rattle.peer_flight.specs.declared.world.Hand.TheVariants as held
+use Rattle.peer_flight.specs.declared.world.worker.Hands.{Hands}
+use Rattle.peer_flight.specs.declared.world.worker.Hands.TheVariants as hands
+use Rattle.peer_flight.specs.declared.world.ticket.Hand.{Hand as Held}
+use Rattle.peer_flight.specs.declared.world.ticket.Hand.TheVariants as held
 
 -- the outcome of a fill with this answer
 abbrev pub outcome_by : Option Answer → Outcome

@@ -6,7 +6,7 @@ use Rattle.peer_flight.specs.World.{Connection}
 use Rattle.peer_flight.specs.Events.{SeesOutcome}
 use Rattle.peer_flight.specs.WorldViews.{hand_of, Brings}
 use Rattle.peer_flight.proofs.Seeing.{answer_there, end_seen, answer_seen, first_of}
-use Rattle.peer_flight.proofs.world.Connection.see_outcome.Goals as goal
+use Rattle.peer_flight.proofs.world.connection.Connection.see_outcome.Goals as goal
 
 pub returns-in-NoMemory : goal.returns-in-NoMemory
 returns-in-NoMemory g c =

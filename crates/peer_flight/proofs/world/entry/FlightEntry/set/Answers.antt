@@ -3,7 +3,7 @@ use Rattle.std.specs.Option.{IfSome}
 use Rattle.peer_flight.specs.World.{Flight}
 use Rattle.peer_flight.specs.WorldViews.{outcome_by}
 use Rattle.peer_flight.proofs.Seeing.{may_bring}
-use Rattle.peer_flight.proofs.world.FlightEntry.set.Goals as goal
+use Rattle.peer_flight.proofs.world.entry.FlightEntry.set.Goals as goal
 
 pub returns : goal.returns
 returns g c =

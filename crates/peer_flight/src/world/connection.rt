@@ -1,0 +1,218 @@
+//! Connections: a reader's hand, a lane, and a writer.
+ghost use Rattle.std.specs.Prelude.{◌≡◌, IfOk, IsTrue, OnOk, MatchBool, MatchOption, replicate};
+ghost use Rattle.peer_flight.specs.World.{Ticket, Empty, WithTicket, WithRight, new_connection};
+ghost use Rattle.peer_flight.specs.Events.{MayArrive, PutsTicket, TakesTicket, SeesOutcome, with_wish};
+ghost use Rattle.peer_flight.specs.WorldViews.{WantsAt, hand_of};
+
+use super::entry::{FlightEntry, brought, list};
+use super::ticket::{Hand, Ticket, Written};
+use super::wish::Wish;
+use crate::table::{Ask, AskFault, Table};
+use peer_source::{Outcome, Source};
+use std::alloc::{AllocError, Global};
+use std::collections::VecDeque;
+use std::marker::Model;
+use std::mem;
+
+// The most wishes of a connection.
+const REPLIES: usize = 10_000;
+
+// The most tickets in a lane.
+const TICKETS: usize = 64;
+
+/// A connection: its reader's hand, its lane, and what its writer took and wrote.
+#[derive(Drop)]
+pub struct Connection<S: Source> {
+    arrived: Vec<Wish>,
+    hand: Hand,
+    lane: VecDeque<Ticket>,
+    waiting: VecDeque<Ticket>,
+    written: Vec<Written<S>>,
+    ended: bool,
+}
+
+impl<S: Source> Model for Connection<S> {
+    ghost use Rattle.peer_flight.specs.World.{Connection};
+    ghost use Rattle.peer_flight.specs.WorldViews.{hand_of};
+
+    ghost Value = { Connection };
+
+    ghost view = { λ c. record { arrived = c.arrived.items; hand = hand_of c.hand; lane = c.lane.items; waiting = c.waiting.items; written = c.written.items; ended = c.ended } };
+}
+
+impl<S: Source> Connection<S> {
+    ghost use Rattle.peer_flight.specs.Tables.{state_of};
+
+    // One at which nothing arrived.
+    pub(super) fn new(alloc: Global) -> Connection<S>
+        ensures { result ≡ new_connection }
+    {
+        Connection {
+            arrived: Vec::new(alloc),
+            hand: Hand::Empty,
+            lane: VecDeque::new(alloc),
+            waiting: VecDeque::new(alloc),
+            written: Vec::new(alloc),
+            ended: false,
+        }
+    }
+
+    // Whether another wish may arrive, and the hand is empty for it.
+    fn may_want(&self) -> bool
+        ensures { IsTrue result → (self.now.hand ≡ Empty) × MayArrive self.now }
+    {
+        matches!(self.hand, Hand::Empty)
+            && self.arrived.len() < REPLIES
+            && self.arrived.iter().all(|wish| !wish.is_closing())
+    }
+
+    // A wish arrives, and its ticket comes into the hand.
+    fn arrive(&mut self, wish: Wish, hand: Hand) -> Result<(), AllocError>
+        ensures { OnOk result (self.new ≡ with_wish self.old wish (hand_of hand)) }
+    {
+        self.arrived.push(wish)?;
+        self.hand = hand;
+        Ok(())
+    }
+
+    // A wish with a place arrives at the empty hand, and joins or leads a flight.
+    pub(super) fn want(
+        &mut self,
+        alloc: Global,
+        table: &mut Table<S>,
+        flights: &mut Vec<FlightEntry<S>>,
+        wish: Wish,
+    ) -> Result<bool, AskFault>
+        ensures { IfOk result (λ wanted. MatchBool wanted (WantsAt (state_of table.old) (state_of table.new) flights.old.items flights.new.items self.old self.new) ((table.new ≡ table.old) × (flights.new ≡ flights.old) × (self.new ≡ self.old))) }
+    {
+        if !self.may_want() {
+            return Ok(false);
+        }
+        let Some(place) = &wish.place else {
+            return Ok(false);
+        };
+        let share = wish.share()?;
+        match table.want(alloc, place.group(), place.key())? {
+            Ask::Joined(flight) => {
+                let flight = Some(flight.number());
+                self.arrive(share, Hand::WithTicket(Ticket { wish, flight }))?;
+            }
+            Ask::Led(flight, _right) => {
+                let number = flight.number();
+                list(flights, flight)?;
+                let flight = Some(number);
+                self.arrive(share, Hand::WithRight(Ticket { wish, flight }, number))?;
+            }
+        }
+        Ok(true)
+    }
+
+    // Takes the right out of the hand, and leaves the ticket.
+    pub(super) fn take_right(&mut self) -> Option<u64>
+        ensures { MatchOption result (self.new ≡ self.old) (λ number. (t : Ticket) × (self.old.hand ≡ WithRight t number) × (self.new ≡ record self.old { hand = WithTicket t })) }
+    {
+        match mem::replace(&mut self.hand, Hand::Empty) {
+            Hand::WithRight(ticket, number) => {
+                self.hand = Hand::WithTicket(ticket);
+                Some(number)
+            }
+            other => {
+                self.hand = other;
+                None
+            }
+        }
+    }
+
+    // Lane put, of the ticket in the hand.
+    pub(super) fn put_ticket(&mut self) -> Result<bool, AllocError>
+        ensures { IfOk result (λ put. MatchBool put (PutsTicket self.old self.new) (self.new ≡ self.old)) }
+    {
+        if self.lane.len() >= TICKETS {
+            return Ok(false);
+        }
+        self.lane.reserve(1)?;
+        match mem::replace(&mut self.hand, Hand::Empty) {
+            Hand::WithTicket(ticket) => {
+                self.lane.push_back(ticket)?;
+                Ok(true)
+            }
+            other => {
+                self.hand = other;
+                Ok(false)
+            }
+        }
+    }
+
+    // Lane put, of a wish that is a fault or a hit.
+    pub(super) fn put_ready(&mut self, wish: Wish) -> Result<bool, AllocError>
+        ensures { IfOk result (λ put. MatchBool put (PutsTicket self.old self.new) (self.new ≡ self.old)) }
+    {
+        if self.lane.len() >= TICKETS || !self.may_want() {
+            return Ok(false);
+        }
+        let share = wish.share()?;
+        self.arrived.push(share)?;
+        self.lane.push_back(Ticket { wish, flight: None })?;
+        Ok(true)
+    }
+
+    // Lane taken: a ticket that names a flight waits, and a ready one is answered at once.
+    pub(super) fn take_ticket(&mut self) -> Result<bool, AllocError>
+        ensures { IfOk result (λ took. MatchBool took (TakesTicket self.old self.new) (self.new ≡ self.old)) }
+    {
+        if !self.ended && !self.waiting.is_empty() {
+            return Ok(false);
+        }
+        self.waiting.reserve(1)?;
+        self.written.reserve(1)?;
+        let Some(ticket) = self.lane.pop_front() else {
+            return Ok(false);
+        };
+        if self.ended || ticket.flight.is_some() {
+            self.waiting.push_back(ticket)?;
+        } else {
+            self.written.push(Written { ticket, fill: None })?;
+        }
+        Ok(true)
+    }
+
+    // Outcome seen: the reply to the ticket that waits is written, or the writer ends for want of memory.
+    pub(super) fn see_outcome(&mut self, flights: &[FlightEntry<S>]) -> Result<bool, AllocError>
+        ensures { IfOk result (λ seen. MatchBool seen (SeesOutcome flights.now self.old self.new) (self.new ≡ self.old)) }
+    {
+        if self.ended {
+            return Ok(false);
+        }
+        let Some(ticket) = self.waiting.front() else {
+            return Ok(false);
+        };
+        let Some(fill) = brought(ticket, flights) else {
+            return Ok(false);
+        };
+        if let Outcome::NoMemory = fill.outcome() {
+            self.ended = true;
+            return Ok(true);
+        }
+        let fill = Some(fill.share()?);
+        self.written.reserve(1)?;
+        let Some(ticket) = self.waiting.pop_front() else {
+            return Ok(false);
+        };
+        self.written.push(Written { ticket, fill })?;
+        Ok(true)
+    }
+}
+
+// So many connections at which nothing arrived.
+pub(super) fn new_connections<S: Source>(
+    alloc: Global,
+    count: usize,
+) -> Result<Vec<Connection<S>>, AllocError>
+    ensures { IfOk result (λ connections. connections.items ≡ replicate count new_connection) }
+{
+    let mut connections = Vec::new(alloc);
+    for _made in 0..count {
+        connections.push(Connection::new(alloc))?;
+    }
+    Ok(connections)
+}

@@ -1,0 +1,70 @@
+//! Workers: what each has in its hands.
+ghost use Rattle.std.specs.Prelude.{◌≡◌, IfOk, IfSome, IsTrue, replicate};
+ghost use Rattle.peer_flight.specs.World.{Idle, Filling, Landing};
+
+use std::alloc::{AllocError, Global};
+use std::marker::Model;
+
+/// A worker's hands: nothing, a flight with its right, or a flight whose right is spent.
+#[derive(Drop)]
+pub enum Hands {
+    Empty,
+    Filling(u64),
+    Landing(u64),
+}
+
+/// A worker.
+#[derive(Drop)]
+pub struct Worker {
+    pub(super) hands: Hands,
+}
+
+impl Model for Worker {
+    ghost use Rattle.peer_flight.specs.World.{Worker};
+    ghost use Rattle.peer_flight.specs.WorldViews.{worker_of};
+
+    ghost Value = { Worker };
+
+    ghost view = { λ w. worker_of w.hands };
+}
+
+impl Worker {
+    pub(super) fn is_idle(&self) -> bool
+        ensures { IsTrue result → self.now ≡ Idle }
+    {
+        matches!(self.hands, Hands::Empty)
+    }
+
+    // The flight whose right it has.
+    pub(super) fn filling(&self) -> Option<u64>
+        ensures { IfSome result (λ number. self.now ≡ Filling number) }
+    {
+        match self.hands {
+            Hands::Filling(number) => Some(number),
+            Hands::Empty | Hands::Landing(_) => None,
+        }
+    }
+
+    // The flight that it has, whose right is spent.
+    pub(super) fn landing(&self) -> Option<u64>
+        ensures { IfSome result (λ number. self.now ≡ Landing number) }
+    {
+        match self.hands {
+            Hands::Landing(number) => Some(number),
+            Hands::Empty | Hands::Filling(_) => None,
+        }
+    }
+}
+
+// So many workers with empty hands.
+pub(super) fn idle_workers(alloc: Global, count: usize) -> Result<Vec<Worker>, AllocError>
+    ensures { IfOk result (λ workers. workers.items ≡ replicate count Idle) }
+{
+    let mut workers = Vec::new(alloc);
+    for _made in 0..count {
+        workers.push(Worker {
+            hands: Hands::Empty,
+        })?;
+    }
+    Ok(workers)
+}
