@@ -9,7 +9,7 @@ use Rattle.peer_source.specs.Answers.{Answer}
 use Rattle.peer_flight.specs.SingleFlight.{Place}
 use Rattle.peer_flight.specs.World.{Wish, Ticket, Outcome, Unset, Answered, NoMemory, Flight, new_flight, WithTicket, WithRight, Idle, Filling, Landing, Connection, World}
 use Rattle.peer_flight.specs.Counts.{same, rights_in, filling, landing, hands, jobs, fillers, landers}
-use Rattle.peer_flight.specs.Events.{Event, Want, JobPut, LanePut, JobTaken, OutcomeSet, Landed, OutcomeSeen, LaneTaken, pending, with_wish, JoinsFlight, LeadsFlight, Wants, PutsJob, PutsTicket, RepliesBy, TakesBy, TakesAs, TakesJob, MayBring, SetsOutcome, LandsFlight, SeesOutcome, TakesTicket, GoesOn, Happens}
+use Rattle.peer_flight.specs.Events.{Event, Want, JobPut, LanePut, JobTaken, OutcomeSet, Landed, OutcomeSeen, LaneTaken, pending, with_wish, JoinsFlight, LeadsFlight, WantsAs, Wants, PutsJob, PutsTicket, RepliesBy, TakesBy, TakesAs, TakesJob, MayBring, SetsAs, LandsFlight, SeesOutcome, TakesTicket, GoesOn, Happens}
 use Rattle.peer_flight.specs.Laws.{IsFlight, NamesItsPlace}
 use Rattle.peer_flight.proofs.ListSteps.{All_at, sum_set, sum_push, push_last}
 use Rattle.peer_flight.proofs.Sound.{outcomes, IsGood, Sound}
@@ -47,43 +47,43 @@ module _ (allowed : ℕ → List ℕ → Answer → Type 0) (w : World) (s : Sou
       let number : m ≡ k = same_Some m k is in
       (there.0, ap (slice_get flights) (sym number) ∙ there.1, asks ∙ ap Some (sym there.2))
 
-  joined_keeps : (w' : World) (i : ℕ) (e : Wants w w' i) → JoinsFlight w w' i e.old e.wish e.place e.number → Sound allowed w'
-  joined_keeps w' i e step =
+  joined_keeps : (w' : World) (i : ℕ) (wish : Wish) (e : WantsAs wish i w w') → JoinsFlight w w' i e.old wish e.may.place e.number → Sound allowed w'
+  joined_keeps w' i wish e step =
       let m = e.number in
-      let t = pending e.wish m in
-      let d = with_wish e.old e.wish (WithTicket t) in
-      let there = s.tabled.found e.place m step.joins.live in
-      let good = wanted_good w.flights e.old e.wish t (WithTicket t) (All_at (IsGood w.flights) w.connections i e.old s.good e.here) e.empty refl refl (names_place e.wish e.place m w.flights e.asks (there.0, there.1, there.2)) in
+      let t = pending wish m in
+      let d = with_wish e.old wish (WithTicket t) in
+      let there = s.tabled.found e.may.place m step.joins.live in
+      let good = wanted_good w.flights e.old wish t (WithTicket t) (All_at (IsGood w.flights) w.connections i e.old s.good e.here) e.may.arrives.empty refl refl (names_place wish e.may.place m w.flights e.may.asks (there.0, there.1, there.2)) in
       subst (Sound allowed) (sym step.after) (record {
-        counted = counted_moved (λ k. hands k (set w.connections i d)) (λ k. jobs k w.jobs) s.counted (λ k. omega (arith, hands_set w.connections i e.old d e.here k, ap (rights_in k) e.empty));
+        counted = counted_moved (λ k. hands k (set w.connections i d)) (λ k. jobs k w.jobs) s.counted (λ k. omega (arith, hands_set w.connections i e.old d e.here k, ap (rights_in k) e.may.arrives.empty));
         tabled = tabled_same w.table step.table w.flights s.tabled step.joins.same;
         good = All-set (IsGood w.flights) w.connections i d good s.good;
         allows = s.allows;
       })
 
-  led_keeps : (w' : World) (i : ℕ) (e : Wants w w' i) → LeadsFlight w w' i e.old e.wish e.place e.number → Sound allowed w'
-  led_keeps w' i e step =
+  led_keeps : (w' : World) (i : ℕ) (wish : Wish) (e : WantsAs wish i w w') → LeadsFlight w w' i e.old wish e.may.place e.number → Sound allowed w'
+  led_keeps w' i wish e step =
       let m = e.number in
-      let p = e.place in
-      let t = pending e.wish m in
+      let p = e.may.place in
+      let t = pending wish m in
       let flights = w.flights ++ new_flight p ∷ [] in
       let grows = grows_push w.flights (new_flight p) in
-      let d = with_wish e.old e.wish (WithRight t m) in
+      let d = with_wish e.old wish (WithRight t m) in
       let last : m ≡ length w.flights = step.leads.number ∙ s.tabled.number in
       let led : IsFlight flights m (new_flight p) = subst (λ k. IsFlight flights k (new_flight p)) (sym last) (push_last w.flights (new_flight p)) in
       let was = good_still w.flights flights e.old grows (All_at (IsGood w.flights) w.connections i e.old s.good e.here) in
-      let good = wanted_good flights e.old e.wish t (WithRight t m) was e.empty refl refl (names_place e.wish p m flights e.asks (new_flight p, led, refl)) in
+      let good = wanted_good flights e.old wish t (WithRight t m) was e.may.arrives.empty refl refl (names_place wish p m flights e.may.asks (new_flight p, led, refl)) in
       subst (Sound allowed) (sym step.after) (record {
-        counted = counted_led (λ k. hands k (set w.connections i d)) p s.counted (λ k. omega (arith, hands_set w.connections i e.old d e.here k, ap (rights_in k) e.empty, ap (same k) last));
+        counted = counted_led (λ k. hands k (set w.connections i d)) p s.counted (λ k. omega (arith, hands_set w.connections i e.old d e.here k, ap (rights_in k) e.may.arrives.empty, ap (same k) last));
         tabled = tabled_led w.table step.table w.flights p m s.tabled step.leads;
         good = All-set (IsGood flights) w.connections i d good (all_still w.flights flights w.connections grows s.good);
         allows = allowed_led allowed w.flights p s.allows;
       })
 
-  wanted_keeps : (w' : World) (i : ℕ) → Wants w w' i → Sound allowed w'
-  wanted_keeps w' i e = elim e.wanted [ inl step ↦ joined_keeps w' i e step | inr step ↦ led_keeps w' i e step ]
+  wanted_keeps : (w' : World) (i : ℕ) → Wants i w w' → Sound allowed w'
+  wanted_keeps w' i e = elim e.1.wanted [ inl step ↦ joined_keeps w' i e.0 e.1 step | inr step ↦ led_keeps w' i e.0 e.1 step ]
 
-  job_put_keeps : (w' : World) (i : ℕ) → PutsJob w w' i → Sound allowed w'
+  job_put_keeps : (w' : World) (i : ℕ) → PutsJob i w w' → Sound allowed w'
   job_put_keeps w' i e =
       let d : Connection = record e.old { hand = WithTicket e.ticket } in
       let good = handed_good w.flights e.old e.ticket e.number (All_at (IsGood w.flights) w.connections i e.old s.good e.here) e.held in
@@ -94,7 +94,7 @@ module _ (allowed : ℕ → List ℕ → Answer → Type 0) (w : World) (s : Sou
         allows = s.allows;
       })
 
-  job_taken_keeps : (w' : World) (v : ℕ) → TakesJob w w' v → Sound allowed w'
+  job_taken_keeps : (w' : World) (v : ℕ) → TakesJob v w w' → Sound allowed w'
   job_taken_keeps w' v e =
       let x = e.flight in
       let y : Flight = record x { taken = x.taken + 1 } in
@@ -111,24 +111,24 @@ module _ (allowed : ℕ → List ℕ → Answer → Type 0) (w : World) (s : Sou
         allows = allowed_kept allowed w.flights e.number x y s.allows (λ a brought. s.allows e.number x a e.led brought);
       })
 
-  outcome_set_keeps : (w' : World) (v : ℕ) → SetsOutcome allowed w w' v → Sound allowed w'
-  outcome_set_keeps w' v e =
+  outcome_set_keeps : (w' : World) (v : ℕ) (outcome : Outcome) → SetsAs allowed outcome v w w' → Sound allowed w'
+  outcome_set_keeps w' v outcome e =
       let x = e.flight in
       let n = e.number in
-      let y : Flight = record x { outcome = e.outcome; spent = true; sets = x.sets + 1 } in
+      let y : Flight = record x { outcome = outcome; spent = true; sets = x.sets + 1 } in
       let workers = set w.workers v (Landing n) in
       let out : (k : ℕ) → fillers k workers + same k n ≡ fillers k w.workers = λ k. omega (arith, sum_set (filling k) w.workers v (Filling n) (Landing n) e.held) in
       let come : (k : ℕ) → landers k workers ≡ landers k w.workers + same k n = λ k. omega (arith, sum_set (landing k) w.workers v (Filling n) (Landing n) e.held) in
       let unset : outcomes x.outcome ≡ 0 = unset_while_filling n x e.led s.counted (omega (arith, out n, same_self n n refl)) in
       let grows = grows_set w.flights n x y e.led refl (λ a brought. absurd (omega (arith, unset, ap outcomes brought))) in
       subst (Sound allowed) (sym e.after) (record {
-        counted = counted_set n x e.led (λ k. fillers k workers) (λ k. landers k workers) e.outcome (one_outcome allowed x.place e.outcome e.brought) s.counted out come;
+        counted = counted_set n x e.led (λ k. fillers k workers) (λ k. landers k workers) outcome (one_outcome allowed x.place outcome e.brought) s.counted out come;
         tabled = tabled_kept w.table w.flights n x y s.tabled e.led refl refl;
         good = all_still w.flights (set w.flights n y) w.connections grows s.good;
         allows = allowed_kept allowed w.flights n x y s.allows (λ a is. subst (MayBring allowed x.place) is e.brought);
       })
 
-  landed_keeps : (w' : World) (v : ℕ) → LandsFlight w w' v → Sound allowed w'
+  landed_keeps : (w' : World) (v : ℕ) → LandsFlight v w w' → Sound allowed w'
   landed_keeps w' v e =
       let x = e.flight in
       let n = e.number in
@@ -148,9 +148,9 @@ module _ (allowed : ℕ → List ℕ → Answer → Type 0) (w : World) (s : Sou
   -- the right in the hand stays as a ticket goes into the lane, is taken, or is answered
   put_rights : (c d : Connection) → PutsTicket c d → (m : ℕ) → rights_in m d.hand ≡ rights_in m c.hand
   put_rights c d puts m =
-      elim puts.put [
+      elim puts [
         | inl step ↦ ap (λ (x : Connection). rights_in m x.hand) step.after ∙ sym (ap (rights_in m) step.held)
-        | inr step ↦ ap (λ (x : Connection). rights_in m x.hand) step.after
+        | inr some ↦ ap (λ (x : Connection). rights_in m x.hand) some.1.after
       ]
 
   taken_by_hand : (c d : Connection) (t : Ticket) (named : Option ℕ) → TakesBy named c t d → d.hand ≡ c.hand
@@ -174,7 +174,7 @@ module _ (allowed : ℕ → List ℕ → Answer → Type 0) (w : World) (s : Sou
   seen_rights : (c d : Connection) → SeesOutcome w.flights c d → (m : ℕ) → rights_in m d.hand ≡ rights_in m c.hand
   seen_rights c d step m = ap (rights_in m) (replied_hand c d (step.before ++ step.behind) step.ticket step.flight.outcome step.replies)
 
-  goes_on_keeps : (Step : Connection → Connection → Type 0) (w' : World) (i : ℕ) → ((c d : Connection) → IsGood w.flights c → Step c d → IsGood w.flights d) → ((c d : Connection) → Step c d → (m : ℕ) → rights_in m d.hand ≡ rights_in m c.hand) → GoesOn Step w w' i → Sound allowed w'
+  goes_on_keeps : (Step : Connection → Connection → Type 0) (w' : World) (i : ℕ) → ((c d : Connection) → IsGood w.flights c → Step c d → IsGood w.flights d) → ((c d : Connection) → Step c d → (m : ℕ) → rights_in m d.hand ≡ rights_in m c.hand) → GoesOn Step i w w' → Sound allowed w'
   goes_on_keeps Step w' i keeps same_rights e =
       subst (Sound allowed) (sym e.after) (turned allowed w i e.old e.new s e.here (keeps e.old e.new (All_at (IsGood w.flights) w.connections i e.old s.good e.here) e.step) (same_rights e.old e.new e.step))
 
@@ -184,7 +184,7 @@ module _ (allowed : ℕ → List ℕ → Answer → Type 0) (w : World) (s : Sou
   event_keeps (JobPut i) w' e = job_put_keeps w' i e
   event_keeps (LanePut i) w' e = goes_on_keeps PutsTicket w' i (put_good w.flights) put_rights e
   event_keeps (JobTaken v) w' e = job_taken_keeps w' v e
-  event_keeps (OutcomeSet v) w' e = outcome_set_keeps w' v e
+  event_keeps (OutcomeSet v) w' e = outcome_set_keeps w' v e.0 e.1
   event_keeps (Landed v) w' e = landed_keeps w' v e
   event_keeps (OutcomeSeen i) w' e = goes_on_keeps (SeesOutcome w.flights) w' i (seen_good w.flights) seen_rights e
   event_keeps (LaneTaken i) w' e = goes_on_keeps TakesTicket w' i (taken_good w.flights) taken_rights e

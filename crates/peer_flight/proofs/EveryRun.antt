@@ -17,7 +17,7 @@ use Rattle.peer_flight.proofs.Sound.{outcomes, IsGood, Sound}
 use Rattle.peer_flight.proofs.EventSteps.{event_keeps}
 
 -- an empty world is sound
-start_sound : (allowed : ℕ → List ℕ → Answer → Type 0) (workers connections : ℕ) → Sound allowed (start workers connections)
+pub start_sound : (allowed : ℕ → List ℕ → Answer → Type 0) (workers connections : ℕ) → Sound allowed (start workers connections)
 start_sound allowed workers connections = record {
   counted = record {
     each = λ m x is. absurd (none-some x is);
@@ -38,7 +38,7 @@ start_sound allowed workers connections = record {
 }
 
 -- a run from a sound world ends in a sound one
-run_sound : (allowed : ℕ → List ℕ → Answer → Type 0) (events : List Event) (w w' : World) → Sound allowed w → Run allowed events w w' → Sound allowed w'
+pub run_sound : (allowed : ℕ → List ℕ → Answer → Type 0) (events : List Event) (w w' : World) → Sound allowed w → Run allowed events w w' → Sound allowed w'
 run_sound allowed [] w w' s run = subst (Sound allowed) (sym run) s
 run_sound allowed (e ∷ es) w w' s run = run_sound allowed es run.0 w' (event_keeps allowed w s e run.0 run.1) run.2
 

@@ -8,3 +8,5 @@ pub mod Turning
 pub mod EventSteps
 pub mod EveryRun
 pub mod Seeing
+pub mod Reaching
+pub mod WorldCalls

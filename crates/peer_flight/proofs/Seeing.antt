@@ -7,8 +7,8 @@ use Rattle.peer_source.specs.declared.fill.Outcome.TheVariants as source
 use Rattle.std.specs.Option.{IfSome}
 use Rattle.std.specs.List.{slice_get, slice_set}
 use Rattle.peer_flight.specs.SingleFlight.{Place, State}
-use Rattle.peer_flight.specs.World.{Ticket, Flight, Connection, Written, World}
-use Rattle.peer_flight.specs.Events.{Wants, SeesOutcome, RepliesBy, MayBring}
+use Rattle.peer_flight.specs.World.{Wish, Ticket, Flight, Connection, Written, World}
+use Rattle.peer_flight.specs.Events.{WantsAs, SeesOutcome, RepliesBy, MayBring}
 use Rattle.peer_flight.specs.WorldViews.{Brings, WantsAt, outcome_by}
 
 -- a source that had memory gave an answer
@@ -59,15 +59,11 @@ may_bring allowed p None law = tt
 may_bring allowed p (Some answer) law = law
 
 -- what a connection wanted, the world wanted
-pub wants_from : (w : World) (c : ℕ) (old new : Connection) (table : State) (flights : List Flight) → slice_get w.connections c ≡ Some old → WantsAt w.table table w.flights flights old new → Wants w (record w { table = table; flights = flights; connections = slice_set w.connections c new }) c
-wants_from w c old new table flights here at = record {
+pub wants_from : (w : World) (wish : Wish) (c : ℕ) (old new : Connection) (table : State) (flights : List Flight) → slice_get w.connections c ≡ Some old → WantsAt wish w.table table w.flights flights old new → WantsAs wish c w (record w { table = table; flights = flights; connections = slice_set w.connections c new })
+wants_from w wish c old new table flights here at = record {
   old = old;
   here = here;
-  empty = at.empty;
-  arrives = at.arrives;
-  wish = at.wish;
-  place = at.place;
-  asks = at.asks;
+  may = at.may;
   number = at.number;
   wanted =
       elim at.wanted [

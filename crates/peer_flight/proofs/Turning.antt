@@ -99,19 +99,21 @@ handed_good flights c t m good held =
 pub put_good : (flights : List Flight) (c d : Connection) → IsGood flights c → PutsTicket c d → IsGood flights d
 put_good flights c d good puts =
     let a = map (λ (y : Written). y.ticket) c.written in
-    elim puts.put [
+    elim puts [
       | inl step ↦
           let t = step.ticket in
           let e : Connection = record c { hand = Empty; lane = c.lane ++ t ∷ [] } in
           let parts : line a c.waiting (c.lane ++ t ∷ []) [] ≡ line a c.waiting c.lane (t ∷ []) = simp (append_assoc, append-nil) in
           subst (IsGood flights) (sym step.after) (same_tickets flights c e good (parts ∙ ap (λ h. line a c.waiting c.lane (in_hand h)) (sym step.held)) refl good.written good.one)
-      | inr step ↦
-          let t = ready step.wish in
-          let e : Connection = record c { arrived = c.arrived ++ step.wish ∷ []; lane = c.lane ++ t ∷ [] } in
+      | inr some ↦
+          let wish = some.0 in
+          let step = some.1 in
+          let t = ready wish in
+          let e : Connection = record c { arrived = c.arrived ++ wish ∷ []; lane = c.lane ++ t ∷ [] } in
           let parts : line a c.waiting (c.lane ++ t ∷ []) [] ≡ line a c.waiting c.lane [] ++ t ∷ [] = simp (append_assoc, append-nil) in
           let more : tickets_of e ≡ tickets_of c ++ t ∷ [] =
-          ap (λ h. line a c.waiting (c.lane ++ t ∷ []) (in_hand h)) step.empty ∙ parts ∙ ap (λ h. line a c.waiting c.lane (in_hand h) ++ t ∷ []) (sym step.empty) in
-          subst (IsGood flights) (sym step.after) (one_ticket flights c e t good more refl (ready_names flights step.wish) refl refl refl)
+          ap (λ h. line a c.waiting (c.lane ++ t ∷ []) (in_hand h)) step.arrives.empty ∙ parts ∙ ap (λ h. line a c.waiting c.lane (in_hand h) ++ t ∷ []) (sym step.arrives.empty) in
+          subst (IsGood flights) (sym step.after) (one_ticket flights c e t good more refl (ready_names flights wish) refl refl refl)
     ]
 
 module _ (flights : List Flight) (c : Connection) (good : IsGood flights c) where

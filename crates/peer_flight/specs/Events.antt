@@ -1,9 +1,9 @@
 -- The eight events of a pool, each in a world that allows it.
-use Rattle.std.specs.Prelude.{◌≡◌, ℕ, ◌+◌, ◌<◌, Bool, true, false, List, [], ◌∷◌, ◌++◌, length, Option, None, Some, All, ◌⊎◌}
+use Rattle.std.specs.Prelude.{◌≡◌, ℕ, ◌+◌, ◌<◌, Bool, true, false, List, [], ◌∷◌, ◌++◌, length, Option, None, Some, All, ◌⊎◌, MatchBool}
 use Rattle.std.specs.List.{slice_get, slice_set}
 use Rattle.peer_source.specs.Answers.{Answer}
 use Rattle.peer_flight.specs.SingleFlight.{Place, State, Leads, Joins, Lands}
-use Rattle.peer_flight.specs.World.{Wish, Ticket, Outcome, Unset, Answered, NoMemory, Flight, new_flight, Hand, Empty, WithTicket, WithRight, Idle, Filling, Landing, Connection, World}
+use Rattle.peer_flight.specs.World.{Wish, Ticket, Outcome, Unset, Answered, NoMemory, Flight, new_flight, Hand, Empty, WithTicket, WithRight, Idle, Filling, Landing, Connection, World, start}
 
 -- the most jobs in the list
 abbrev pub JOBS : ℕ
@@ -28,8 +28,9 @@ pub data Event : Type 0 where
   OutcomeSeen : (connection : ℕ) → Event
   LaneTaken : (connection : ℕ) → Event
 
--- another wish may arrive: none so far closes, and fewer than the most arrived
+-- another wish may arrive: the hand is empty, no wish so far closes, and fewer than the most arrived
 pub record MayArrive (c : Connection) : Type 0 where
+  pub empty : c.hand ≡ Empty
   pub none_closes : All (λ wish. wish.closing ≡ false) c.arrived
   pub room : length c.arrived < REPLIES
 
@@ -57,20 +58,26 @@ pub record LeadsFlight (w w' : World) (c : ℕ) (old : Connection) (wish : Wish)
   pub leads : Leads w.table table p m
   pub after : w' ≡ record w { table = table; flights = w.flights ++ new_flight p ∷ []; connections = slice_set w.connections c (with_wish old wish (WithRight (pending wish m) m)) }
 
--- want: a wish with a place arrives at an empty hand
-pub record Wants (w w' : World) (c : ℕ) : Type 0 where
-  pub old : Connection
-  pub here : slice_get w.connections c ≡ Some old
-  pub empty : old.hand ≡ Empty
-  pub arrives : MayArrive old
-  pub wish : Wish
+-- the wish may be wanted: it may arrive, and has a place
+pub record MayWant (c : Connection) (wish : Wish) : Type 0 where
+  pub arrives : MayArrive c
   pub place : Place
   pub asks : wish.place ≡ Some place
+
+-- want: this wish, which has a place, arrives at an empty hand
+pub record WantsAs (wish : Wish) (c : ℕ) (w w' : World) : Type 0 where
+  pub old : Connection
+  pub here : slice_get w.connections c ≡ Some old
+  pub may : MayWant old wish
   pub number : ℕ
-  pub wanted : JoinsFlight w w' c old wish place number ⊎ LeadsFlight w w' c old wish place number
+  pub wanted : JoinsFlight w w' c old wish may.place number ⊎ LeadsFlight w w' c old wish may.place number
+
+-- want, by some wish
+abbrev pub Wants : ℕ → World → World → Type 0
+Wants c w w' = (wish : Wish) × WantsAs wish c w w'
 
 -- job put: the right in the hand goes to the end of the job list
-pub record PutsJob (w w' : World) (c : ℕ) : Type 0 where
+pub record PutsJob (c : ℕ) (w w' : World) : Type 0 where
   pub old : Connection
   pub here : slice_get w.connections c ≡ Some old
   pub ticket : Ticket
@@ -79,26 +86,25 @@ pub record PutsJob (w w' : World) (c : ℕ) : Type 0 where
   pub room : length w.jobs < JOBS
   pub after : w' ≡ record w { jobs = w.jobs ++ number ∷ []; connections = slice_set w.connections c (record old { hand = WithTicket ticket }) }
 
--- the ticket in the hand, with no right beside it, goes to the lane's end
+-- the ticket in the hand, with no right beside it, goes to the end of the lane
 pub record PutsHand (old new : Connection) : Type 0 where
+  pub room : length old.lane < TICKETS
   pub ticket : Ticket
   pub held : old.hand ≡ WithTicket ticket
   pub after : new ≡ record old { hand = Empty; lane = old.lane ++ ticket ∷ [] }
 
--- a fault or a hit arrives at an empty hand, and goes to the lane's end as a ready ticket
-pub record PutsReady (old new : Connection) : Type 0 where
-  pub empty : old.hand ≡ Empty
+-- this wish, a fault or a hit, arrives at an empty hand, and goes to the end of the lane as a ready ticket
+pub record PutsReady (wish : Wish) (old new : Connection) : Type 0 where
+  pub room : length old.lane < TICKETS
   pub arrives : MayArrive old
-  pub wish : Wish
   pub after : new ≡ record old { arrived = old.arrived ++ wish ∷ []; lane = old.lane ++ ready wish ∷ [] }
 
 -- lane put: a ticket goes to the end of the lane
-pub record PutsTicket (old new : Connection) : Type 0 where
-  pub room : length old.lane < TICKETS
-  pub put : PutsHand old new ⊎ PutsReady old new
+abbrev pub PutsTicket : Connection → Connection → Type 0
+PutsTicket old new = PutsHand old new ⊎ ((wish : Wish) × PutsReady wish old new)
 
 -- job taken: the first job's right goes to a worker with empty hands
-pub record TakesJob (w w' : World) (v : ℕ) : Type 0 where
+pub record TakesJob (v : ℕ) (w w' : World) : Type 0 where
   pub idle : slice_get w.workers v ≡ Some Idle
   pub number : ℕ
   pub rest : List ℕ
@@ -113,18 +119,21 @@ MayBring allowed p Unset = ⊥
 MayBring allowed p (Answered a) = ∥ allowed p.group p.key a ∥₁
 MayBring allowed p NoMemory = Unit {0}
 
--- outcome set: the worker's right is spent, and the flight has its outcome
-pub record SetsOutcome (allowed : ℕ → List ℕ → Answer → Type 0) (w w' : World) (v : ℕ) : Type 0 where
+-- outcome set: the worker's right is spent, and the flight has this outcome
+pub record SetsAs (allowed : ℕ → List ℕ → Answer → Type 0) (outcome : Outcome) (v : ℕ) (w w' : World) : Type 0 where
   pub number : ℕ
   pub held : slice_get w.workers v ≡ Some (Filling number)
   pub flight : Flight
   pub led : slice_get w.flights number ≡ Some flight
-  pub outcome : Outcome
   pub brought : MayBring allowed flight.place outcome
   pub after : w' ≡ record w { flights = slice_set w.flights number (record flight { outcome = outcome; spent = true; sets = flight.sets + 1 }); workers = slice_set w.workers v (Landing number) }
 
+-- outcome set, with some outcome
+abbrev pub SetsOutcome : (ℕ → List ℕ → Answer → Type 0) → ℕ → World → World → Type 0
+SetsOutcome allowed v w w' = (outcome : Outcome) × SetsAs allowed outcome v w w'
+
 -- landed: the worker, whose right is spent, lands the flight, and its hands are empty
-pub record LandsFlight (w w' : World) (v : ℕ) : Type 0 where
+pub record LandsFlight (v : ℕ) (w w' : World) : Type 0 where
   pub number : ℕ
   pub held : slice_get w.workers v ≡ Some (Landing number)
   pub flight : Flight
@@ -174,25 +183,45 @@ pub record TakesTicket (old new : Connection) : Type 0 where
   pub takes : TakesAs old.ended (record old { lane = rest }) ticket new
 
 -- one connection goes on by this step, and nothing else changes
-pub record GoesOn (Step : Connection → Connection → Type 0) (w w' : World) (c : ℕ) : Type 0 where
+pub record GoesOn (Step : Connection → Connection → Type 0) (c : ℕ) (w w' : World) : Type 0 where
   pub old : Connection
   pub here : slice_get w.connections c ≡ Some old
   pub new : Connection
   pub step : Step old new
   pub after : w' ≡ record w { connections = slice_set w.connections c new }
 
+-- outcome seen, by the writer of this connection
+abbrev pub SeesAt : ℕ → World → World → Type 0
+SeesAt c w w' = GoesOn (SeesOutcome w.flights) c w w'
+
 -- the event leads from the world w to the world w'
 abbrev pub Happens : (ℕ → List ℕ → Answer → Type 0) → World → Event → World → Type 0
-Happens allowed w (Want c) w' = Wants w w' c
-Happens allowed w (JobPut c) w' = PutsJob w w' c
-Happens allowed w (LanePut c) w' = GoesOn PutsTicket w w' c
-Happens allowed w (JobTaken v) w' = TakesJob w w' v
-Happens allowed w (OutcomeSet v) w' = SetsOutcome allowed w w' v
-Happens allowed w (Landed v) w' = LandsFlight w w' v
-Happens allowed w (OutcomeSeen c) w' = GoesOn (SeesOutcome w.flights) w w' c
-Happens allowed w (LaneTaken c) w' = GoesOn TakesTicket w w' c
+Happens allowed w (Want c) w' = Wants c w w'
+Happens allowed w (JobPut c) w' = PutsJob c w w'
+Happens allowed w (LanePut c) w' = GoesOn PutsTicket c w w'
+Happens allowed w (JobTaken v) w' = TakesJob v w w'
+Happens allowed w (OutcomeSet v) w' = SetsOutcome allowed v w w'
+Happens allowed w (Landed v) w' = LandsFlight v w w'
+Happens allowed w (OutcomeSeen c) w' = SeesAt c w w'
+Happens allowed w (LaneTaken c) w' = GoesOn TakesTicket c w w'
 
 -- these events, one after the other, lead from the world w to the world w'
 abbrev pub Run : (ℕ → List ℕ → Answer → Type 0) → List Event → World → World → Type 0
 Run allowed [] w w' = w' ≡ w
 Run allowed (e ∷ es) w w' = (mid : World) × Happens allowed w e mid × Run allowed es mid w'
+
+-- some events lead from an empty world to this one
+pub record IsReached (allowed : ℕ → List ℕ → Answer → Type 0) (w : World) : Type 0 where
+  pub workers : ℕ
+  pub connections : ℕ
+  pub events : List Event
+  pub run : Run allowed events (start workers connections) w
+
+-- nothing changed, and the step leads nowhere from here
+pub record IsRefused {X : Type 0} (Step : X → X → Type 0) (old new : X) : Type 0 where
+  pub same : new ≡ old
+  pub nowhere : (x : X) → Step old x → ⊥
+
+-- where the step is allowed it happened, and else nothing: the answer tells which
+abbrev pub WhereAllowed : {X : Type 0} → Bool → (X → X → Type 0) → X → X → Type 0
+WhereAllowed answer Step old new = MatchBool answer (Step old new) (IsRefused Step old new)

@@ -1,9 +1,9 @@
 -- How the plain data of the module `world` is seen.
-use Rattle.std.specs.Prelude.{◌≡◌, ℕ, ◌+◌, true, List, [], ◌∷◌, ◌++◌, ◌⊎◌, Option, None, Some, slice_get}
+use Rattle.std.specs.Prelude.{◌≡◌, ℕ, false, List, [], ◌∷◌, ◌++◌, ◌⊎◌, ◌≤◌, length, Option, None, Some, slice_get}
 use Rattle.peer_source.specs.Answers.{Answer, Filled}
-use Rattle.peer_flight.specs.World.{Wish, Ticket, Flight, new_flight, Connection, Outcome, Unset, Answered, NoMemory, Hand, Empty, WithTicket, WithRight, Worker, Idle, Filling, Landing}
-use Rattle.peer_flight.specs.SingleFlight.{Place, State, Joins, Leads, Lands}
-use Rattle.peer_flight.specs.Events.{MayArrive, MayBring, pending, with_wish}
+use Rattle.peer_flight.specs.World.{Wish, Ticket, Flight, new_flight, Connection, Outcome, Unset, Answered, NoMemory, Hand, Empty, WithTicket, WithRight, Worker, Idle, Filling, Landing, World}
+use Rattle.peer_flight.specs.SingleFlight.{place_of, State, Joins, Leads}
+use Rattle.peer_flight.specs.Events.{MayWant, SetsAs, SeesOutcome, pending, with_wish}
 use Rattle.peer_flight.specs.declared.world.worker.Hands.{Hands}
 use Rattle.peer_flight.specs.declared.world.worker.Hands.TheVariants as hands
 use Rattle.peer_flight.specs.declared.world.ticket.Hand.{Hand as Held}
@@ -44,23 +44,21 @@ worker_of hands.Empty = Idle
 worker_of (hands.Filling number) = Filling number
 worker_of (hands.Landing number) = Landing number
 
--- the flight's right was spent for an outcome that it may get
-pub record Sets (allowed : ℕ → List ℕ → Answer → Type 0) (old new : Flight) : Type 0 where
-  pub outcome : Outcome
-  pub brought : MayBring allowed old.place outcome
-  pub after : new ≡ record old { outcome = outcome; spent = true; sets = old.sets + 1 }
+-- the flight of the ticket has brought nothing, if the ticket has one
+abbrev pub BringsNothing : List Flight → Ticket → Type 0
+BringsNothing flights ticket = (m : ℕ) (f : Flight) → ticket.flight ≡ Some m → slice_get flights m ≡ Some f → f.outcome ≡ Unset
 
--- the flight landed in the table, and this was counted
-pub record LandsIn (s s' : State) (number : ℕ) (old new : Flight) : Type 0 where
-  pub lands : Lands s s' old.place number
-  pub after : new ≡ record old { landed = old.landed + 1 }
+-- a writer that waits for one ticket at most while it goes on sees no outcome
+abbrev pub SeesNone : List Flight → Connection → Type 0
+SeesNone flights c = (c.ended ≡ false → length c.waiting ≤ 1) → (new : Connection) → SeesOutcome flights c new → ⊥
 
--- a wish arrived at a connection's empty hand, and its place joined a flight of the table, or led one that is listed
-pub record WantsAt (s s' : State) (flights flights' : List Flight) (old new : Connection) : Type 0 where
-  pub empty : old.hand ≡ Empty
-  pub arrives : MayArrive old
-  pub wish : Wish
-  pub place : Place
-  pub asks : wish.place ≡ Some place
+-- outcome set, by this fill, which is of the flight's place
+pub record SetsFill (allowed : ℕ → List ℕ → Answer → Type 0) (fill : Filled) (v : ℕ) (w w' : World) : Type 0 where
+  pub sets : SetsAs allowed (outcome_by fill.answer) v w w'
+  pub of : sets.flight.place ≡ place_of fill.group fill.key
+
+-- this wish arrived at the empty hand of a connection, and its place joined a flight of the table, or led one that is listed
+pub record WantsAt (wish : Wish) (s s' : State) (flights flights' : List Flight) (old new : Connection) : Type 0 where
+  pub may : MayWant old wish
   pub number : ℕ
-  pub wanted : (Joins s s' place number × (flights' ≡ flights) × (new ≡ with_wish old wish (WithTicket (pending wish number)))) ⊎ (Leads s s' place number × (flights' ≡ flights ++ new_flight place ∷ []) × (new ≡ with_wish old wish (WithRight (pending wish number) number)))
+  pub wanted : (Joins s s' may.place number × (flights' ≡ flights) × (new ≡ with_wish old wish (WithTicket (pending wish number)))) ⊎ (Leads s s' may.place number × (flights' ≡ flights ++ new_flight may.place ∷ []) × (new ≡ with_wish old wish (WithRight (pending wish number) number)))

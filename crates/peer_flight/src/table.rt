@@ -113,11 +113,17 @@ impl<S: Source> Table<S> {
     pub fn land(&mut self, flight: &Flight<S>)
         ensures { Lands (state_of self.old) (state_of self.new) flight.now.place flight.now.number }
     {
-        let place = flight.place();
+        self.land_at(flight.place(), flight.number());
+    }
+
+    // Takes the open flight of the place out, where it has this number.
+    pub(crate) fn land_at(&mut self, place: &Place, number: u64)
+        ensures { Lands (state_of self.old) (state_of self.new) place.now number }
+    {
         let Some(found) = self.flights.get(place) else {
             return;
         };
-        if found.number() == flight.number() {
+        if found.number() == number {
             let _landed = self.flights.remove(place);
         }
     }

@@ -2,8 +2,9 @@
 //!
 //! Each call is one event of `specs/Events.antt` where the world allows it, and else changes nothing and answers
 //! `false`. It serves to try schedules without threads; a running pool shares a `Table` and lanes between threads.
-ghost use Rattle.std.specs.Prelude.{◌≡◌, IfOk, MatchBool};
-ghost use Rattle.peer_flight.specs.Events.{PutsTicket, TakesTicket, SeesOutcome};
+ghost use Rattle.std.specs.Prelude.{◌≡◌, ◌≢◌, true, IfOk, OnErr, IsErrOf, IsSomeAnd};
+ghost use Rattle.peer_flight.specs.Events.{IsReached, PutsHand, PutsReady, TakesTicket};
+ghost use Rattle.peer_flight.specs.Tables.{IsWorn, state_of};
 ghost use Rattle.peer_flight.specs.World.{start};
 
 use self::connection::new_connections;
@@ -36,11 +37,13 @@ pub struct World<S: Source> {
     jobs: VecDeque<u64>,
     workers: Vec<Worker>,
     connections: Vec<Connection<S>>,
+    ghost reached: { ∥ IsReached S.allowed (record { table = state_of table; flights = flights.items; jobs = jobs.items; workers = workers.items; connections = connections.items }) ∥₁ },
 }
 
 impl<S: Source> World<S> {
-    ghost use Rattle.peer_flight.specs.Events.{PutsJob, TakesJob, SetsOutcome, LandsFlight, Wants, GoesOn};
+    ghost use Rattle.peer_flight.specs.Events.{PutsJob, TakesJob, LandsFlight, WantsAs, GoesOn, SeesAt, WhereAllowed};
     ghost use Rattle.peer_flight.specs.SingleFlight.{IsSame, no_flights};
+    ghost use Rattle.peer_flight.specs.WorldViews.{SetsFill};
     ghost use Rattle.peer_flight.specs.Worlds.{world_of};
 
     /// An empty world with so many workers and connections.
@@ -59,9 +62,15 @@ impl<S: Source> World<S> {
         })
     }
 
+    /// The law of worlds: events lead to this one from an empty world, so each fact of `laws` holds of it.
+    pub fn law(&self)
+        ensures { ∥ IsReached S.allowed (world_of self.now) ∥₁ }
+    {}
+
     /// Job put: the right in the hand of a connection goes to the end of the job list.
     pub fn put_job(&mut self, connection: usize) -> Result<bool, AllocError>
-        ensures { IfOk result (λ put. MatchBool put (PutsJob (world_of self.old) (world_of self.new) connection) (world_of self.new ≡ world_of self.old)) }
+        ensures put { IfOk result (λ put. WhereAllowed put (PutsJob connection) (world_of self.old) (world_of self.new)) }
+        ensures refused { OnErr result (world_of self.new ≡ world_of self.old) }
     {
         if self.jobs.len() >= JOBS {
             return Ok(false);
@@ -73,13 +82,13 @@ impl<S: Source> World<S> {
         let Some(number) = reader.take_right() else {
             return Ok(false);
         };
-        self.jobs.push_back(number)?;
+        self.jobs.push_back_reserved(number);
         Ok(true)
     }
 
     /// Job taken: the first job's right goes to a worker with empty hands.
     pub fn take_job(&mut self, worker: usize) -> bool
-        ensures { MatchBool result (TakesJob (world_of self.old) (world_of self.new) worker) (world_of self.new ≡ world_of self.old) }
+        ensures { WhereAllowed result (TakesJob worker) (world_of self.old) (world_of self.new) }
     {
         let Some(taker) = self.workers.get_mut(worker) else {
             return false;
@@ -91,9 +100,10 @@ impl<S: Source> World<S> {
         let Some(flight) = self.flights.get_mut(number as usize) else {
             return false;
         };
-        if !taker.is_idle() || !flight.take() {
+        if !taker.is_idle() {
             return false;
         }
+        flight.taken += 1;
         taker.hands = Hands::Filling(number);
         let _first = self.jobs.pop_front();
         true
@@ -101,8 +111,9 @@ impl<S: Source> World<S> {
 
     /// Outcome set: the worker spends its right, and the flight has this fill, if it is of the flight's place.
     pub fn set_outcome(&mut self, worker: usize, fill: Fill<S>) -> bool
-        ensures { MatchBool result (SetsOutcome S.allowed (world_of self.old) (world_of self.new) worker) (world_of self.new ≡ world_of self.old) }
+        ensures { WhereAllowed result (SetsFill S.allowed fill worker) (world_of self.old) (world_of self.new) }
     {
+        fill.law();
         let Some(filler) = self.workers.get_mut(worker) else {
             return false;
         };
@@ -112,16 +123,18 @@ impl<S: Source> World<S> {
         let Some(flight) = self.flights.get_mut(number as usize) else {
             return false;
         };
-        if !flight.set(fill) {
+        if !flight.is_of(&fill) {
             return false;
         }
+        flight.spend(fill);
+        flight.sets += 1;
         filler.hands = Hands::Landing(number);
         true
     }
 
     /// Landed: the worker, whose right is spent, lands the flight.
     pub fn land(&mut self, worker: usize) -> bool
-        ensures { MatchBool result (LandsFlight (world_of self.old) (world_of self.new) worker) (world_of self.new ≡ world_of self.old) }
+        ensures { WhereAllowed result (LandsFlight worker) (world_of self.old) (world_of self.new) }
     {
         let Some(lander) = self.workers.get_mut(worker) else {
             return false;
@@ -132,76 +145,66 @@ impl<S: Source> World<S> {
         let Some(flight) = self.flights.get_mut(number as usize) else {
             return false;
         };
-        if !flight.land(&mut self.table, number) {
-            return false;
-        }
+        self.table.land_at(flight.place(), number);
+        flight.landed += 1;
         lander.hands = Hands::Empty;
         true
     }
 
     /// Want: a wish with a place arrives at an empty hand, and joins or leads a flight.
-    #[tactic(auto, using(crate::proofs::Seeing::wants_from))]
     pub fn want(&mut self, alloc: Global, connection: usize, wish: Wish) -> Result<bool, AskFault>
-        ensures { IfOk result (λ wanted. MatchBool wanted (Wants (world_of self.old) (world_of self.new) connection) (world_of self.new ≡ world_of self.old)) }
+        ensures wanted { IfOk result (λ wanted. WhereAllowed wanted (WantsAs wish connection) (world_of self.old) (world_of self.new)) }
+        ensures refused { OnErr result (world_of self.new ≡ world_of self.old) }
+        ensures worn { IsErrOf result AskFault.Worn → IsSomeAnd wish.place (IsWorn (world_of self.old).table) }
+        ensures room { IsSomeAnd wish.place (IsWorn (world_of self.old).table) → result ≢ Ok true }
     {
         let Some(reader) = self.connections.get_mut(connection) else {
             return Ok(false);
         };
-        if !reader.want(alloc, &mut self.table, &mut self.flights, wish)? {
-            return Ok(false);
-        }
-        Ok(true)
+        reader.want(alloc, &mut self.table, &mut self.flights, wish)
     }
 
     /// Lane put, of the ticket in the hand of a connection.
     pub fn put_ticket(&mut self, connection: usize) -> Result<bool, AllocError>
-        ensures { IfOk result (λ put. MatchBool put (GoesOn PutsTicket (world_of self.old) (world_of self.new) connection) (world_of self.new ≡ world_of self.old)) }
+        ensures put { IfOk result (λ put. WhereAllowed put (GoesOn PutsHand connection) (world_of self.old) (world_of self.new)) }
+        ensures refused { OnErr result (world_of self.new ≡ world_of self.old) }
     {
         let Some(reader) = self.connections.get_mut(connection) else {
             return Ok(false);
         };
-        if !reader.put_ticket()? {
-            return Ok(false);
-        }
-        Ok(true)
+        reader.put_ticket()
     }
 
     /// Lane put, of a wish that is a fault or a hit.
     pub fn put_ready(&mut self, connection: usize, wish: Wish) -> Result<bool, AllocError>
-        ensures { IfOk result (λ put. MatchBool put (GoesOn PutsTicket (world_of self.old) (world_of self.new) connection) (world_of self.new ≡ world_of self.old)) }
+        ensures put { IfOk result (λ put. WhereAllowed put (GoesOn (PutsReady wish) connection) (world_of self.old) (world_of self.new)) }
+        ensures refused { OnErr result (world_of self.new ≡ world_of self.old) }
     {
         let Some(reader) = self.connections.get_mut(connection) else {
             return Ok(false);
         };
-        if !reader.put_ready(wish)? {
-            return Ok(false);
-        }
-        Ok(true)
+        reader.put_ready(wish)
     }
 
     /// Lane taken: a ticket that names a flight waits, and a ready one is answered at once.
     pub fn take_ticket(&mut self, connection: usize) -> Result<bool, AllocError>
-        ensures { IfOk result (λ took. MatchBool took (GoesOn TakesTicket (world_of self.old) (world_of self.new) connection) (world_of self.new ≡ world_of self.old)) }
+        ensures took { IfOk result (λ took. WhereAllowed took (GoesOn TakesTicket connection) (world_of self.old) (world_of self.new)) }
+        ensures refused { OnErr result (world_of self.new ≡ world_of self.old) }
     {
         let Some(writer) = self.connections.get_mut(connection) else {
             return Ok(false);
         };
-        if !writer.take_ticket()? {
-            return Ok(false);
-        }
-        Ok(true)
+        writer.take_ticket()
     }
 
     /// Outcome seen: the reply to the ticket that waits is written, or the writer ends for want of memory.
     pub fn see_outcome(&mut self, connection: usize) -> Result<bool, AllocError>
-        ensures { IfOk result (λ seen. MatchBool seen (GoesOn (SeesOutcome (world_of self.old).flights) (world_of self.old) (world_of self.new) connection) (world_of self.new ≡ world_of self.old)) }
+        ensures seen { IfOk result (λ seen. WhereAllowed seen (SeesAt connection) (world_of self.old) (world_of self.new)) }
+        ensures refused { OnErr result (world_of self.new ≡ world_of self.old) }
     {
         let Some(writer) = self.connections.get_mut(connection) else {
             return Ok(false);
         };
-        if !writer.see_outcome(&self.flights)? {
-            return Ok(false);
-        }
-        Ok(true)
+        writer.see_outcome(&self.flights)
     }
 }

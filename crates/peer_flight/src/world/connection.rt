@@ -1,10 +1,11 @@
 //! Connections: a reader's hand, a lane, and a writer.
-ghost use Rattle.std.specs.Prelude.{◌≡◌, IfOk, IsTrue, OnOk, MatchBool, MatchOption, replicate};
-ghost use Rattle.peer_flight.specs.World.{Ticket, Empty, WithTicket, WithRight, new_connection};
-ghost use Rattle.peer_flight.specs.Events.{MayArrive, PutsTicket, TakesTicket, SeesOutcome, with_wish};
-ghost use Rattle.peer_flight.specs.WorldViews.{WantsAt, hand_of};
+ghost use Rattle.std.specs.Prelude.{◌≡◌, ◌≢◌, ◌↔◌, ℕ, true, IfOk, IsTrue, OnErr, IsErrOf, IsSomeAnd, MatchBool, MatchOption, replicate};
+ghost use Rattle.peer_flight.specs.World.{Ticket, WithTicket, WithRight, new_connection};
+ghost use Rattle.peer_flight.specs.Events.{MayArrive, MayWant, PutsHand, PutsReady, TakesTicket, SeesOutcome, WhereAllowed};
+ghost use Rattle.peer_flight.specs.SingleFlight.{IsSame};
+ghost use Rattle.peer_flight.specs.WorldViews.{SeesNone, WantsAt, hand_of};
 
-use super::entry::{FlightEntry, brought, list};
+use super::entry::{FlightEntry, brought};
 use super::ticket::{Hand, Ticket, Written};
 use super::wish::Wish;
 use crate::table::{Ask, AskFault, Table};
@@ -41,7 +42,7 @@ impl<S: Source> Model for Connection<S> {
 }
 
 impl<S: Source> Connection<S> {
-    ghost use Rattle.peer_flight.specs.Tables.{state_of};
+    ghost use Rattle.peer_flight.specs.Tables.{IsWorn, state_of};
 
     // One at which nothing arrived.
     pub(super) fn new(alloc: Global) -> Connection<S>
@@ -57,22 +58,13 @@ impl<S: Source> Connection<S> {
         }
     }
 
-    // Whether another wish may arrive, and the hand is empty for it.
-    fn may_want(&self) -> bool
-        ensures { IsTrue result → (self.now.hand ≡ Empty) × MayArrive self.now }
+    // Whether another wish may arrive.
+    fn may_arrive(&self) -> bool
+        ensures { IsTrue result ↔ MayArrive self.now }
     {
         matches!(self.hand, Hand::Empty)
             && self.arrived.len() < REPLIES
             && self.arrived.iter().all(|wish| !wish.is_closing())
-    }
-
-    // A wish arrives, and its ticket comes into the hand.
-    fn arrive(&mut self, wish: Wish, hand: Hand) -> Result<(), AllocError>
-        ensures { OnOk result (self.new ≡ with_wish self.old wish (hand_of hand)) }
-    {
-        self.arrived.push(wish)?;
-        self.hand = hand;
-        Ok(())
     }
 
     // A wish with a place arrives at the empty hand, and joins or leads a flight.
@@ -83,33 +75,47 @@ impl<S: Source> Connection<S> {
         flights: &mut Vec<FlightEntry<S>>,
         wish: Wish,
     ) -> Result<bool, AskFault>
-        ensures { IfOk result (λ wanted. MatchBool wanted (WantsAt (state_of table.old) (state_of table.new) flights.old.items flights.new.items self.old self.new) ((table.new ≡ table.old) × (flights.new ≡ flights.old) × (self.new ≡ self.old))) }
+        ensures wanted { IfOk result (λ wanted. MatchBool wanted (WantsAt wish (state_of table.old) (state_of table.new) flights.old.items flights.new.items self.old self.new) (¬ (MayWant self.old wish))) }
+        ensures stays { result ≢ Ok true → IsSame (state_of table.old) (state_of table.new) × (flights.new.items ≡ flights.old.items) × (self.new ≡ self.old) }
+        ensures worn { IsErrOf result AskFault.Worn → IsSomeAnd wish.place (IsWorn (state_of table.old)) }
+        ensures room { IsSomeAnd wish.place (IsWorn (state_of table.old)) → result ≢ Ok true }
     {
-        if !self.may_want() {
+        if !self.may_arrive() {
             return Ok(false);
         }
         let Some(place) = &wish.place else {
             return Ok(false);
         };
         let share = wish.share()?;
+        self.arrived.reserve(1)?;
+        flights.reserve(1)?;
         match table.want(alloc, place.group(), place.key())? {
             Ask::Joined(flight) => {
                 let flight = Some(flight.number());
-                self.arrive(share, Hand::WithTicket(Ticket { wish, flight }))?;
+                self.arrived.push_reserved(share);
+                self.hold(Hand::WithTicket(Ticket { wish, flight }));
             }
             Ask::Led(flight, _right) => {
                 let number = flight.number();
-                list(flights, flight)?;
+                flights.push_reserved(FlightEntry::new(flight));
                 let flight = Some(number);
-                self.arrive(share, Hand::WithRight(Ticket { wish, flight }, number))?;
+                self.arrived.push_reserved(share);
+                self.hold(Hand::WithRight(Ticket { wish, flight }, number));
             }
         }
         Ok(true)
     }
 
+    // Takes this into the hand.
+    fn hold(&mut self, hand: Hand)
+        ensures { self.new ≡ record self.old { hand = hand_of hand } }
+    {
+        self.hand = hand;
+    }
+
     // Takes the right out of the hand, and leaves the ticket.
     pub(super) fn take_right(&mut self) -> Option<u64>
-        ensures { MatchOption result (self.new ≡ self.old) (λ number. (t : Ticket) × (self.old.hand ≡ WithRight t number) × (self.new ≡ record self.old { hand = WithTicket t })) }
+        ensures { MatchOption result ((self.new ≡ self.old) × ((t : Ticket) → (m : ℕ) → self.old.hand ≢ WithRight t m)) (λ number. (t : Ticket) × (self.old.hand ≡ WithRight t number) × (self.new ≡ record self.old { hand = WithTicket t })) }
     {
         match mem::replace(&mut self.hand, Hand::Empty) {
             Hand::WithRight(ticket, number) => {
@@ -125,7 +131,8 @@ impl<S: Source> Connection<S> {
 
     // Lane put, of the ticket in the hand.
     pub(super) fn put_ticket(&mut self) -> Result<bool, AllocError>
-        ensures { IfOk result (λ put. MatchBool put (PutsTicket self.old self.new) (self.new ≡ self.old)) }
+        ensures put { IfOk result (λ put. WhereAllowed put PutsHand self.old self.new) }
+        ensures refused { OnErr result (self.new ≡ self.old) }
     {
         if self.lane.len() >= TICKETS {
             return Ok(false);
@@ -133,7 +140,7 @@ impl<S: Source> Connection<S> {
         self.lane.reserve(1)?;
         match mem::replace(&mut self.hand, Hand::Empty) {
             Hand::WithTicket(ticket) => {
-                self.lane.push_back(ticket)?;
+                self.lane.push_back_reserved(ticket);
                 Ok(true)
             }
             other => {
@@ -145,20 +152,24 @@ impl<S: Source> Connection<S> {
 
     // Lane put, of a wish that is a fault or a hit.
     pub(super) fn put_ready(&mut self, wish: Wish) -> Result<bool, AllocError>
-        ensures { IfOk result (λ put. MatchBool put (PutsTicket self.old self.new) (self.new ≡ self.old)) }
+        ensures put { IfOk result (λ put. WhereAllowed put (PutsReady wish) self.old self.new) }
+        ensures refused { OnErr result (self.new ≡ self.old) }
     {
-        if self.lane.len() >= TICKETS || !self.may_want() {
+        if self.lane.len() >= TICKETS || !self.may_arrive() {
             return Ok(false);
         }
         let share = wish.share()?;
-        self.arrived.push(share)?;
-        self.lane.push_back(Ticket { wish, flight: None })?;
+        self.arrived.reserve(1)?;
+        self.lane.reserve(1)?;
+        self.arrived.push_reserved(share);
+        self.lane.push_back_reserved(Ticket { wish, flight: None });
         Ok(true)
     }
 
     // Lane taken: a ticket that names a flight waits, and a ready one is answered at once.
     pub(super) fn take_ticket(&mut self) -> Result<bool, AllocError>
-        ensures { IfOk result (λ took. MatchBool took (TakesTicket self.old self.new) (self.new ≡ self.old)) }
+        ensures took { IfOk result (λ took. WhereAllowed took TakesTicket self.old self.new) }
+        ensures refused { OnErr result (self.new ≡ self.old) }
     {
         if !self.ended && !self.waiting.is_empty() {
             return Ok(false);
@@ -169,16 +180,17 @@ impl<S: Source> Connection<S> {
             return Ok(false);
         };
         if self.ended || ticket.flight.is_some() {
-            self.waiting.push_back(ticket)?;
+            self.waiting.push_back_reserved(ticket);
         } else {
-            self.written.push(Written { ticket, fill: None })?;
+            self.written.push_reserved(Written { ticket, fill: None });
         }
         Ok(true)
     }
 
-    // Outcome seen: the reply to the ticket that waits is written, or the writer ends for want of memory.
+    // Outcome seen, of the first ticket that waits: the reply is written, or the writer ends for want of memory.
     pub(super) fn see_outcome(&mut self, flights: &[FlightEntry<S>]) -> Result<bool, AllocError>
-        ensures { IfOk result (λ seen. MatchBool seen (SeesOutcome flights.now self.old self.new) (self.new ≡ self.old)) }
+        ensures seen { IfOk result (λ seen. MatchBool seen (SeesOutcome flights.now self.old self.new) ((self.new ≡ self.old) × SeesNone flights.now self.old)) }
+        ensures refused { OnErr result (self.new ≡ self.old) }
     {
         if self.ended {
             return Ok(false);
@@ -196,9 +208,9 @@ impl<S: Source> Connection<S> {
         let fill = Some(fill.share()?);
         self.written.reserve(1)?;
         let Some(ticket) = self.waiting.pop_front() else {
-            return Ok(false);
+            unreachable!()
         };
-        self.written.push(Written { ticket, fill })?;
+        self.written.push_reserved(Written { ticket, fill });
         Ok(true)
     }
 }

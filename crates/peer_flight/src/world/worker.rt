@@ -1,5 +1,5 @@
 //! Workers: what each has in its hands.
-ghost use Rattle.std.specs.Prelude.{◌≡◌, IfOk, IfSome, IsTrue, replicate};
+ghost use Rattle.std.specs.Prelude.{◌≡◌, ◌≢◌, ◌↔◌, ℕ, IfOk, IsTrue, MatchOption, replicate};
 ghost use Rattle.peer_flight.specs.World.{Idle, Filling, Landing};
 
 use std::alloc::{AllocError, Global};
@@ -30,14 +30,14 @@ impl Model for Worker {
 
 impl Worker {
     pub(super) fn is_idle(&self) -> bool
-        ensures { IsTrue result → self.now ≡ Idle }
+        ensures { IsTrue result ↔ (self.now ≡ Idle) }
     {
         matches!(self.hands, Hands::Empty)
     }
 
     // The flight whose right it has.
     pub(super) fn filling(&self) -> Option<u64>
-        ensures { IfSome result (λ number. self.now ≡ Filling number) }
+        ensures { MatchOption result ((m : ℕ) → self.now ≢ Filling m) (λ number. self.now ≡ Filling number) }
     {
         match self.hands {
             Hands::Filling(number) => Some(number),
@@ -47,7 +47,7 @@ impl Worker {
 
     // The flight that it has, whose right is spent.
     pub(super) fn landing(&self) -> Option<u64>
-        ensures { IfSome result (λ number. self.now ≡ Landing number) }
+        ensures { MatchOption result ((m : ℕ) → self.now ≢ Landing m) (λ number. self.now ≡ Landing number) }
     {
         match self.hands {
             Hands::Landing(number) => Some(number),

@@ -8,8 +8,8 @@ use Rattle.peer_flight.specs.WorldViews.{hand_of, Brings}
 use Rattle.peer_flight.proofs.Seeing.{answer_there, end_seen, answer_seen, first_of}
 use Rattle.peer_flight.proofs.world.connection.Connection.see_outcome.Goals as goal
 
-pub returns-in-NoMemory : goal.returns-in-NoMemory
-returns-in-NoMemory g c =
+pub returns-in-NoMemory-clause-seen : goal.returns-in-NoMemory-clause-seen
+returns-in-NoMemory-clause-seen g c =
     let was : Connection = record {
       arrived = c.self.inside.arrived.items;
       hand = hand_of c.self.inside.hand;
@@ -25,8 +25,8 @@ returns-in-NoMemory g c =
     subst (λ x. SeesOutcome c.args.flights.now x (record was { ended = true })) c.self.view_is
     (end_seen c.args.flights.now was t first.0 fill c.if-self.false first.1 c.in-Some-brought.ensures none)
 
-pub returns : goal.returns
-returns g c =
+pub returns-clause-seen : goal.returns-clause-seen
+returns-clause-seen g c =
     let was : Connection = record {
       arrived = c.self.inside.arrived.items;
       hand = hand_of c.self.inside.hand;
@@ -43,7 +43,7 @@ returns g c =
     let there = answer_there c.outcome.result.now c.in_default-outcome.not-NoMemory in
     let some : fill.answer ≡ Some there.0 = sym c.outcome.ensures.answer ∙ there.1 in
     let kept : c.in_ok-share.field-0.answer ≡ Some there.0 = ap (λ (x : Filled). x.answer) c.in_ok-share.ensures ∙ some in
-    let more : c.push.new.self.items ≡ was.written ++ record { ticket = t; answer = Some there.0 } ∷ [] =
-    c.in_ok-push.ensures.items ∙ ap (λ ws. ws ++ record { ticket = t; answer = c.in_ok-share.field-0.answer } ∷ []) c.in_ok-reserve.ensures.items ∙ ap (λ (a : Option Answer). was.written ++ record { ticket = t; answer = a } ∷ []) kept in
-    subst (λ x. SeesOutcome c.args.flights.now x (record was { waiting = c.pop_front.new.self.items; written = c.push.new.self.items })) c.self.view_is
-    (answer_seen c.args.flights.now was t c.pop_front.new.self.items fill c.if-self.false first brings there.0 some c.pop_front.new.self.items c.push.new.self.items refl more)
+    let more : c.push_reserved.new.self.items ≡ was.written ++ record { ticket = t; answer = Some there.0 } ∷ [] =
+    c.push_reserved.ensures.items ∙ ap (λ ws. ws ++ record { ticket = t; answer = c.in_ok-share.field-0.answer } ∷ []) c.in_ok-reserve.ensures.items ∙ ap (λ (a : Option Answer). was.written ++ record { ticket = t; answer = a } ∷ []) kept in
+    subst (λ x. SeesOutcome c.args.flights.now x (record was { waiting = c.pop_front.new.self.items; written = c.push_reserved.new.self.items })) c.self.view_is
+    (answer_seen c.args.flights.now was t c.pop_front.new.self.items fill c.if-self.false first brings there.0 some c.pop_front.new.self.items c.push_reserved.new.self.items refl more)

@@ -3,29 +3,28 @@ use Rattle.std.proofs.lemmas.Option.{none-some}
 use Rattle.std.specs.HashMap.{get}
 use Rattle.peer_flight.specs.SingleFlight.{place_eq}
 use Rattle.peer_flight.proofs.EntryNumbers.{number_at, at_place, at_other, entry_cases}
-use Rattle.peer_flight.proofs.table.Table.land.Goals as goal
+use Rattle.peer_flight.proofs.table.Table.land_at.Goals as goal
 
 pub returns-then-number : goal.returns-then-number
 returns-then-number g c =
-    let place = c.place-place.result.now in
-    let of = c.place-place.ensures in
+    let place = c.args.place.now in
     let old = get place_eq c.args.self.now.flights in
     let new = get place_eq c.remove-landed.new.self in
     let updates = c.remove-landed.ensures.updates.0 in
     let there : old place ≡ Some c.in-Some.found.now = sym c.in-Some.ensures.value in
-    let number : c.in-Some.found.now.number ≡ c.args.flight.now.number = sym c.number.ensures ∙ c.if-number.true ∙ c.number-2.ensures in
+    let number : c.in-Some.found.now.number ≡ c.args.number = sym c.number.ensures ∙ c.if-number.true in
     record {
       number = refl;
-      found = λ is. ap (λ p. number_at (new p)) (sym of) ∙ at_place old new place None updates;
-      kept = λ no. absurd (no (ap (λ p. number_at (old p)) (sym of) ∙ ap number_at there ∙ ap Some number));
-      others = λ q differ. at_other old new place None updates q (λ same. differ (same ∙ of));
+      found = λ is. at_place old new place None updates;
+      kept = λ no. absurd (no (ap number_at there ∙ ap Some number));
+      others = λ q differ. at_other old new place None updates q differ;
     }
 
 pub invariant_of-self-clause-each : goal.invariant_of-self-clause-each
 invariant_of-self-clause-each g c p x is =
     let old = get place_eq c.args.self.now.flights in
     let new = get place_eq c.remove-landed.new.self in
-    elim (entry_cases old new c.place-place.result.now None c.remove-landed.ensures.updates.0 p x is) [
+    elim (entry_cases old new c.args.place.now None c.remove-landed.ensures.updates.0 p x is) [
       | inl both ↦ absurd (none-some x both.1)
       | inr there ↦ c.args.self.now.each p x there
     ]
