@@ -27,6 +27,20 @@ fn shows(fill: Option<&Fill<DemoSource>>, value: &[u8]) -> bool {
     }
 }
 
+// A flight that was wanted, with its right where it was led.
+fn wanted(
+    table: &mut Table<DemoSource>,
+    alloc: Global,
+    group: GroupId,
+    key: &ByteView,
+) -> Option<(Flight<DemoSource>, Option<FillRight<DemoSource>>)> {
+    match table.want(alloc, group, key) {
+        Ok(Ask::Led(flight, right)) => Some((flight, Some(right))),
+        Ok(Ask::Joined(flight)) => Some((flight, None)),
+        Err(_) => None,
+    }
+}
+
 // A flight that is led, with its right.
 fn led(
     table: &mut Table<DemoSource>,
@@ -34,10 +48,8 @@ fn led(
     group: GroupId,
     key: &ByteView,
 ) -> Option<(Flight<DemoSource>, FillRight<DemoSource>)> {
-    match table.want(alloc, group, key) {
-        Ok(Ask::Led(flight, right)) => Some((flight, right)),
-        _ => None,
-    }
+    let (flight, right) = wanted(table, alloc, group, key)?;
+    Some((flight, right?))
 }
 
 // The open flight that is joined.
@@ -47,8 +59,6 @@ fn joined(
     group: GroupId,
     key: &ByteView,
 ) -> Option<Flight<DemoSource>> {
-    match table.want(alloc, group, key) {
-        Ok(Ask::Joined(flight)) => Some(flight),
-        _ => None,
-    }
+    let (flight, right) = wanted(table, alloc, group, key)?;
+    right.is_none().then_some(flight)
 }

@@ -1,5 +1,6 @@
 //! A table as a list, beside the real one.
-use crate::{Ask, Flight, Table};
+use super::wanted;
+use crate::{Flight, Table};
 use peer_source::{DemoSource, GroupId};
 use peer_view::ByteView;
 use std::alloc::Global;
@@ -39,28 +40,15 @@ struct Both {
     flights: Vec<Flight<DemoSource>>,
 }
 
-// A flight that was wanted, and whether it was led.
-fn wanted(
-    table: &mut Table<DemoSource>,
-    alloc: Global,
-    group: usize,
-    key: &ByteView,
-) -> Option<(Flight<DemoSource>, bool)> {
-    match table.want(alloc, GroupId { number: group }, key) {
-        Ok(Ask::Led(flight, _right)) => Some((flight, true)),
-        Ok(Ask::Joined(flight)) => Some((flight, false)),
-        Err(_) => None,
-    }
-}
-
 // One want of both tables: whether they gave the same. The flight is kept.
 fn want_both(both: &mut Both, alloc: Global, group: usize, letter: u8) -> Result<bool, Fail> {
     let key = ByteView::copy_of(alloc, &[letter])?;
     let slow = both.slow.want(group, letter)?;
-    let Some((flight, is_led)) = wanted(&mut both.table, alloc, group, &key) else {
+    let Some((flight, right)) = wanted(&mut both.table, alloc, GroupId { number: group }, &key)
+    else {
         return Ok(false);
     };
-    let alike = (flight.number(), is_led) == slow;
+    let alike = (flight.number(), right.is_some()) == slow;
     both.flights.push(flight)?;
     Ok(alike)
 }
