@@ -1,5 +1,5 @@
 //! Flights: what the shares of one flight see, and the right to set its fill.
-ghost use Rattle.std.specs.Prelude.{◌≡◌, ℕ, None, Some, IfOk, IsTrue, MatchOption, IfSome};
+ghost use Rattle.std.specs.Prelude.{◌≡◌, ℕ, None, Some, IfOk, IsTrue, MatchOption, IsSome, IsSomeAnd};
 ghost use Rattle.std.specs.Arc.{arc_value};
 ghost use Rattle.once_cell.specs.Once.{cell_name, Agrees};
 ghost use Rattle.peer_flight.specs.Flights.{Agree};
@@ -123,7 +123,7 @@ impl<S: Source> Flight<S> {
         requires { note.old.cell ≡ self.now.cell }
         ensures cell { note.new.cell ≡ note.old.cell }
         ensures kept { IsTrue result → note.new.known ≡ Some fill.value }
-        ensures known { IfSome note.new.known (λ x. Agrees note.old.known x) }
+        ensures known { IsSomeAnd note.new.known (λ x. Agrees note.old.known x) }
     {
         self.landing.cell.set_as(fill, note).is_ok()
     }
@@ -188,6 +188,7 @@ impl<S: Source> FillRight<S> {
         ensures flight { result.flight ≡ self }
         ensures cell { result.note.cell ≡ self.cell }
         ensures kept { IsTrue result.kept → result.note.known ≡ Some fill }
+        ensures known { IsSome result.note.known }
     {
         let FillRight { flight, mut room } = self;
         *room = fill;

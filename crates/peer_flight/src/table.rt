@@ -1,5 +1,5 @@
 //! The table of the open flights (`Group` of `singleflight.go`).
-ghost use Rattle.std.specs.Prelude.{◌≡◌, ℕ, ◌+◌, ◌^◌, ◌≤◌, ◌<◌, None, Some, IfOk, OnErr, IsErr, IsErrOf};
+ghost use Rattle.std.specs.Prelude.{◌≡◌, ℕ, ◌+◌, ◌^◌, ◌≤◌, ◌<◌, Some, IfOk, OnErr, IsErr, IsErrOf};
 ghost use Rattle.std.specs.Option.{ForSome};
 ghost use Rattle.std.specs.HashMap.{get};
 ghost use Rattle.peer_flight.specs.SingleFlight.{Place, place_eq};
