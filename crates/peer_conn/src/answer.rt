@@ -1,7 +1,7 @@
 //! Replies to the wishes that are held.
 ghost use Rattle.std.specs.Prelude.{true, ◌≡◌, ℕ, ◌+◌, ◌-◌, ◌^◌, ◌<◌, []};
 ghost use Rattle.peer_head.specs.Blocks.{IsFrontLength};
-ghost use Rattle.peer_conn.specs.Wishes.{MOST, closes_after, get_wish};
+ghost use Rattle.peer_conn.specs.Wishes.{MOST, closes_after};
 ghost use Rattle.peer_conn.specs.Sending.{sending};
 ghost use Rattle.peer_conn.specs.Turns.{PutsReply, Puts, IsNextWish, Turns, Handles};
 

@@ -1,5 +1,5 @@
 //! A connection in one thread.
-ghost use Rattle.std.specs.Prelude.{◌≡◌, ◌≢◌, ℕ, ◌+◌, ◌-◌, ◌^◌, ◌<◌, ◌≤◌, List, []};
+ghost use Rattle.std.specs.Prelude.{◌≡◌, ◌≢◌, ℕ, ◌+◌, ◌-◌, ◌^◌, ◌<◌, []};
 ghost use Rattle.peer_conn.specs.Ends.{Serves, reading, writing};
 ghost use Rattle.peer_conn.specs.Turns.{EndToldAs};
 

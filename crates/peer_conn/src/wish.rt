@@ -1,7 +1,7 @@
 //! What a request asks for.
 ghost use Rattle.std.specs.Prelude.{◌≡◌, ℕ, List, IfOk};
 ghost use Rattle.peer_head.specs.Looks.{LooksAs};
-ghost use Rattle.peer_conn.specs.Wishes.{head_wish, head_body, target_body, in_group, fault_of, fault_wish, is_served};
+ghost use Rattle.peer_conn.specs.Wishes.{head_wish, head_body, target_body, in_group, fault_of, is_served};
 ghost use Rattle.peer_conn.specs.Nexts.{IsNextOf};
 ghost use Rattle.peer_conn.specs.Turns.{IsNext};
 

@@ -24,7 +24,7 @@ pub struct HeadBuf {
 }
 
 impl Model for HeadBuf {
-    ghost use Rattle.std.specs.Prelude.{List, ℕ, ◌-◌, take, drop};
+    ghost use Rattle.std.specs.Prelude.{ℕ, ◌-◌, take, drop};
     ghost use Rattle.peer_head.specs.Buffers.{HeldBytes, IsWithinRoom};
 
     ghost Value = { HeldBytes };

@@ -1,6 +1,6 @@
 //! Names and values of fields (RFC 9110, section 5): each test has a definition in `specs/`, and
 //! answers as that does.
-ghost use Rattle.std.specs.Prelude.{◌≡◌, IsTrue};
+ghost use Rattle.std.specs.Prelude.{◌≡◌};
 ghost use Rattle.std.specs.List.{list_all};
 ghost use Rattle.std.specs.Char.{is_ascii_digit};
 ghost use Rattle.httparse.specs.Grammar.{trim_ows};

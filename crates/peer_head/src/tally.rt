@@ -3,7 +3,7 @@
 //! A tally of fields is exact: with one field more it is the tally of the fields with that one behind.
 ghost use Rattle.std.specs.Prelude.{◌≡◌, ◌++◌, ◌+◌, ◌∷◌, [], List, ℕ, length, map, All};
 ghost use Rattle.httparse.specs.Spans.{IsHeaderWithin};
-ghost use Rattle.peer_head.specs.Faults.{coding_fault, length_fault, host_fault, head_fault, is_closing};
+ghost use Rattle.peer_head.specs.Faults.{length_fault, host_fault, head_fault, is_closing};
 ghost use Rattle.peer_head.specs.Heads.{HeadField, HeadParts};
 ghost use Rattle.peer_head.specs.Tallies.{AgreesOn, IsLengthsOf, IsHostsOf, IsTallyOf};
 ghost use Rattle.peer_head.specs.Views.{field_at};

@@ -1,5 +1,5 @@
 //! The escapes of a path: whether they are good, and what they stand for (RFC 3986, section 2.1).
-ghost use Rattle.std.specs.Prelude.{◌≡◌, true, IfOk, IfErr, IsTrue, Some};
+ghost use Rattle.std.specs.Prelude.{◌≡◌, IfOk, IfErr, IsTrue, Some};
 ghost use Rattle.std.specs.Cow.{cow_slice_items};
 ghost use Rattle.memchr.specs.Find.{IsFirstByte, is_byte};
 ghost use Rattle.percent_encoding.specs.Percent as percent;

@@ -1,6 +1,6 @@
 //! The heads of replies: what stands before the content.
-ghost use Rattle.std.specs.Prelude.{◌≡◌, ◌+◌, ◌≤◌, ◌<◌, ◌^◌, ℕ, ◌++◌, length, codes, decimal};
-ghost use Rattle.peer_reply.specs.Texts.{crlf, field, connection_field, value_start, text_start, method_start};
+ghost use Rattle.std.specs.Prelude.{◌≡◌, ◌+◌, ◌≤◌, ◌<◌, ℕ, ◌++◌, length, decimal};
+ghost use Rattle.peer_reply.specs.Texts.{crlf, connection_field};
 
 use arrayvec::ArrayVec;
 use itoa::Buffer;

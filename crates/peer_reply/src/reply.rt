@@ -1,5 +1,5 @@
 //! Replies as four slices.
-ghost use Rattle.std.specs.Prelude.{◌≡◌, ◌+◌, ◌≤◌, ◌<◌, ◌↔◌, ◌^◌, ℕ, [], ◌∷◌, ◌++◌, length, cond, decimal, IfSome, IsNone, Some, None, option_map};
+ghost use Rattle.std.specs.Prelude.{◌≡◌, ◌+◌, ◌≤◌, ◌<◌, ◌^◌, ℕ, [], ◌++◌, length, cond, decimal, Some, None, option_map};
 ghost use Rattle.peer_reply.specs.Openings.{opening_bytes};
 ghost use Rattle.peer_reply.specs.Texts.{crlf, connection_field, fault_reply, answer_reply, joined};
 

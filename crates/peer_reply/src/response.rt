@@ -1,5 +1,5 @@
 //! Bodies read back (`GetResponse` of `groupcache.proto`; the base 128 varints of protobuf).
-ghost use Rattle.std.specs.Prelude.{◌≡◌, ◌≤◌, ◌<◌, ◌+◌, ◌*◌, ◌-◌, ◌∷◌, List, ℕ, length};
+ghost use Rattle.std.specs.Prelude.{◌≤◌, ◌<◌, ◌+◌, ◌*◌, ◌-◌, ◌∷◌, ℕ, length};
 ghost use Rattle.peer_reply.specs.Responses.{ReadsAs};
 ghost use Rattle.peer_reply.specs.Lengths.{ReadsLength, HoldsExactly};
 

@@ -171,7 +171,7 @@ fn check_fault(
 }
 
 #[test]
-fn replies_to_faults_of_heads(rt: HostRuntime) -> Result<(), Fail> {
+fn replies_to_texts_that_are_no_heads(rt: HostRuntime) -> Result<(), Fail> {
     let alloc = rt.alloc();
     check_fault(
         &rt,
@@ -189,6 +189,12 @@ fn replies_to_faults_of_heads(rt: HostRuntime) -> Result<(), Fail> {
         "9",
         "bad head",
     )?;
+    Ok(())
+}
+
+#[test]
+fn replies_to_refused_fields(rt: HostRuntime) -> Result<(), Fail> {
+    let alloc = rt.alloc();
     check_fault(
         &rt,
         alloc,
@@ -218,7 +224,7 @@ fn replies_to_faults_of_heads(rt: HostRuntime) -> Result<(), Fail> {
 }
 
 #[test]
-fn replies_to_faults_of_targets(rt: HostRuntime) -> Result<(), Fail> {
+fn replies_to_bad_targets(rt: HostRuntime) -> Result<(), Fail> {
     let alloc = rt.alloc();
     check_fault(
         &rt,
@@ -252,6 +258,12 @@ fn replies_to_faults_of_targets(rt: HostRuntime) -> Result<(), Fail> {
         "12",
         "bad request",
     )?;
+    Ok(())
+}
+
+#[test]
+fn replies_to_unknown_groups(rt: HostRuntime) -> Result<(), Fail> {
+    let alloc = rt.alloc();
     let nope = Fault::NoGroup(ByteView::copy_of(alloc, b"nope")?);
     check_fault(
         &rt,

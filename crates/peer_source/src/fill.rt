@@ -1,6 +1,6 @@
 //! Fills: a group, a key, and what the source answered.
 ghost use Rattle.std.specs.Prelude.{◌≡◌, ◌⊎◌, ℕ, None, Some, IfSome, IfOk};
-ghost use Rattle.peer_source.specs.Answers.{Answer, Failed, IsWithinLimit, too_long_text};
+ghost use Rattle.peer_source.specs.Answers.{Failed, IsWithinLimit, too_long_text};
 ghost use Rattle.peer_source.specs.Reports.{reported};
 ghost use Rattle.peer_source.specs.Outcomes.{answer_of};
 

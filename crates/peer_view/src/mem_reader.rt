@@ -1,5 +1,5 @@
 //! A reader over pieces in memory, which can be made to fail at its end.
-ghost use Rattle.std.specs.Prelude.{◌≡◌, ◌≢◌, ℕ, ◌+◌, ◌-◌, ◌^◌, ◌<◌, ◌≤◌, ◌↔◌, List, [], ◌++◌, length, take, drop, min, Some, IfOk, IsErr, IsTrue};
+ghost use Rattle.std.specs.Prelude.{◌≡◌, ◌≢◌, ℕ, ◌+◌, ◌-◌, ◌^◌, ◌<◌, ◌≤◌, ◌↔◌, [], ◌++◌, length, take, Some, IfOk, IsErr, IsTrue};
 ghost use Rattle.std.specs.Io.KnownBytes.{Appends};
 ghost use Rattle.peer_view.specs.Moves.{moved, failure_count, end_count};
 ghost use Rattle.peer_view.specs.Pieces.{given_of, left_of, piece_at, first_piece, after_read, pieces_of};

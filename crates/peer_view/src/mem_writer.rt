@@ -1,5 +1,5 @@
 //! A writer into memory, which takes the bytes in steps and can be made to fail.
-ghost use Rattle.std.specs.Prelude.{◌≡◌, ℕ, ◌+◌, ◌-◌, ◌^◌, ◌<◌, ◌≤◌, [], ◌++◌, length, take, Some, IfOk, IsErr};
+ghost use Rattle.std.specs.Prelude.{◌≡◌, ℕ, ◌+◌, ◌-◌, ◌^◌, ◌<◌, ◌≤◌, [], length, Some, IfOk, IsErr};
 ghost use Rattle.std.specs.Io.KnownBytes.{Appends};
 ghost use Rattle.peer_view.specs.Moves.{moved, failure_count};
 ghost use Rattle.peer_view.specs.Pages.{Page, page_room};
