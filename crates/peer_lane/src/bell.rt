@@ -1,0 +1,54 @@
+//! What the two ends of a lane share to wait for one another.
+use crossbeam_utils::CachePadded;
+use crossbeam_utils::sync::{EventCount, Key};
+use std::sync::atomic::AtomicBool;
+use std::sync::atomic::Ordering::SeqCst;
+
+/// The bell of one connection. Its flags are for waiting, and no contract rests on them.
+#[derive(Drop)]
+pub struct Bell {
+    // Each wait writes here, so that the flags lie elsewhere.
+    moved: CachePadded<EventCount>,
+    finished: AtomicBool,
+    stopped: AtomicBool,
+}
+
+impl Bell {
+    pub const fn new() -> Bell {
+        Bell {
+            moved: CachePadded::new(EventCount::new()),
+            finished: AtomicBool::new(false),
+            stopped: AtomicBool::new(false),
+        }
+    }
+
+    /// Wakes the other end where it sleeps: after a `put` or a `take` that does not wait.
+    pub fn ring(&self) {
+        self.moved.notify_all();
+    }
+
+    // Announces a sleep, which the next ring ends.
+    pub(crate) fn announce(&self) -> Key<'_> {
+        self.moved.prepare_wait()
+    }
+
+    /// Nothing more will be put. Call it after the last `put`.
+    pub fn finish(&self) {
+        self.finished.store(true, SeqCst);
+        self.ring();
+    }
+
+    /// Load it before a `take` that is to be the last.
+    pub fn is_finished(&self) -> bool {
+        self.finished.load(SeqCst)
+    }
+
+    /// Nothing more needs to be read. What was put is still taken, so that no `put` waits for ever.
+    pub fn stop(&self) {
+        self.stopped.store(true, SeqCst);
+    }
+
+    pub fn is_stopped(&self) -> bool {
+        self.stopped.load(SeqCst)
+    }
+}

@@ -1,0 +1,75 @@
+//! A lane between two threads: tickets come in order, and each thread sleeps and is woken.
+use super::{bears, numbered};
+use crate::{Bell, LaneIn, LaneOut, lane};
+use peer_source::DemoSource;
+use std::alloc::{AllocError, Global};
+use std::sync::Wait;
+use std::test::Fail;
+use std::thread;
+use std::thread::Threads;
+use std::time::{Clock, Duration};
+
+/// More than a lane has room for.
+const MANY: u8 = 200;
+
+// Puts the tickets from 0 on, late or at once.
+fn put_many<R: Wait + Clock>(
+    rt: &R,
+    alloc: Global,
+    bell: &Bell,
+    put: &mut LaneIn<DemoSource>,
+    late: Duration,
+) -> Result<(), AllocError> {
+    thread::sleep(rt, late);
+    for number in 0..MANY {
+        put.put_waiting(rt, bell, numbered(alloc, number)?);
+    }
+    Ok(())
+}
+
+// Whether the tickets came in order, and then the word that nothing more is put.
+fn take_many<R: Wait + Clock>(
+    rt: &R,
+    bell: &Bell,
+    taken: &mut LaneOut<DemoSource>,
+    late: Duration,
+) -> bool {
+    thread::sleep(rt, late);
+    for number in 0..MANY {
+        if !bears(taken.take_waiting(rt, bell), number) {
+            return false;
+        }
+    }
+    taken.take_waiting(rt, bell).is_none()
+}
+
+// Whether all tickets were put, and whether they came in order.
+fn cross<R: Threads + Wait + Clock + Sync>(
+    rt: &R,
+    alloc: Global,
+    put_late: Duration,
+    take_late: Duration,
+) -> Result<(bool, bool), AllocError> {
+    let (mut put, mut taken) = lane(alloc)?;
+    let bell = Bell::new();
+    let bell = &bell;
+    Ok(thread::join(
+        rt,
+        move || {
+            let all = put_many(rt, alloc, bell, &mut put, put_late).is_ok();
+            bell.finish();
+            all
+        },
+        move || take_many(rt, bell, &mut taken, take_late),
+    ))
+}
+
+#[test]
+fn tickets_cross_to_another_thread(rt: HostRuntime) -> Result<(), Fail> {
+    let alloc = rt.alloc();
+    let (none, long) = (Duration::from_micros(0), Duration::from_micros(3000));
+    for (put_late, take_late) in [(none, none), (long, none), (none, long)] {
+        assert_eq!(rt; cross(&rt, alloc, put_late, take_late)?, (true, true));
+    }
+    Ok(())
+}
