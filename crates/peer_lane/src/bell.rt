@@ -5,6 +5,9 @@ use std::sync::atomic::AtomicBool;
 use std::sync::atomic::Ordering::SeqCst;
 
 /// The bell of one connection. Its flags are for waiting, and no contract rests on them.
+///
+/// No ring is lost: a ticket's place, a flag and an announcement are each stored with `SeqCst` before the other end's
+/// are loaded.
 #[derive(Drop)]
 pub struct Bell {
     // Each wait writes here, so that the flags lie elsewhere.

@@ -1,5 +1,6 @@
 //! The end of a lane where tickets are put.
 ghost use Rattle.std.specs.Prelude.{◌≡◌};
+ghost use Rattle.peer_flight.specs.Events.{TICKETS};
 ghost use Rattle.rtrb.specs.Ring.{producer_capacity};
 
 use crate::bell::Bell;
@@ -13,7 +14,7 @@ use std::sync::Wait;
 #[derive(Drop)]
 pub struct LaneIn<S: Source> {
     pub(crate) producer: Producer<Ticket<S>>,
-    ghost places: { producer_capacity producer ≡ 64 },
+    ghost places: { producer_capacity producer ≡ TICKETS },
 }
 
 impl<S: Source> LaneIn<S> {

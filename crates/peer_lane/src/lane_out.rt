@@ -1,5 +1,6 @@
 //! The end of a lane where tickets are taken.
 ghost use Rattle.std.specs.Prelude.{◌≡◌};
+ghost use Rattle.peer_flight.specs.Events.{TICKETS};
 ghost use Rattle.rtrb.specs.Ring.{consumer_capacity};
 
 use crate::bell::Bell;
@@ -13,7 +14,7 @@ use std::sync::Wait;
 #[derive(Drop)]
 pub struct LaneOut<S: Source> {
     pub(crate) consumer: Consumer<Ticket<S>>,
-    ghost places: { consumer_capacity consumer ≡ 64 },
+    ghost places: { consumer_capacity consumer ≡ TICKETS },
 }
 
 impl<S: Source> LaneOut<S> {

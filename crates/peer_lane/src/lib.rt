@@ -2,7 +2,8 @@
 //!
 //! It stands on the faults of `peer_reply`, the claims of `peer_flight`, the ring of `rtrb` and the event count of
 //! `crossbeam_utils`. It promises that tickets come out as they went in, each once and in order, that a lane has 64
-//! places, and that what was taken and what is left are what was put. After `lane` nothing takes memory.
+//! places and a `put` fails only where none is known to be free, and that what was taken and what is left are what was
+//! put. After `lane` nothing takes memory.
 #![tactic(auto)]
 
 mod bell;

@@ -11,7 +11,7 @@ use std::alloc::{AllocError, Global};
 use std::test::Fail;
 
 // Puts the tickets from 0 on. That the lane takes 64 is proved.
-fn fill_up(alloc: Global, put: &mut LaneIn<DemoSource>) -> Result<(), AllocError>
+pub(super) fn fill_up(alloc: Global, put: &mut LaneIn<DemoSource>) -> Result<(), AllocError>
     requires { free_places put.old ≡ 64 }
     ensures { IsSameIn put.old put.new }
 {

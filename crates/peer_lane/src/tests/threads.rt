@@ -1,4 +1,5 @@
 //! A lane between two threads: tickets come in order, and each thread sleeps and is woken.
+use super::full::fill_up;
 use super::{bears, numbered};
 use crate::{Bell, LaneIn, LaneOut, lane};
 use peer_source::DemoSource;
@@ -71,5 +72,39 @@ fn tickets_cross_to_another_thread(rt: HostRuntime) -> Result<(), Fail> {
     for (put_late, take_late) in [(none, none), (long, none), (none, long)] {
         assert_eq!(rt; cross(&rt, alloc, put_late, take_late)?, (true, true));
     }
+    Ok(())
+}
+
+// Whether a ticket of a full lane was taken and, with a ring, the one that waited came behind the others.
+fn take_and_ring<R: Wait + Clock>(rt: &R, bell: &Bell, taken: &mut LaneOut<DemoSource>) -> bool {
+    thread::sleep(rt, Duration::from_micros(3000));
+    let first = bears(taken.take(), 0);
+    bell.ring();
+    for number in 1..64 {
+        if !bears(taken.take(), number) {
+            return false;
+        }
+    }
+    first && bears(taken.take_waiting(rt, bell), 64)
+}
+
+// Whether a ring after a `take` wakes the thread that waits to put a ticket into a full lane.
+fn wakes<R: Threads + Wait + Clock + Sync>(rt: &R, alloc: Global) -> Result<bool, AllocError> {
+    let (mut put, mut taken) = lane(alloc)?;
+    fill_up(alloc, &mut put)?;
+    let ticket = numbered(alloc, 64)?;
+    let bell = Bell::new();
+    let bell = &bell;
+    let (_, woken) = thread::join(
+        rt,
+        move || put.put_waiting(rt, bell, ticket),
+        move || take_and_ring(rt, bell, &mut taken),
+    );
+    Ok(woken)
+}
+
+#[test]
+fn a_ring_wakes_the_other_end(rt: HostRuntime) -> Result<(), Fail> {
+    assert!(rt; wakes(&rt, rt.alloc())?);
     Ok(())
 }
