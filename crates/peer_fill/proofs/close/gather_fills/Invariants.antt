@@ -1,0 +1,17 @@
+use Rattle.std.specs.Prelude.{◌≡◌, ◌+◌, All, sum_by}
+use Rattle.crossbeam_queue.specs.Passes.{IsPassOf}
+use Rattle.peer_fill.proofs.close.gather_fills.Given as goal
+
+abbrev pub invariant-loop-seat : goal.invariant-loop-seat
+invariant-loop-seat g l = record {
+  own : IsPassOf l.jobs l.tally.pass;
+  others : All (λ s. IsPassOf l.jobs s.pass) l.fills.items;
+  parts : l.tally.fill_parts + sum_by (λ s. s.parts) l.fills.items ≡ 16;
+  conn_parts : l.tally.conn_parts ≡ l.fn.tally.conn_parts;
+  asks : l.tally.asks ≡ l.fn.tally.asks;
+  calls : l.tally.fills.calls + sum_by (λ s. s.fills.calls) l.fills.items ≡ sum_by (λ s. s.fills.calls) l.fn.fills.items;
+  rehits : l.tally.fills.rehits + sum_by (λ s. s.fills.rehits) l.fills.items ≡ sum_by (λ s. s.fills.rehits) l.fn.fills.items;
+}
+
+abbrev pub decreases-loop-seat : goal.decreases-loop-seat
+decreases-loop-seat g l = goal.left-loop-seat g l

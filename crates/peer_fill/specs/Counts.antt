@@ -1,0 +1,24 @@
+-- What the seats of a pool count.
+use Rattle.std.specs.Prelude.{◌≡◌, ◌+◌}
+use Rattle.peer_fill.specs.declared.counts.AskCounts.{AskCounts}
+use Rattle.peer_fill.specs.declared.counts.FillCounts.{FillCounts}
+
+-- nothing was asked
+abbrev pub no_asks : AskCounts
+no_asks = record { asked = 0; hits = 0; led = 0; joined = 0; strangers = 0 }
+
+-- no job was taken
+abbrev pub no_fills : FillCounts
+no_fills = record { calls = 0; rehits = 0 }
+
+-- the counts of both, added up
+pub record AddsAsks (one other sum : AskCounts) : Type 0 where
+  pub asked : sum.asked ≡ one.asked + other.asked
+  pub hits : sum.hits ≡ one.hits + other.hits
+  pub led : sum.led ≡ one.led + other.led
+  pub joined : sum.joined ≡ one.joined + other.joined
+  pub strangers : sum.strangers ≡ one.strangers + other.strangers
+
+pub record AddsFills (one other sum : FillCounts) : Type 0 where
+  pub calls : sum.calls ≡ one.calls + other.calls
+  pub rehits : sum.rehits ≡ one.rehits + other.rehits

@@ -1,0 +1,35 @@
+-- What seats counted, added up.
+use Rattle.std.specs.Prelude.{◌≡◌, List, sum_by}
+use Rattle.peer_source.specs.declared.source.Source as Source
+use Rattle.std.specs.declared.sync.ledger.Ledger as Ledger
+use Rattle.peer_fill.specs.declared.counts.AskCounts.{AskCounts}
+use Rattle.peer_fill.specs.declared.counts.FillCounts.{FillCounts}
+use Rattle.peer_fill.specs.declared.close.Report.{Report}
+use Rattle.peer_fill.specs.declared.seats.ConnSeat.{ConnSeat}
+use Rattle.peer_fill.specs.declared.seats.FillSeat.{FillSeat}
+use Rattle.peer_fill.specs.Seats.{asks_of, fills_of}
+
+module _ {S L : Type 0} {g : Source.Ghosts S} where
+  -- the asks of these seats, added up
+  pub record IsTallyOfConns (seats : List (ConnSeat S L g)) (sum : AskCounts) : Type 0 where
+    pub asked : sum.asked ≡ sum_by (λ s. (asks_of s).asked) seats
+    pub hits : sum.hits ≡ sum_by (λ s. (asks_of s).hits) seats
+    pub led : sum.led ≡ sum_by (λ s. (asks_of s).led) seats
+    pub joined : sum.joined ≡ sum_by (λ s. (asks_of s).joined) seats
+    pub strangers : sum.strangers ≡ sum_by (λ s. (asks_of s).strangers) seats
+
+module _ {S L : Type 0} {g : Source.Ghosts S} {h : Ledger.Ghosts L} where
+  -- the jobs of these seats, added up
+  pub record IsTallyOfFills (seats : List (FillSeat S L g h)) (sum : FillCounts) : Type 0 where
+    pub calls : sum.calls ≡ sum_by (λ s. (fills_of s).calls) seats
+    pub rehits : sum.rehits ≡ sum_by (λ s. (fills_of s).rehits) seats
+
+-- the report tells these counts
+pub record Reports (report : Report) (asks : AskCounts) (fills : FillCounts) : Type 0 where
+  pub asked : report.asked ≡ asks.asked
+  pub hits : report.hits ≡ asks.hits
+  pub led : report.led ≡ asks.led
+  pub joined : report.joined ≡ asks.joined
+  pub strangers : report.strangers ≡ asks.strangers
+  pub calls : report.calls ≡ fills.calls
+  pub rehits : report.rehits ≡ fills.rehits

@@ -1,0 +1,122 @@
+//! How a pool ends: its seats are taken in, and what they counted is added up.
+ghost use Rattle.std.specs.Prelude.{◌≡◌, ℕ, ◌+◌, All, sum_by};
+ghost use Rattle.crossbeam_queue.specs.Passes.{IsPassOf};
+ghost use Rattle.peer_flight.specs.Tables.{state_of};
+ghost use Rattle.peer_fill.specs.Counts.{no_fills};
+ghost use Rattle.peer_fill.specs.Seats.{asks_of, fills_of, HaveAllConns, HaveAllFills};
+ghost use Rattle.peer_fill.specs.Tallies.{IsTallyOfConns, IsTallyOfFills, Reports};
+
+use crate::jobs::{Jobs, Whole};
+use crate::pool::Pool;
+use crate::seats::{ConnSeat, FillSeat};
+use crate::table::{Counted, Sixteen};
+use crate::tally::Tally;
+use peer_source::Source;
+use std::sync::Wait;
+use std::sync::ledger::Ledger;
+
+/// What all seats of a pool counted, and what was left of its jobs.
+#[derive(Clone, Copy, Debug)]
+pub struct Report {
+    pub asked: u64,
+    pub hits: u64,
+    pub led: u64,
+    pub joined: u64,
+    pub strangers: u64,
+    pub calls: u64,
+    pub rehits: u64,
+    /// The jobs that no worker took.
+    pub left: u64,
+}
+
+/// Why a pool was not closed.
+#[derive(Drop)]
+pub enum CloseFault<S: Source, L: Ledger> {
+    /// Not all seats were handed in. All that was handed in comes back.
+    SeatsMissing {
+        pool: Pool<S, L>,
+        fills: Vec<FillSeat<S, L>>,
+        conns: Vec<ConnSeat<S, L>>,
+    },
+}
+
+/// Takes in all seats of the connections.
+pub(crate) fn gather_conns<S: Source, L: Ledger>(
+    jobs: &Jobs<S>,
+    mut conns: Vec<ConnSeat<S, L>>,
+) -> Tally<S, L>
+    requires all { HaveAllConns conns.items }
+    requires pass { All (λ seat. IsPassOf jobs.now seat.pass) conns.items }
+    ensures pass { IsPassOf jobs.now result.pass }
+    ensures conn_parts { result.conn_parts ≡ 16 }
+    ensures fill_parts { result.fill_parts ≡ 0 }
+    ensures asks { IsTallyOfConns conns.items result.asks }
+    ensures fills { result.fills ≡ no_fills }
+{
+    let Some(first) = conns.pop() else {
+        unreachable!();
+    };
+    let mut tally = Tally::of(first);
+    while let Some(seat) = conns.pop() {
+        tally = tally.add_conn(jobs, seat);
+    }
+    tally
+}
+
+/// Takes in all seats of the workers.
+pub(crate) fn gather_fills<S: Source, L: Ledger>(
+    jobs: &Jobs<S>,
+    mut tally: Tally<S, L>,
+    mut fills: Vec<FillSeat<S, L>>,
+) -> Tally<S, L>
+    requires none { (tally.fill_parts ≡ 0) × (tally.fills ≡ no_fills) }
+    requires all { HaveAllFills fills.items }
+    requires pass { IsPassOf jobs.now tally.pass × All (λ seat. IsPassOf jobs.now seat.pass) fills.items }
+    ensures pass { IsPassOf jobs.now result.pass }
+    ensures conn_parts { result.conn_parts ≡ tally.conn_parts }
+    ensures fill_parts { result.fill_parts ≡ 16 }
+    ensures asks { result.asks ≡ tally.asks }
+    ensures fills { IsTallyOfFills fills.items result.fills }
+{
+    while let Some(seat) = fills.pop() {
+        tally = tally.add_fill(jobs, seat);
+    }
+    tally
+}
+
+/// The report of a pool whose seats were all taken in.
+pub(crate) fn settle<S: Source, L: Ledger, R: Wait>(
+    rt: &R,
+    jobs: &Jobs<S>,
+    mut table: Counted<S, L>,
+    sixteen: &Sixteen<L>,
+    tally: Tally<S, L>,
+) -> Report
+    requires all { (tally.conn_parts ≡ 16) × (tally.fill_parts ≡ 16) }
+    requires pass { IsPassOf jobs.now tally.pass }
+    ensures table { result.led ≡ (state_of table.table).number }
+    ensures asks { Reports result tally.asks tally.fills }
+    ensures asked { result.asked ≡ result.hits + result.led + result.joined }
+    ensures led { result.led ≡ result.calls + result.rehits + result.left }
+{
+    let Tally {
+        mut pass,
+        mut share,
+        conn_parts: _,
+        fill_parts: _,
+        asks,
+        fills,
+    } = tally;
+    let left = jobs.len_as::<Whole, R>(rt, &mut pass) as u64;
+    let led = table.led_in_all(sixteen, &mut share);
+    Report {
+        asked: asks.asked,
+        hits: asks.hits,
+        led,
+        joined: asks.joined,
+        strangers: asks.strangers,
+        calls: fills.calls,
+        rehits: fills.rehits,
+        left,
+    }
+}

@@ -1,0 +1,84 @@
+//! What the seats of a pool count.
+ghost use Rattle.std.specs.Prelude.{◌≡◌, ◌+◌, ◌<◌, ◌^◌};
+ghost use Rattle.peer_fill.specs.Counts.{no_asks, no_fills, AddsAsks, AddsFills};
+
+/// What connections counted.
+#[derive(Clone, Copy, Debug)]
+pub struct AskCounts {
+    /// The claims that were given: `hits`, `led` and `joined` together.
+    pub asked: u64,
+    /// The claims that were ready.
+    pub hits: u64,
+    /// The flights that were led.
+    pub led: u64,
+    /// The flights that were joined.
+    pub joined: u64,
+    /// The fills that came for another group or key than was asked for.
+    pub strangers: u64,
+}
+
+/// What workers counted.
+#[derive(Clone, Copy, Debug)]
+pub struct FillCounts {
+    /// The jobs for which the source was called.
+    pub calls: u64,
+    /// The jobs whose fill was there already.
+    pub rehits: u64,
+}
+
+impl AskCounts {
+    // Nothing was asked.
+    pub(crate) fn none() -> AskCounts
+        ensures { result ≡ no_asks }
+    {
+        AskCounts {
+            asked: 0,
+            hits: 0,
+            led: 0,
+            joined: 0,
+            strangers: 0,
+        }
+    }
+
+    // Both together.
+    pub(crate) fn plus(self, other: AskCounts) -> AskCounts
+        requires asked { self.asked + other.asked < 2 ^ 64 }
+        requires hits { self.hits + other.hits < 2 ^ 64 }
+        requires led { self.led + other.led < 2 ^ 64 }
+        requires joined { self.joined + other.joined < 2 ^ 64 }
+        requires strangers { self.strangers + other.strangers < 2 ^ 64 }
+        ensures { AddsAsks self other result }
+    {
+        AskCounts {
+            asked: self.asked + other.asked,
+            hits: self.hits + other.hits,
+            led: self.led + other.led,
+            joined: self.joined + other.joined,
+            strangers: self.strangers + other.strangers,
+        }
+    }
+}
+
+impl FillCounts {
+    // No job was taken.
+    pub(crate) fn none() -> FillCounts
+        ensures { result ≡ no_fills }
+    {
+        FillCounts {
+            calls: 0,
+            rehits: 0,
+        }
+    }
+
+    // Both together.
+    pub(crate) fn plus(self, other: FillCounts) -> FillCounts
+        requires calls { self.calls + other.calls < 2 ^ 64 }
+        requires rehits { self.rehits + other.rehits < 2 ^ 64 }
+        ensures { AddsFills self other result }
+    {
+        FillCounts {
+            calls: self.calls + other.calls,
+            rehits: self.rehits + other.rehits,
+        }
+    }
+}

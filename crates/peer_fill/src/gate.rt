@@ -1,0 +1,22 @@
+//! Gates: what a worker calls before and after it calls the source.
+use peer_source::GroupId;
+use std::sync::Wait;
+
+/// May hold a worker back, as a test does to force an order of steps.
+pub trait Gate: Sync {
+    /// The worker has the flight's right, and has not called the source yet.
+    fn before_call<R: Wait>(&self, rt: &R, group: GroupId, key: &[u8]);
+
+    /// The flight has its fill, and has not landed yet.
+    fn after_put<R: Wait>(&self, rt: &R, group: GroupId, key: &[u8]);
+}
+
+/// Holds nobody back.
+#[derive(Clone, Copy, Debug)]
+pub struct NoGate;
+
+impl Gate for NoGate {
+    fn before_call<R: Wait>(&self, _rt: &R, _group: GroupId, _key: &[u8]) {}
+
+    fn after_put<R: Wait>(&self, _rt: &R, _group: GroupId, _key: &[u8]) {}
+}

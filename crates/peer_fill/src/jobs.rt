@@ -1,0 +1,115 @@
+//! The queue of jobs, and the rule by which no job is lost or made up.
+ghost use Rattle.std.specs.Prelude.{◌≡◌, ℕ, ◌+◌, ◌-◌, [], ◌++◌, ⊤, IfOk};
+ghost use Rattle.crossbeam_queue.specs.Passes.{view, IsPassOf};
+ghost use Rattle.peer_fill.specs.Jobs.{hand, pushed_by, popped_by, weigh, ALL, Balanced};
+
+use crossbeam_queue::protocol::{Join, Lesson, Outcome, Protocol, Split};
+use crossbeam_queue::{Pass, RuledArrayQueue};
+use peer_flight::FillRight;
+use peer_source::Source;
+use peer_view::ByteView;
+use std::alloc::{AllocError, Global};
+use std::collections::LinkedList;
+use std::marker::Model;
+
+// How many jobs the queue has room for.
+const CAPACITY: usize = 256;
+
+/// What a pass of the queue has pushed and popped, by the numbers of the flights, and its parts of the right to know
+/// the whole. No value of it is made.
+pub struct Hand {
+    pub parts: u64,
+    pub pushed: LinkedList<u64>,
+    pub popped: LinkedList<u64>,
+}
+
+/// A flight that waits for a worker: its right, and its key. Contracts see its number.
+#[derive(Drop)]
+pub struct Job<S: Source> {
+    pub(crate) right: FillRight<S>,
+    pub(crate) key: ByteView,
+}
+
+impl<S: Source> Model for Job<S> {
+    ghost Value = { ℕ };
+
+    ghost view = { λ j. j.right.number };
+
+    ghost invariant = { λ j. j.key ≡ j.right.place.key };
+}
+
+/// What was pushed is what was popped and what is queued.
+pub struct Fair;
+
+impl<S: Source> Protocol<Job<S>, Hand> for Fair {
+    ghost use Rattle.std.specs.Prelude.{[]};
+    ghost use Rattle.peer_fill.specs.Jobs.{hand, ALL, Balanced};
+
+    ghost holds = { Balanced };
+
+    ghost first = { hand ALL [] [] };
+}
+
+/// A pass pushes a job.
+pub struct Push;
+
+impl<S: Source> Outcome<Job<S>, Hand> for Push {
+    ghost then = { λ v x w. w ≡ pushed_by v x };
+}
+
+impl<S: Source> Lesson<Job<S>, Hand> for Push {
+    ghost fact = { λ v items. ⊤ };
+}
+
+/// A pass pops a job.
+pub struct Pop;
+
+impl<S: Source> Outcome<Job<S>, Hand> for Pop {
+    ghost then = { λ v x w. w ≡ popped_by v x };
+}
+
+impl<S: Source> Lesson<Job<S>, Hand> for Pop {
+    ghost fact = { λ v items. ⊤ };
+}
+
+/// A pass with all parts knows what is queued.
+pub struct Whole;
+
+impl<S: Source> Lesson<Job<S>, Hand> for Whole {
+    ghost fact = { λ v items. (h : ℕ → ℕ) → weigh h v.pushed ≡ weigh h v.popped + weigh h items };
+}
+
+/// The first pass is cut in two, one for each kind of seat.
+pub struct Half;
+
+impl Split<Hand> for Half {
+    ghost left = { λ v. hand (v.parts - 16) v.pushed v.popped };
+
+    ghost right = { λ v. hand 16 [] [] };
+}
+
+/// One part is cut off, or a pass is taken in.
+pub struct OnePart;
+
+impl Split<Hand> for OnePart {
+    ghost left = { λ v. hand (v.parts - 1) v.pushed v.popped };
+
+    ghost right = { λ v. hand 1 [] [] };
+}
+
+impl Join<Hand> for OnePart {
+    ghost both = { λ v w. hand (v.parts + w.parts) (v.pushed ++ w.pushed) (v.popped ++ w.popped) };
+
+    ghost spent = { hand 0 [] [] };
+}
+
+/// The jobs that wait, oldest first.
+pub type Jobs<S> = RuledArrayQueue<Job<S>, Hand, Fair>;
+
+/// A queue with room for 256 jobs, and its first pass.
+pub fn empty_queue<S: Source>(alloc: Global) -> Result<(Jobs<S>, Pass<Job<S>, Hand>), AllocError>
+    ensures pass { IfOk result (λ queue. IsPassOf queue.0 queue.1) }
+    ensures hand { IfOk result (λ queue. view queue.1 ≡ hand ALL [] []) }
+{
+    Jobs::<S>::ruled(alloc, CAPACITY)
+}

@@ -1,0 +1,38 @@
+//! Whether the seats that are handed in are all seats of their kind.
+ghost use Rattle.std.specs.Prelude.{◌↔◌, IsTrue};
+ghost use Rattle.peer_fill.specs.Seats.{HaveAllConns, HaveAllFills};
+
+use crate::seats::{ConnSeat, FillSeat};
+use peer_source::Source;
+use std::sync::ledger::Ledger;
+
+// The parts of the seats of one kind.
+const PARTS: u64 = 16;
+
+/// Whether these seats have all parts of the connections.
+pub fn has_all_conns<S: Source, L: Ledger>(seats: &[ConnSeat<S, L>]) -> bool
+    ensures { IsTrue result ↔ HaveAllConns seats.now }
+{
+    let mut sum = 0;
+    for seat in seats {
+        sum += seat.parts;
+        if sum > PARTS {
+            return false;
+        }
+    }
+    sum == PARTS
+}
+
+/// Whether these seats have all parts of the workers.
+pub fn has_all_fills<S: Source, L: Ledger>(seats: &[FillSeat<S, L>]) -> bool
+    ensures { IsTrue result ↔ HaveAllFills seats.now }
+{
+    let mut sum = 0;
+    for seat in seats {
+        sum += seat.parts;
+        if sum > PARTS {
+            return false;
+        }
+    }
+    sum == PARTS
+}

@@ -1,0 +1,176 @@
+//! Pools, and how they begin and end.
+ghost use Rattle.std.specs.Prelude.{◌≡◌, ◌+◌, ◌<◌, ◌≤◌, ◌↔◌, All, IfErr, IfOk, IsErrOf, IsOk, sum_by, vec_len};
+ghost use Rattle.peer_fill.specs.Counts.{no_asks, no_fills};
+ghost use Rattle.peer_fill.specs.Opens.{IsOutside, IsWithin};
+ghost use Rattle.peer_fill.specs.Seats.{asks_of, fills_of, HaveAllConns, HaveAllFills};
+
+use crate::bells::Bells;
+use crate::close::{CloseFault, Report, gather_conns, gather_fills, settle};
+use crate::deal::{deal_conns, deal_fills};
+use crate::jobs::{Half, Jobs, empty_queue};
+use crate::open::{OpenFault, Opened};
+use crate::parts::{has_all_conns, has_all_fills};
+use crate::seats::{ConnSeat, FillSeat};
+use crate::table::{Counted, Sixteen};
+use crossbeam_utils::CachePadded;
+use peer_source::{Names, Source};
+use std::alloc::{AllocError, Global};
+use std::sync::atomic::AtomicBool;
+use std::sync::atomic::Ordering::SeqCst;
+use std::sync::ledger::{Blank, Ledger};
+use std::sync::{Mutex, Wait};
+
+/// Fills, made by workers for connections. Threads share it.
+#[derive(Drop)]
+pub struct Pool<S: Source, L: Ledger> {
+    pub(crate) source: S,
+    pub(crate) jobs: Jobs<S>,
+    pub(crate) table: Mutex<Counted<S, L>>,
+    pub(crate) bells: Bells,
+    pub(crate) stopping: CachePadded<AtomicBool>,
+    sixteen: Sixteen<L>,
+}
+
+const MOST_SEATS: usize = 16;
+
+const MOST_GROUPS: usize = 64;
+
+impl<S: Source, L: Ledger> Pool<S, L> {
+    ghost use Rattle.peer_fill.specs.Closes.{HandsBack};
+    ghost use Rattle.peer_fill.specs.Pools.{source_of, IsConnSeatOf, IsFillSeatOf};
+
+    /// A pool with a seat for each worker and for each connection. The blank names the ledger of the flights that
+    /// are led, in sixteen parts.
+    pub fn open(
+        alloc: Global,
+        source: S,
+        workers: usize,
+        conns: usize,
+        blank: Blank,
+    ) -> Result<Opened<S, L>, OpenFault>
+        requires name { blank.name ≡ L.name }
+        requires parts { blank.parts ≡ L.parts }
+        requires sixteen { blank.parts ≡ 16 }
+        ensures workers { IsErrOf result OpenFault.Workers ↔ IsOutside 16 workers }
+        ensures conns { IsErrOf result OpenFault.Conns ↔ (IsWithin 16 workers × IsOutside 16 conns) }
+        ensures groups { IsErrOf result OpenFault.Groups ↔ (IsWithin 16 workers × IsWithin 16 conns × IsOutside 64 (S.count source)) }
+        ensures memory { IsErrOf result OpenFault.Memory → IsWithin 16 workers × IsWithin 16 conns × IsWithin 64 (S.count source) }
+        ensures source { IfOk result (λ opened. source_of opened.pool ≡ source) }
+        ensures fills { IfOk result (λ opened. vec_len opened.fills ≡ workers) }
+        ensures seats { IfOk result (λ opened. vec_len opened.conns ≡ conns) }
+        ensures fills_of_pool { IfOk result (λ opened. All (IsFillSeatOf opened.pool) opened.fills.items) }
+        ensures conns_of_pool { IfOk result (λ opened. All (IsConnSeatOf opened.pool) opened.conns.items) }
+        ensures all_fills { IfOk result (λ opened. HaveAllFills opened.fills.items) }
+        ensures all_conns { IfOk result (λ opened. HaveAllConns opened.conns.items) }
+        ensures no_fills { IfOk result (λ opened. All (λ s. fills_of s ≡ no_fills) opened.fills.items) }
+        ensures no_asks { IfOk result (λ opened. All (λ s. asks_of s ≡ no_asks) opened.conns.items) }
+    {
+        if workers == 0 || workers > MOST_SEATS {
+            return Err(OpenFault::Workers);
+        }
+        if conns == 0 || conns > MOST_SEATS {
+            return Err(OpenFault::Conns);
+        }
+        let groups = source.group_count();
+        if groups == 0 || groups > MOST_GROUPS {
+            return Err(OpenFault::Groups);
+        }
+        match Pool::begin(alloc, source, workers, conns, blank) {
+            Ok(opened) => Ok(opened),
+            Err(_) => Err(OpenFault::Memory),
+        }
+    }
+
+    // A pool with its seats.
+    fn begin(
+        alloc: Global,
+        source: S,
+        workers: usize,
+        conns: usize,
+        blank: Blank,
+    ) -> Result<Opened<S, L>, AllocError>
+        requires name { blank.name ≡ L.name }
+        requires parts { (blank.parts ≡ L.parts) × (blank.parts ≡ 16) }
+        requires seats { IsWithin 16 workers × IsWithin 16 conns }
+        ensures source { IfOk result (λ opened. source_of opened.pool ≡ source) }
+        ensures fills { IfOk result (λ opened. vec_len opened.fills ≡ workers) }
+        ensures seats { IfOk result (λ opened. vec_len opened.conns ≡ conns) }
+        ensures fills_of_pool { IfOk result (λ opened. All (IsFillSeatOf opened.pool) opened.fills.items) }
+        ensures conns_of_pool { IfOk result (λ opened. All (IsConnSeatOf opened.pool) opened.conns.items) }
+        ensures all_fills { IfOk result (λ opened. HaveAllFills opened.fills.items) }
+        ensures all_conns { IfOk result (λ opened. HaveAllConns opened.conns.items) }
+        ensures no_fills { IfOk result (λ opened. All (λ s. fills_of s ≡ no_fills) opened.fills.items) }
+        ensures no_asks { IfOk result (λ opened. All (λ s. asks_of s ≡ no_asks) opened.conns.items) }
+    {
+        let (jobs, mut pass) = empty_queue(alloc)?;
+        let rest = jobs.another::<Half>(&mut pass);
+        let (book, share) = blank.open::<L>();
+        let fills = deal_fills(alloc, &jobs, rest, workers)?;
+        let conns = deal_conns(alloc, &jobs, pass, share, conns)?;
+        let pool = Pool {
+            source,
+            jobs,
+            table: Mutex::new(Counted::new(alloc, book)),
+            bells: Bells::new(),
+            stopping: CachePadded::new(AtomicBool::new(false)),
+            sixteen: Sixteen::new(),
+        };
+        Ok(Opened { pool, fills, conns })
+    }
+
+    /// The names of the source's groups.
+    pub fn source(&self) -> Names<'_, S>
+        ensures { result ≡ source_of self.now }
+    {
+        Names::of(&self.source)
+    }
+
+    /// Tells the workers to return once they find no job.
+    pub fn stop(&self) {
+        self.stopping.store(true, SeqCst);
+        self.bells.job.notify_all();
+    }
+
+    /// Ends the pool, where all its seats are handed in: those of `open` have all parts, and no seat loses one.
+    pub fn close<R: Wait>(
+        self,
+        rt: &R,
+        fills: Vec<FillSeat<S, L>>,
+        conns: Vec<ConnSeat<S, L>>,
+    ) -> Result<Report, CloseFault<S, L>>
+        requires fills { All (IsFillSeatOf self) fills.items }
+        requires conns { All (IsConnSeatOf self) conns.items }
+        ensures exactly { IsOk result ↔ (HaveAllFills fills.items × HaveAllConns conns.items) }
+        ensures asked { IfOk result (λ report. report.asked ≡ sum_by (λ s. (asks_of s).asked) conns.items) }
+        ensures hits { IfOk result (λ report. report.hits ≡ sum_by (λ s. (asks_of s).hits) conns.items) }
+        ensures led { IfOk result (λ report. report.led ≡ sum_by (λ s. (asks_of s).led) conns.items) }
+        ensures joined { IfOk result (λ report. report.joined ≡ sum_by (λ s. (asks_of s).joined) conns.items) }
+        ensures strangers { IfOk result (λ report. report.strangers ≡ sum_by (λ s. (asks_of s).strangers) conns.items) }
+        ensures calls { IfOk result (λ report. report.calls ≡ sum_by (λ s. (fills_of s).calls) fills.items) }
+        ensures rehits { IfOk result (λ report. report.rehits ≡ sum_by (λ s. (fills_of s).rehits) fills.items) }
+        ensures each_ask { IfOk result (λ report. report.asked ≡ report.hits + report.led + report.joined) }
+        ensures each_flight { IfOk result (λ report. report.led ≡ report.calls + report.rehits + report.left) }
+        ensures back { IfErr result (λ fault. HandsBack fault self fills conns) }
+    {
+        let all_fills = has_all_fills(&fills);
+        let all_conns = has_all_conns(&conns);
+        if !all_fills || !all_conns {
+            return Err(CloseFault::SeatsMissing {
+                pool: self,
+                fills,
+                conns,
+            });
+        }
+        let Pool {
+            source: _,
+            jobs,
+            table,
+            bells: _,
+            stopping: _,
+            sixteen,
+        } = self;
+        let tally = gather_conns(&jobs, conns);
+        let tally = gather_fills(&jobs, tally, fills);
+        Ok(settle(rt, &jobs, table.into_inner(), &sixteen, tally))
+    }
+}

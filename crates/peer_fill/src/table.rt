@@ -1,0 +1,89 @@
+//! The flight table as the pool locks it: beside the book of what its seats led.
+ghost use Rattle.std.specs.Prelude.{◌≡◌, ◌+◌, ◌<◌, IfOk, OnErr};
+ghost use Rattle.peer_flight.specs.Tables.{state_of};
+
+use peer_flight::{Ask, AskFault, Flight, Table};
+use peer_source::{GroupId, Source};
+use peer_view::ByteView;
+use std::alloc::Global;
+use std::marker::PhantomData;
+use std::sync::ledger::{Book, Ledger, Share};
+
+/// A flight table, and the book whose total is the number of its flights.
+#[derive(Drop)]
+pub struct Counted<S: Source, L: Ledger> {
+    table: Table<S>,
+    led: Book<L>,
+    ghost counted: { (state_of table).number ≡ led.total },
+}
+
+/// That the ledger has sixteen parts.
+#[derive(Drop)]
+pub struct Sixteen<L: Ledger> {
+    of: PhantomData<L>,
+    ghost is: { L.parts ≡ 16 },
+}
+
+impl<S: Source, L: Ledger> Counted<S, L> {
+    ghost use Rattle.peer_flight.specs.SingleFlight.{place_of};
+    ghost use Rattle.peer_fill.specs.Asks.{led_count, IsAskFor};
+
+    pub fn new(alloc: Global, led: Book<L>) -> Counted<S, L>
+        requires { led.total ≡ 0 }
+    {
+        Counted {
+            table: Table::new(alloc),
+            led,
+        }
+    }
+
+    /// Joins the open flight of the group and the key, or leads one, which the share counts.
+    pub fn want(
+        &mut self,
+        alloc: Global,
+        group: GroupId,
+        key: &ByteView,
+        share: &mut Share<L>,
+    ) -> Result<Ask<S>, AskFault>
+        requires { 0 < share.old.parts }
+        ensures place { IfOk result (λ ask. IsAskFor ask (place_of group.number key.now)) }
+        ensures counted { IfOk result (λ ask. share.new.amount ≡ share.old.amount + led_count ask) }
+        ensures refused { OnErr result (share.new.amount ≡ share.old.amount) }
+        ensures parts { share.new.parts ≡ share.old.parts }
+    {
+        let Counted { table, led } = self;
+        match table.want(alloc, group, key) {
+            Ok(Ask::Led(flight, right)) => {
+                led.add(share, 1);
+                Ok(Ask::Led(flight, right))
+            }
+            Ok(Ask::Joined(flight)) => Ok(Ask::Joined(flight)),
+            Err(fault) => Err(fault),
+        }
+    }
+
+    /// Takes the flight out of the table.
+    pub fn land(&mut self, flight: &Flight<S>) {
+        self.table.land(flight);
+    }
+
+    /// How many flights were led, which is what all seats counted.
+    pub fn led_in_all(&mut self, sixteen: &Sixteen<L>, all: &mut Share<L>) -> u64
+        requires { all.old.parts ≡ 16 }
+        ensures table { result ≡ (state_of self.old.table).number }
+        ensures seats { result ≡ all.old.amount }
+    {
+        let _ = &sixteen.of;
+        let Counted { table, led } = self;
+        led.audit(all);
+        table.counts().0
+    }
+}
+
+impl<L: Ledger> Sixteen<L> {
+    pub fn new() -> Sixteen<L>
+        requires { L.parts ≡ 16 }
+    {
+        Sixteen { of: PhantomData }
+    }
+}

@@ -1,0 +1,119 @@
+//! Tallies: what the seats that were handed in have together.
+ghost use Rattle.std.specs.Prelude.{◌≡◌, ℕ, ◌+◌, ◌*◌, ◌^◌, ◌≤◌, ◌<◌, length};
+ghost use Rattle.crossbeam_queue.specs.Passes.{view, IsPassOf};
+ghost use Rattle.peer_fill.specs.Counts.{no_fills, AddsAsks, AddsFills};
+ghost use Rattle.peer_fill.specs.Seats.{asks_of, fills_of, conn_parts, fill_parts};
+
+use crate::counts::{AskCounts, FillCounts};
+use crate::jobs::{Hand, Job, Jobs, OnePart};
+use crate::seats::{ConnSeat, FillSeat};
+use crossbeam_queue::Pass;
+use peer_source::Source;
+use std::sync::ledger::{Ledger, Share};
+
+/// Sums over seats, of which one at least is a connection's.
+#[derive(Drop)]
+pub struct Tally<S: Source, L: Ledger> {
+    pub pass: Pass<Job<S>, Hand>,
+    pub share: Share<L>,
+    pub conn_parts: u64,
+    pub fill_parts: u64,
+    pub asks: AskCounts,
+    pub fills: FillCounts,
+    ghost conns_within: { (0 < conn_parts) × (conn_parts ≤ 16) },
+    ghost fills_within: { fill_parts ≤ 16 },
+    ghost pass_parts: { (view pass).parts ≡ conn_parts + fill_parts },
+    ghost share_parts: { share.parts ≡ conn_parts },
+    ghost pushed: { length (view pass).pushed ≡ asks.led },
+    ghost popped: { length (view pass).popped ≡ fills.calls + fills.rehits },
+    ghost share_led: { share.amount ≡ asks.led },
+    ghost each_ask: { asks.asked ≡ asks.hits + asks.led + asks.joined },
+    ghost most_asked: { asks.asked ≤ conn_parts * 2 ^ 56 },
+    ghost most_strangers: { asks.strangers ≤ conn_parts * 2 ^ 56 },
+    ghost most_fills: { fills.calls + fills.rehits ≤ fill_parts * 2 ^ 56 },
+}
+
+impl<S: Source, L: Ledger> Tally<S, L> {
+    // The tally of one seat.
+    pub fn of(seat: ConnSeat<S, L>) -> Tally<S, L>
+        ensures pass { result.pass ≡ seat.pass }
+        ensures conn_parts { result.conn_parts ≡ conn_parts seat }
+        ensures fill_parts { result.fill_parts ≡ 0 }
+        ensures asks { result.asks ≡ asks_of seat }
+        ensures fills { result.fills ≡ no_fills }
+    {
+        let ConnSeat {
+            pass,
+            share,
+            parts,
+            asks,
+        } = seat;
+        Tally {
+            pass,
+            share,
+            conn_parts: parts,
+            fill_parts: 0,
+            asks,
+            fills: FillCounts::none(),
+        }
+    }
+
+    // Takes in a connection's seat.
+    pub fn add_conn(self, jobs: &Jobs<S>, seat: ConnSeat<S, L>) -> Tally<S, L>
+        requires pass { IsPassOf jobs.now self.pass × IsPassOf jobs.now seat.pass }
+        requires room { self.conn_parts + conn_parts seat ≤ 16 }
+        ensures pass { IsPassOf jobs.now result.pass }
+        ensures conn_parts { result.conn_parts ≡ self.conn_parts + conn_parts seat }
+        ensures fill_parts { result.fill_parts ≡ self.fill_parts }
+        ensures asks { AddsAsks self.asks (asks_of seat) result.asks }
+        ensures fills { result.fills ≡ self.fills }
+    {
+        let Tally {
+            mut pass,
+            mut share,
+            conn_parts,
+            fill_parts,
+            asks,
+            fills,
+        } = self;
+        jobs.absorb::<OnePart>(&mut pass, seat.pass);
+        share.merge(seat.share);
+        Tally {
+            pass,
+            share,
+            conn_parts: conn_parts + seat.parts,
+            fill_parts,
+            asks: asks.plus(seat.asks),
+            fills,
+        }
+    }
+
+    // Takes in a worker's seat.
+    pub fn add_fill(self, jobs: &Jobs<S>, seat: FillSeat<S, L>) -> Tally<S, L>
+        requires pass { IsPassOf jobs.now self.pass × IsPassOf jobs.now seat.pass }
+        requires room { self.fill_parts + fill_parts seat ≤ 16 }
+        ensures pass { IsPassOf jobs.now result.pass }
+        ensures conn_parts { result.conn_parts ≡ self.conn_parts }
+        ensures fill_parts { result.fill_parts ≡ self.fill_parts + fill_parts seat }
+        ensures asks { result.asks ≡ self.asks }
+        ensures fills { AddsFills self.fills (fills_of seat) result.fills }
+    {
+        let Tally {
+            mut pass,
+            share,
+            conn_parts,
+            fill_parts,
+            asks,
+            fills,
+        } = self;
+        jobs.absorb::<OnePart>(&mut pass, seat.pass);
+        Tally {
+            pass,
+            share,
+            conn_parts,
+            fill_parts: fill_parts + seat.parts,
+            asks,
+            fills: fills.plus(seat.fills),
+        }
+    }
+}
