@@ -106,10 +106,11 @@ impl<S: Source, L: Ledger> ConnSeat<S, L> {
         ensures counts { asks_of self.new ≡ record (asks_of self.old) { strangers = min ((asks_of self.old).strangers + n) (2 ^ 56) } }
         ensures seat { IsSameConn self.old self.new }
     {
-        if n <= MOST - self.asks.strangers {
-            self.asks.strangers += n;
+        let strangers = &mut self.asks.strangers;
+        if n <= MOST - *strangers {
+            *strangers += n;
         } else {
-            self.asks.strangers = MOST;
+            *strangers = MOST;
         }
     }
 }
