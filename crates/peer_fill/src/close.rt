@@ -16,7 +16,7 @@ use std::sync::Wait;
 use std::sync::ledger::Ledger;
 
 /// What all seats of a pool counted, and what was left of its jobs.
-#[derive(Clone, Copy, Debug)]
+#[derive(Clone, Copy, Debug, PartialEq, Eq)]
 pub struct Report {
     pub asked: u64,
     pub hits: u64,

@@ -30,3 +30,6 @@ pub use open::{OpenFault, Opened};
 pub use pool::Pool;
 pub use promise::OfPool;
 pub use seats::{ConnSeat, FillSeat};
+
+#[cfg(test)]
+mod tests;
