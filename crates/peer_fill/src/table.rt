@@ -68,7 +68,7 @@ impl<S: Source, L: Ledger> Counted<S, L> {
     }
 
     /// How many flights were led, which is what all seats counted.
-    pub fn led_in_all(&mut self, sixteen: &Sixteen<L>, all: &mut Share<L>) -> u64
+    pub(crate) fn led_in_all(&mut self, sixteen: &Sixteen<L>, all: &mut Share<L>) -> u64
         requires { all.old.parts ≡ 16 }
         ensures table { result ≡ (state_of self.old.table).number }
         ensures seats { result ≡ all.old.amount }

@@ -35,7 +35,7 @@ pub struct Tally<S: Source, L: Ledger> {
 
 impl<S: Source, L: Ledger> Tally<S, L> {
     // The tally of one seat.
-    pub fn of(seat: ConnSeat<S, L>) -> Tally<S, L>
+    pub(crate) fn of(seat: ConnSeat<S, L>) -> Tally<S, L>
         ensures pass { result.pass ≡ seat.pass }
         ensures conn_parts { result.conn_parts ≡ conn_parts seat }
         ensures fill_parts { result.fill_parts ≡ 0 }
@@ -59,7 +59,7 @@ impl<S: Source, L: Ledger> Tally<S, L> {
     }
 
     // Takes in a connection's seat.
-    pub fn add_conn(self, jobs: &Jobs<S>, seat: ConnSeat<S, L>) -> Tally<S, L>
+    pub(crate) fn add_conn(self, jobs: &Jobs<S>, seat: ConnSeat<S, L>) -> Tally<S, L>
         requires pass { IsPassOf jobs.now self.pass × IsPassOf jobs.now seat.pass }
         requires room { self.conn_parts + conn_parts seat ≤ 16 }
         ensures pass { IsPassOf jobs.now result.pass }
@@ -89,7 +89,7 @@ impl<S: Source, L: Ledger> Tally<S, L> {
     }
 
     // Takes in a worker's seat.
-    pub fn add_fill(self, jobs: &Jobs<S>, seat: FillSeat<S, L>) -> Tally<S, L>
+    pub(crate) fn add_fill(self, jobs: &Jobs<S>, seat: FillSeat<S, L>) -> Tally<S, L>
         requires pass { IsPassOf jobs.now self.pass × IsPassOf jobs.now seat.pass }
         requires room { self.fill_parts + fill_parts seat ≤ 16 }
         ensures pass { IsPassOf jobs.now result.pass }

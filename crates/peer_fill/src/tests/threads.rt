@@ -70,13 +70,52 @@ fn use_seat<S: Source, L: Ledger, R: Wait>(
     seat
 }
 
-// Each worker and each connection works in a thread of its own.
+// Each connection asks in a thread of its own.
+fn use_conns<S: Source, L: Ledger + Send + Sync, R: Threads + Wait + Sync>(
+    rt: &R,
+    alloc: Global,
+    pool: &Pool<S, L>,
+    mut conns: Vec<ConnSeat<S, L>>,
+    keys: u16,
+) -> Option<Vec<ConnSeat<S, L>>>
+    requires { All (IsConnSeatOf pool.now) conns.items }
+    ensures { IfSome result (λ seats. All (IsConnSeatOf pool.now) seats.items) }
+{
+    thread::scope(
+        thread::scope_env(),
+        rt,
+        move |scope| -> Option<Vec<ConnSeat<S, L>>>
+            requires { All (IsConnSeatOf pool.now) conns.items }
+            ensures { IfSome result (λ seats. All (IsConnSeatOf pool.entry.now) seats.items) }
+        {
+            let mut asking = Vec::new(alloc);
+            while let Some(seat) = pop_conn(pool, &mut conns) {
+                let ask = move ||
+                    requires { IsConnSeatOf pool.now seat }
+                    ensures { IsConnSeatOf pool.entry.now result }
+                { use_seat(rt, alloc, pool, seat, keys) };
+                let Ok(handle) = scope.spawn_with(OfPool(pool), ask) else {
+                    return None;
+                };
+                let Ok(()) = asking.push(handle) else {
+                    return None;
+                };
+            }
+            match join_promised(rt, asking) {
+                Ok(conns) => Some(conns),
+                Err(_) => None,
+            }
+        },
+    )
+}
+
+// Each worker works in a thread of its own while the connections ask.
 fn use_every<S: Source, L: Ledger + Send + Sync, R: Threads + Wait + Sync>(
     rt: &R,
     alloc: Global,
     pool: &Pool<S, L>,
     mut fills: Vec<FillSeat<S, L>>,
-    mut conns: Vec<ConnSeat<S, L>>,
+    conns: Vec<ConnSeat<S, L>>,
     keys: u16,
 ) -> Option<(Vec<FillSeat<S, L>>, Vec<ConnSeat<S, L>>)>
     requires fills { All (IsFillSeatOf pool.now) fills.items }
@@ -105,26 +144,10 @@ fn use_every<S: Source, L: Ledger + Send + Sync, R: Threads + Wait + Sync>(
                     return None;
                 };
             }
-            let mut asking = Vec::new(alloc);
-            while let Some(seat) = pop_conn(pool, &mut conns) {
-                let ask = move ||
-                    requires { IsConnSeatOf pool.now seat }
-                    ensures { IsConnSeatOf pool.entry.now result }
-                { use_seat(rt, alloc, pool, seat, keys) };
-                let Ok(handle) = scope.spawn_with(OfPool(pool), ask) else {
-                    pool.stop();
-                    return None;
-                };
-                let Ok(()) = asking.push(handle) else {
-                    pool.stop();
-                    return None;
-                };
-            }
-            let conns = join_promised(rt, asking);
+            let conns = use_conns(rt, alloc, pool, conns, keys);
             pool.stop();
-            let fills = join_promised(rt, working);
-            match (fills, conns) {
-                (Ok(fills), Ok(conns)) => Some((fills, conns)),
+            match (join_promised(rt, working), conns) {
+                (Ok(fills), Some(conns)) => Some((fills, conns)),
                 _ => None,
             }
         },

@@ -1,5 +1,5 @@
 use Rattle.std.specs.Prelude.{◌≡◌, All, vec_len}
-use Rattle.peer_fill.specs.Pools.{IsConnSeatOf, IsFillSeatOf}
+use Rattle.peer_fill.specs.Pools.{IsFillSeatOf}
 use Rattle.peer_fill.proofs.tests.threads.fn.use_every.scope.Given as goal
 
 abbrev pub invariant-loop-seat : goal.invariant-loop-seat
@@ -10,12 +10,3 @@ invariant-loop-seat g l = record {
 
 abbrev pub decreases-loop-seat : goal.decreases-loop-seat
 decreases-loop-seat g l = vec_len l.fills
-
-abbrev pub invariant-loop-seat-2 : goal.invariant-loop-seat-2
-invariant-loop-seat-2 g l = record {
-  conns : All (IsConnSeatOf l.pool) l.conns.items;
-  asking : All (λ h. h.promise.0.now ≡ l.pool) l.asking.items;
-}
-
-abbrev pub decreases-loop-seat-2 : goal.decreases-loop-seat-2
-decreases-loop-seat-2 g l = vec_len l.conns
