@@ -1,7 +1,11 @@
 //! How a pool begins.
+ghost use Rattle.std.specs.Prelude.{◌≡◌, ◌<◌, ◌≤◌, ◌↔◌, IsErrOf, OnOk};
+ghost use Rattle.peer_fill.specs.Opens.{IsOutside, IsWithin};
+
 use crate::pool::Pool;
 use crate::seats::{ConnSeat, FillSeat};
 use peer_source::Source;
+use std::alloc::AllocError;
 use std::sync::ledger::Ledger;
 use thiserror::Error;
 
@@ -16,6 +20,40 @@ pub enum OpenFault {
     Groups,
     #[error("memory was refused")]
     Memory,
+}
+
+impl From<AllocError> for OpenFault {
+    ghost use Rattle.peer_fill.specs.declared.open.OpenFault.TheVariants.{Memory};
+
+    ghost from_gives = { λ _ fault. fault ≡ Memory };
+
+    fn from(_: AllocError) -> OpenFault {
+        OpenFault::Memory
+    }
+}
+
+const MOST_SEATS: usize = 16;
+
+const MOST_GROUPS: usize = 64;
+
+/// Whether a pool can be opened with so many workers, connections and groups.
+pub(crate) fn check_numbers(workers: usize, conns: usize, groups: usize) -> Result<(), OpenFault>
+    ensures workers { IsErrOf result OpenFault.Workers ↔ IsOutside 16 workers }
+    ensures conns { IsErrOf result OpenFault.Conns ↔ (IsWithin 16 workers × IsOutside 16 conns) }
+    ensures groups { IsErrOf result OpenFault.Groups ↔ (IsWithin 16 workers × IsWithin 16 conns × IsOutside 64 groups) }
+    ensures memory { ¬ IsErrOf result OpenFault.Memory }
+    ensures within { OnOk result (IsWithin 16 workers × IsWithin 16 conns × IsWithin 64 groups) }
+{
+    if workers == 0 || workers > MOST_SEATS {
+        return Err(OpenFault::Workers);
+    }
+    if conns == 0 || conns > MOST_SEATS {
+        return Err(OpenFault::Conns);
+    }
+    if groups == 0 || groups > MOST_GROUPS {
+        return Err(OpenFault::Groups);
+    }
+    Ok(())
 }
 
 /// A pool and its seats.

@@ -8,13 +8,13 @@ use crate::bells::Bells;
 use crate::close::{CloseFault, Report, gather_conns, gather_fills, settle};
 use crate::deal::{deal_conns, deal_fills};
 use crate::jobs::{Half, Jobs, empty_queue};
-use crate::open::{OpenFault, Opened};
+use crate::open::{OpenFault, Opened, check_numbers};
 use crate::parts::{has_all_conns, has_all_fills};
 use crate::seats::{ConnSeat, FillSeat};
 use crate::table::{Counted, Sixteen};
 use crossbeam_utils::CachePadded;
 use peer_source::{Names, Source};
-use std::alloc::{AllocError, Global};
+use std::alloc::Global;
 use std::sync::atomic::AtomicBool;
 use std::sync::atomic::Ordering::SeqCst;
 use std::sync::ledger::{Blank, Ledger};
@@ -30,10 +30,6 @@ pub struct Pool<S: Source, L: Ledger> {
     pub(crate) stopping: CachePadded<AtomicBool>,
     sixteen: Sixteen<L>,
 }
-
-const MOST_SEATS: usize = 16;
-
-const MOST_GROUPS: usize = 64;
 
 impl<S: Source, L: Ledger> Pool<S, L> {
     ghost use Rattle.peer_fill.specs.Closes.{HandsBack};
@@ -65,43 +61,7 @@ impl<S: Source, L: Ledger> Pool<S, L> {
         ensures no_fills { IfOk result (λ opened. All (λ s. fills_of s ≡ no_fills) opened.fills.items) }
         ensures no_asks { IfOk result (λ opened. All (λ s. asks_of s ≡ no_asks) opened.conns.items) }
     {
-        if workers == 0 || workers > MOST_SEATS {
-            return Err(OpenFault::Workers);
-        }
-        if conns == 0 || conns > MOST_SEATS {
-            return Err(OpenFault::Conns);
-        }
-        let groups = source.group_count();
-        if groups == 0 || groups > MOST_GROUPS {
-            return Err(OpenFault::Groups);
-        }
-        match Pool::begin(alloc, source, workers, conns, blank) {
-            Ok(opened) => Ok(opened),
-            Err(_) => Err(OpenFault::Memory),
-        }
-    }
-
-    // A pool with its seats.
-    fn begin(
-        alloc: Global,
-        source: S,
-        workers: usize,
-        conns: usize,
-        blank: Blank,
-    ) -> Result<Opened<S, L>, AllocError>
-        requires name { blank.name ≡ L.name }
-        requires parts { (blank.parts ≡ L.parts) × (blank.parts ≡ 16) }
-        requires seats { IsWithin 16 workers × IsWithin 16 conns }
-        ensures source { IfOk result (λ opened. source_of opened.pool ≡ source) }
-        ensures fills { IfOk result (λ opened. vec_len opened.fills ≡ workers) }
-        ensures seats { IfOk result (λ opened. vec_len opened.conns ≡ conns) }
-        ensures fills_of_pool { IfOk result (λ opened. All (IsFillSeatOf opened.pool) opened.fills.items) }
-        ensures conns_of_pool { IfOk result (λ opened. All (IsConnSeatOf opened.pool) opened.conns.items) }
-        ensures all_fills { IfOk result (λ opened. HaveAllFills opened.fills.items) }
-        ensures all_conns { IfOk result (λ opened. HaveAllConns opened.conns.items) }
-        ensures no_fills { IfOk result (λ opened. All (λ s. fills_of s ≡ no_fills) opened.fills.items) }
-        ensures no_asks { IfOk result (λ opened. All (λ s. asks_of s ≡ no_asks) opened.conns.items) }
-    {
+        check_numbers(workers, conns, source.group_count())?;
         let (jobs, mut pass) = empty_queue(alloc)?;
         let rest = jobs.another::<Half>(&mut pass);
         let (book, share) = blank.open::<L>();

@@ -3,9 +3,9 @@ ghost use Rattle.std.specs.Prelude.{◌≡◌, All, IfSome};
 ghost use Rattle.peer_fill.specs.Pools.{IsConnSeatOf, IsFillSeatOf};
 
 use super::{ECHO, is_value, pop_conn, pop_fill, value_of};
-use crate::{ConnSeat, FillSeat, NoGate, OfPool, Opened, Pool, Report};
+use crate::{ConnSeat, FillSeat, Gate, NoGate, OfPool, Opened, Pool, Report};
 use peer_flight::Claim;
-use peer_source::{DemoSource, Source};
+use peer_source::{DemoSource, GroupId, Source};
 use peer_view::ByteView;
 use std::alloc::Global;
 use std::marker::Brand;
@@ -14,6 +14,20 @@ use std::sync::ledger::{Blank, Ledger};
 use std::test::Fail;
 use std::thread;
 use std::thread::{Threads, join_promised};
+
+// Holds a worker back before each call, so that the queue of jobs runs full.
+#[derive(Clone, Copy)]
+struct Slow;
+
+impl Gate for Slow {
+    fn before_call<R: Wait>(&self, _rt: &R, _group: GroupId, _key: &[u8]) {
+        for _ in 0..200 {
+            thread::yield_now();
+        }
+    }
+
+    fn after_put<R: Wait>(&self, _rt: &R, _group: GroupId, _key: &[u8]) {}
+}
 
 // Claims on the echo of so many keys of two bytes.
 fn ask_each<S: Source, L: Ledger, R: Wait>(
@@ -110,10 +124,11 @@ fn use_conns<S: Source, L: Ledger + Send + Sync, R: Threads + Wait + Sync>(
 }
 
 // Each worker works in a thread of its own while the connections ask.
-fn use_every<S: Source, L: Ledger + Send + Sync, R: Threads + Wait + Sync>(
+fn use_every<S: Source, L: Ledger + Send + Sync, R: Threads + Wait + Sync, G: Gate>(
     rt: &R,
     alloc: Global,
     pool: &Pool<S, L>,
+    gate: &G,
     mut fills: Vec<FillSeat<S, L>>,
     conns: Vec<ConnSeat<S, L>>,
     keys: u16,
@@ -134,7 +149,7 @@ fn use_every<S: Source, L: Ledger + Send + Sync, R: Threads + Wait + Sync>(
                 let work = move ||
                     requires { IsFillSeatOf pool.now seat }
                     ensures { IsFillSeatOf pool.entry.now result }
-                { pool.run_worker(rt, alloc, seat, &NoGate) };
+                { pool.run_worker(rt, alloc, seat, gate) };
                 let Ok(handle) = scope.spawn_with(OfPool(pool), work) else {
                     pool.stop();
                     return None;
@@ -155,9 +170,10 @@ fn use_every<S: Source, L: Ledger + Send + Sync, R: Threads + Wait + Sync>(
 }
 
 // The report of a pool with so many workers and connections, each in a thread.
-fn report_of<L: Ledger + Send + Sync, R: Threads + Wait + Sync>(
+fn report_of<L: Ledger + Send + Sync, R: Threads + Wait + Sync, G: Gate>(
     rt: &R,
     alloc: Global,
+    gate: &G,
     workers: usize,
     conns: usize,
     keys: u16,
@@ -170,13 +186,21 @@ fn report_of<L: Ledger + Send + Sync, R: Threads + Wait + Sync>(
     let Ok(Opened { pool, fills, conns }) = opened else {
         return None;
     };
-    let (fills, conns) = use_every(rt, alloc, &pool, fills, conns, keys)?;
+    let (fills, conns) = use_every(rt, alloc, &pool, gate, fills, conns, keys)?;
     pool.close(rt, fills, conns).ok()
 }
 
 #[test]
 fn one_worker_fills_three_hundred_keys(rt: HostRuntime) -> Result<(), Fail> {
-    let report = report_of::<Brand, HostRuntime>(&rt, rt.alloc(), 1, 1, 300, Blank::new(16));
+    let report = report_of::<Brand, HostRuntime, Slow>(
+        &rt,
+        rt.alloc(),
+        &Slow,
+        1,
+        1,
+        300,
+        Blank::new(16),
+    );
     let expected = Report {
         asked: 300,
         hits: 0,
@@ -203,7 +227,15 @@ fn same_each_run(report: Report) -> (u64, u64, u64, bool) {
 
 #[test]
 fn sixteen_workers_serve_sixteen_connections(rt: HostRuntime) -> Result<(), Fail> {
-    let report = report_of::<Brand, HostRuntime>(&rt, rt.alloc(), 16, 16, 250, Blank::new(16));
+    let report = report_of::<Brand, HostRuntime, NoGate>(
+        &rt,
+        rt.alloc(),
+        &NoGate,
+        16,
+        16,
+        250,
+        Blank::new(16),
+    );
     assert_eq!(rt; report.map(same_each_run), Some((4000, 0, 0, true)));
     Ok(())
 }
