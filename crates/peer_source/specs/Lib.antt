@@ -1,4 +1,5 @@
 pub mod Answers
+pub mod Caches
 pub mod Demo
 pub mod Outcomes
 pub mod Reports

@@ -4,13 +4,16 @@
 //! a fill's answer is one that the type of its source allows for its group and key.
 #![tactic(auto)]
 
+mod cache;
 mod demo;
+mod entries;
 mod fill;
 mod functional;
 mod group;
 mod names;
 mod source;
 
+pub use cache::MainCache;
 pub use demo::DemoSource;
 pub use fill::{Fill, Outcome};
 pub use functional::FunctionalSource;

@@ -1,0 +1,134 @@
+//! The main cache of a group: the values found last, up to a limit in bytes (`cache` of `groupcache.go`).
+ghost use Rattle.std.specs.Prelude.{◌≡◌, ◌==◌, ℕ, ◌≤◌, [], None, IfOk, OnOk, OnErr, IsOk, All, length, bytes_eq};
+ghost use Rattle.std.specs.List.{IsDistinct};
+ghost use Rattle.std.specs.Map.{keys_of};
+ghost use Rattle.peer_source.specs.Caches.{IsAnswer, added, bytes_in, brought_to_front, fill_of, looked_up, put_first, value_to_keep};
+
+use crate::entries::{Entries, evict, put_in_front, room_beside};
+use crate::fill::{Fill, Outcome};
+use crate::group::GroupId;
+use crate::source::Source;
+use lru::LruCache;
+use peer_view::ByteView;
+use std::alloc::{AllocError, Global};
+use std::marker::{Model, PhantomData};
+use std::num::NonZeroUsize;
+
+// The most entries of a cache.
+const MOST_ENTRIES: usize = 4096;
+
+/// The values found last for the keys of a group. The bytes of an entry are those of its key and of its value.
+#[derive(Drop)]
+pub struct MainCache<S: Source> {
+    group: GroupId,
+    limit: u64,
+    bytes: u64,
+    entries: Entries,
+    of: PhantomData<S>,
+}
+
+impl<S: Source> Model for MainCache<S> {
+    ghost use Rattle.peer_source.specs.Caches.{Cache, Keeps};
+
+    ghost Value = { Cache };
+
+    ghost view = { λ c. record { group = c.group.number; limit = c.limit; entries = c.entries.entries } };
+
+    ghost invariant = { λ c. Keeps S.allowed c.group.number c.limit c.bytes c.entries };
+}
+
+impl<S: Source> MainCache<S> {
+    /// A cache for a group without an entry. It keeps at most so many bytes, and at 0 nothing.
+    pub fn new(alloc: Global, group: GroupId, limit: u64) -> Result<MainCache<S>, AllocError>
+        ensures { IfOk result (λ c. c ≡ record { group = group.number; limit = limit; entries = [] }) }
+    {
+        let most = NonZeroUsize::new(MOST_ENTRIES).unwrap();
+        Ok(MainCache {
+            group,
+            limit,
+            bytes: 0,
+            entries: LruCache::sparse(alloc, most)?,
+            of: PhantomData,
+        })
+    }
+
+    /// The fill of the entry with this key, which comes to the front. It shares the key and the value.
+    pub fn get(&mut self, key: &ByteView) -> Result<Option<Fill<S>>, AllocError>
+        ensures fill { IfOk result (λ fill. fill ≡ fill_of key.now self.old) }
+        ensures front { OnOk result (self.new ≡ brought_to_front key.now self.old) }
+        ensures err { OnErr result (self.new ≡ self.old) }
+        ensures missing { looked_up key.now self.old ≡ None → IsOk result }
+    {
+        let Some(value) = self.entries.peek(key) else {
+            return Ok(None);
+        };
+        let fill = Fill::found(self.group, key.share()?, value.share()?);
+        let _there = self.entries.promote(key);
+        Ok(Some(fill))
+    }
+
+    /// Keeps a value that was found for the group, and then the entries used last as far as they fit (`add` of
+    /// `groupcache.go`). A fill of another group, one without a value, and any at limit 0 change nothing.
+    pub fn add(&mut self, fill: &Fill<S>) -> Result<(), AllocError>
+        ensures ok { OnOk result (self.new ≡ added fill.now self.old) }
+        ensures err { OnErr result (self.new ≡ self.old) }
+        ensures nothing { value_to_keep fill.now self.old ≡ None → IsOk result }
+    {
+        let Outcome::Found(value) = fill.outcome() else {
+            return Ok(());
+        };
+        if fill.group() != self.group || self.limit == 0 {
+            return Ok(());
+        }
+        fill.law();
+        self.put(fill.key(), value)
+    }
+
+    // Puts an entry in front, and keeps what fits. One larger than the limit leaves nothing.
+    fn put(&mut self, key: &ByteView, value: &ByteView) -> Result<(), AllocError>
+        requires { IsAnswer S.allowed self.old.group (key.now, value.now) }
+        ensures ok { OnOk result (self.new ≡ put_first key.now value.now self.old) }
+        ensures err { OnErr result (self.new ≡ self.old) }
+    {
+        let Some(room) = room_beside(self.limit, key, value) else {
+            self.entries.clear();
+            self.bytes = 0;
+            return Ok(());
+        };
+        let bytes = self.bytes;
+        let others = put_in_front(&mut self.entries, bytes, key.share()?, value.share()?)?;
+        self.bytes = evict(&mut self.entries, others, room) + (self.limit - room);
+        Ok(())
+    }
+
+    /// The bytes of the entries.
+    pub fn bytes(&self) -> u64
+        ensures sum { result ≡ bytes_in self.now.entries }
+        ensures within { result ≤ self.now.limit }
+    {
+        self.bytes
+    }
+
+    /// How many entries there are.
+    pub fn len(&self) -> usize
+        ensures len { result ≡ length self.now.entries }
+        ensures most { result ≤ MOST_ENTRIES }
+        ensures once { IsDistinct bytes_eq (keys_of self.now.entries) }
+    {
+        self.entries.len()
+    }
+
+    /// Whether there is no entry.
+    pub fn is_empty(&self) -> bool
+        ensures { result ≡ (length self.now.entries == 0) }
+    {
+        self.len() == 0
+    }
+
+    /// The law of caches: each entry is an answer that the type of the source allows for the group.
+    pub fn law(&self)
+        ensures { All (IsAnswer S.allowed self.now.group) self.now.entries }
+    {
+        let _ = &self.entries;
+    }
+}
