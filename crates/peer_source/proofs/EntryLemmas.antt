@@ -1,8 +1,9 @@
 -- What the words on the entries of a map give where keys are bytes.
-use Rattle.std.proofs.Common.{◌≡◌, ℕ, zero, suc, ◌+◌, ◌-◌, ◌<◌, ◌≤◌, Bool, true, false, cond, ◌⊎◌, List, [], ◌∷◌, length, take, drop, slice_get, All, Contains, Option, Some, None, refl, sym, ap, ◌∙◌, subst, inl, inr, arith}
+use Rattle.std.proofs.Common.{◌≡◌, ℕ, zero, suc, ◌+◌, ◌-◌, ◌<◌, ◌≤◌, true, false, ◌⊎◌, List, [], ◌∷◌, length, take, slice_get, All, Contains, Option, Some, None, refl, sym, ap, ◌∙◌, subst, inl, inr, arith}
 use Rattle.std.specs.Prelude.{bytes_eq}
-use Rattle.std.specs.Map.{lookup, lookup_entry, remove_entry}
+use Rattle.std.specs.Map.{lookup, lookup_entry}
 use Rattle.std.proofs.lemmas.Slice.Eq.{bytes_eq-Decides}
+use Rattle.std.proofs.lemmas.Option.{none-some, same_Some}
 use Rattle.std.proofs.lemmas.List.{take_all}
 use Rattle.std.proofs.lemmas.List.Elements.{All-weaker, All-contains_itself, All-contains}
 use Rattle.lru.specs.LruCache.{LruCache, promoted, put_entries, displaced}
@@ -43,12 +44,15 @@ behind_first k e es fails (inl none) = inl (record {
   entry = rw fails none.entry;
   others = rw fails (ap (λ l. e ∷ l) none.others);
 })
-behind_first k e es fails (inr some) = let there = some.1 in inr (some.0, record {
-  value = rw fails there.value;
-  entry = rw fails there.entry;
-  sum = rw fails (omega (arith, there.sum));
-  size = rw fails (ap suc there.size);
-})
+behind_first k e es fails (inr some) = let there = some.1 in inr (
+  some.0,
+  record {
+    value = rw fails there.value;
+    entry = rw fails there.entry;
+    sum = rw fails (omega (arith, there.sum));
+    size = rw fails (ap suc there.size);
+  },
+)
 
 -- an entry has the key or none has
 pub cases_key : (k : List ℕ) (es : List Entry) → Cases k es
@@ -85,7 +89,7 @@ at_end (suc n) (e ∷ es) short = omega (arith, at_end n es (omega arith))
 abbrev pub first_of : ℕ → List ℕ → List ℕ → List Entry → List Entry
 first_of cap k v es = take cap ((k, v) ∷ without k es)
 
-take_first : (cap : ℕ) (e : Entry) (es : List Entry) → 0 < cap → take cap (e ∷ es) ≡ e ∷ take (cap - 1) es
+pub take_first : (cap : ℕ) (e : Entry) (es : List Entry) → 0 < cap → take cap (e ∷ es) ≡ e ∷ take (cap - 1) es
 take_first cap e es some = let more : cap ≡ suc (cap - 1) = omega arith in ap (λ n. take n (e ∷ es)) more
 
 -- what `push` leaves and hands back
@@ -110,3 +114,15 @@ pushes c k v most some =
             others = rw (there.1.value, all) there.1.sum;
           }
     ]
+
+-- a look-up that finds a value found it for the key
+pub there_at : (k : List ℕ) (es : List Entry) (v : List ℕ) → lookup (bytes_eq k) es ≡ Some v → IsThere k es v
+there_at k es v found =
+    elim (cases_key k es) [
+      | inl none ↦ absurd (none-some v (sym none.value ∙ found))
+      | inr there ↦ subst (IsThere k es) (same_Some there.0 v (sym there.1.value ∙ found)) there.1
+    ]
+
+-- the entry that is there comes to the front
+pub promoted_there : (k : List ℕ) (es : List Entry) (v : List ℕ) → IsThere k es v → promoted (bytes_eq k) es ≡ (k, v) ∷ without k es
+promoted_there k es v there = rw there.entry

@@ -17,6 +17,10 @@ pub record Cache : Type 0 where
   pub limit : ℕ
   pub entries : List Entry
 
+-- a cache without an entry
+abbrev pub empty_cache : ℕ → ℕ → Cache
+empty_cache group limit = record { group = group; limit = limit; entries = [] }
+
 -- the bytes of an entry: those of its key and of its value
 abbrev pub bytes_of : Entry → ℕ
 bytes_of e = length e.0 + length e.1
@@ -39,9 +43,13 @@ without key es = remove_entry (bytes_eq key) es
 abbrev pub looked_up : List ℕ → Cache → Option (List ℕ)
 looked_up key c = lookup (bytes_eq key) c.entries
 
--- the fill that a look-up finds
+-- the fill of a value that was found
+abbrev pub found_fill : ℕ → List ℕ → List ℕ → Filled
+found_fill group key value = record { group = group; key = key; answer = Some (Found value) }
+
+-- the fill of the entry with this key
 abbrev pub fill_of : List ℕ → Cache → Option Filled
-fill_of key c = option_map (λ value. record { group = c.group; key = key; answer = Some (Found value) }) (looked_up key c)
+fill_of key c = option_map (found_fill c.group key) (looked_up key c)
 
 -- the entry with this key, if there is one, is the first
 abbrev pub brought_to_front : List ℕ → Cache → Cache
@@ -70,10 +78,11 @@ pub record IsAnswer (allowed : ℕ → List ℕ → Answer → Type 0) (group : 
   pub within : length e.1 ≤ VALUE_LIMIT
   pub answer : ∥ allowed group e.0 (Found e.1) ∥₁
 
--- what a cache keeps: how many bytes its entries have, within the limit, room for 4,096 entries, and answers alone
+-- what a cache keeps: how many bytes its entries have, within the limit, at most 4,096 of them, at limit 0 none, and answers alone
 pub record Keeps (allowed : ℕ → List ℕ → Answer → Type 0) (group limit bytes : ℕ) (kept : LruCache (List ℕ) (List ℕ)) : Type 0 where
   pub sum : bytes ≡ bytes_in kept.entries
   pub within : bytes ≤ limit
   pub room : kept.cap ≡ MOST_ENTRIES
   pub most : length kept.entries ≤ MOST_ENTRIES
+  pub off : limit ≡ 0 → kept.entries ≡ []
   pub answers : All (IsAnswer allowed group) kept.entries

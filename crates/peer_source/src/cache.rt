@@ -1,8 +1,8 @@
 //! The main cache of a group: the values found last, up to a limit in bytes (`cache` of `groupcache.go`).
-ghost use Rattle.std.specs.Prelude.{◌≡◌, ◌==◌, ℕ, ◌≤◌, [], None, IfOk, OnOk, OnErr, IsOk, All, length, bytes_eq};
+ghost use Rattle.std.specs.Prelude.{◌≡◌, ◌==◌, ℕ, ◌<◌, ◌≤◌, [], None, IfOk, OnOk, OnErr, IsOk, All, length, bytes_eq};
 ghost use Rattle.std.specs.List.{IsDistinct};
 ghost use Rattle.std.specs.Map.{keys_of};
-ghost use Rattle.peer_source.specs.Caches.{IsAnswer, added, bytes_in, brought_to_front, fill_of, looked_up, put_first, value_to_keep};
+ghost use Rattle.peer_source.specs.Caches.{IsAnswer, added, bytes_in, brought_to_front, empty_cache, fill_of, looked_up, put_first, value_to_keep};
 
 use crate::entries::{Entries, evict, put_in_front, room_beside};
 use crate::fill::{Fill, Outcome};
@@ -40,7 +40,7 @@ impl<S: Source> Model for MainCache<S> {
 impl<S: Source> MainCache<S> {
     /// A cache for a group without an entry. It keeps at most so many bytes, and at 0 nothing.
     pub fn new(alloc: Global, group: GroupId, limit: u64) -> Result<MainCache<S>, AllocError>
-        ensures { IfOk result (λ c. c ≡ record { group = group.number; limit = limit; entries = [] }) }
+        ensures { IfOk result (λ c. c ≡ empty_cache group.number limit) }
     {
         let most = NonZeroUsize::new(MOST_ENTRIES).unwrap();
         Ok(MainCache {
@@ -86,7 +86,8 @@ impl<S: Source> MainCache<S> {
 
     // Puts an entry in front, and keeps what fits. One larger than the limit leaves nothing.
     fn put(&mut self, key: &ByteView, value: &ByteView) -> Result<(), AllocError>
-        requires { IsAnswer S.allowed self.old.group (key.now, value.now) }
+        requires answer { IsAnswer S.allowed self.old.group (key.now, value.now) }
+        requires on { 0 < self.old.limit }
         ensures ok { OnOk result (self.new ≡ put_first key.now value.now self.old) }
         ensures err { OnErr result (self.new ≡ self.old) }
     {
@@ -103,17 +104,14 @@ impl<S: Source> MainCache<S> {
 
     /// The bytes of the entries.
     pub fn bytes(&self) -> u64
-        ensures sum { result ≡ bytes_in self.now.entries }
-        ensures within { result ≤ self.now.limit }
+        ensures { result ≡ bytes_in self.now.entries }
     {
         self.bytes
     }
 
     /// How many entries there are.
     pub fn len(&self) -> usize
-        ensures len { result ≡ length self.now.entries }
-        ensures most { result ≤ MOST_ENTRIES }
-        ensures once { IsDistinct bytes_eq (keys_of self.now.entries) }
+        ensures { result ≡ length self.now.entries }
     {
         self.entries.len()
     }
@@ -122,13 +120,17 @@ impl<S: Source> MainCache<S> {
     pub fn is_empty(&self) -> bool
         ensures { result ≡ (length self.now.entries == 0) }
     {
-        self.len() == 0
+        self.entries.is_empty()
     }
 
-    /// The law of caches: each entry is an answer that the type of the source allows for the group.
+    /// The law of caches.
     pub fn law(&self)
-        ensures { All (IsAnswer S.allowed self.now.group) self.now.entries }
+        ensures within { bytes_in self.now.entries ≤ self.now.limit }
+        ensures most { length self.now.entries ≤ MOST_ENTRIES }
+        ensures off { self.now.limit ≡ 0 → self.now.entries ≡ [] }
+        ensures once { IsDistinct bytes_eq (keys_of self.now.entries) }
+        ensures answers { All (IsAnswer S.allowed self.now.group) self.now.entries }
     {
-        let _ = &self.entries;
+        let _length = self.entries.len();
     }
 }

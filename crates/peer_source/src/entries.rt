@@ -1,4 +1,5 @@
-//! Entries of keys and values, the most recently used first (`lru/lru.go`).
+//! The entries of a cache, on the kit's `lru`: how one is put first, and how those behind it make room (`lru/lru.go`).
+//! Each function says what it leaves, and counts the bytes that are left.
 ghost use Rattle.std.specs.Prelude.{◌≡◌, ◌+◌, ◌^◌, ◌<◌, ◌≤◌, ◌∷◌, ◌++◌, length, take, drop, IfSome, IfNone, IfOk, OnOk, OnErr};
 ghost use Rattle.lru.specs.LruCache.{lru_cache};
 ghost use Rattle.peer_source.specs.Caches.{bytes_of, bytes_in, fitting, without};
@@ -7,8 +8,8 @@ use lru::LruCache;
 use peer_view::ByteView;
 use std::alloc::AllocError;
 
-/// The entries of a cache.
-pub type Entries = LruCache<ByteView, ByteView>;
+// The entries of a cache, the most recently used first.
+pub(crate) type Entries = LruCache<ByteView, ByteView>;
 
 // What an entry leaves of the limit, if it is not larger.
 pub(crate) fn room_beside(limit: u64, key: &ByteView, value: &ByteView) -> Option<u64>
@@ -53,13 +54,12 @@ pub(crate) fn put_in_front(
 }
 
 // Removes entries from the end until those behind the first fit the room, and says how many bytes these take.
-pub(crate) fn evict(entries: &mut Entries, others: u64, room: u64) -> u64
+pub(crate) fn evict(entries: &mut Entries, mut others: u64, room: u64) -> u64
     requires others { others ≡ bytes_in (drop 1 entries.old.entries) }
     ensures entries { entries.new ≡ lru_cache (take 1 entries.old.entries ++ fitting room (drop 1 entries.old.entries)) entries.old.cap }
     ensures others { result ≡ bytes_in (fitting room (drop 1 entries.old.entries)) }
     ensures fits { result ≤ room }
 {
-    let mut others = others;
     while others > room {
         let Some(entry) = entries.pop_lru() else {
             break;

@@ -1,7 +1,7 @@
 //! Fills: a group, a key, and what the source answered.
 ghost use Rattle.std.specs.Prelude.{◌≡◌, ◌⊎◌, ℕ, None, Some, IfSome, IfOk};
-ghost use Rattle.peer_source.specs.Answers.{Failed, Found, IsWithinLimit, too_long_text};
-ghost use Rattle.peer_source.specs.Caches.{IsAnswer};
+ghost use Rattle.peer_source.specs.Answers.{Failed, IsWithinLimit, too_long_text};
+ghost use Rattle.peer_source.specs.Caches.{IsAnswer, found_fill};
 ghost use Rattle.peer_source.specs.Reports.{reported};
 ghost use Rattle.peer_source.specs.Outcomes.{answer_of};
 
@@ -123,7 +123,7 @@ impl<S: Source> Fill<S> {
     // The fill of a value that the type of the source allows.
     pub(crate) fn found(group: GroupId, key: ByteView, value: ByteView) -> Fill<S>
         requires { IsAnswer S.allowed group.number (key, value) }
-        ensures { result ≡ record { group = group.number; key = key; answer = Some (Found value) } }
+        ensures { result ≡ found_fill group.number key value }
     {
         Fill {
             group,

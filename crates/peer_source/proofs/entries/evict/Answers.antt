@@ -1,4 +1,4 @@
-use Rattle.std.proofs.Common.{◌≡◌, ◌≤◌, ◌<◌, ℕ, List, ap, sym, ◌∙◌, drop, take, length, arith}
+use Rattle.std.proofs.Common.{◌≤◌, ◌<◌, ℕ, List, ap, sym, ◌∙◌, drop, take, arith}
 use Rattle.lru.specs.LruCache.{LruCache}
 use Rattle.peer_source.specs.Caches.{bytes_in, fitting}
 use Rattle.peer_source.proofs.FittingLemmas.{popped, has_last, fits_all, same_cache}

@@ -1,4 +1,4 @@
-use Rattle.std.proofs.Common.{◌≡◌, ◌≤◌, ◌+◌, Some, None, ℕ, List, ap, sym, ◌∙◌, arith}
+use Rattle.std.proofs.Common.{ℕ, List, ap, ◌∙◌, arith}
 use Rattle.lru.specs.LruCache.{LruCache, lru_cache}
 use Rattle.peer_source.specs.Caches.{bytes_in}
 use Rattle.peer_source.proofs.EntryLemmas.{bytes_left, pushes}
