@@ -1,4 +1,4 @@
-//! Tests of what no clause says: the source for demonstrations, its fills, and its names.
+//! Tests of what no clause says: the source for demonstrations, its fills, its names, and caches of its fills.
 ghost use Rattle.peer_source.specs.Demo.{DemoAnswers, demo_number, demo_answered, demo_numbered};
 
 use crate::{DemoSource, Fill, GetFault, GroupId, Names, Outcome, Source};
@@ -7,6 +7,8 @@ use std::alloc::Global;
 use std::process::Abort;
 use std::sync::atomic::{AtomicU64, Ordering};
 use std::test::Fail;
+
+mod caches;
 
 const ECHO: GroupId = GroupId { number: 0 };
 
