@@ -131,6 +131,7 @@ impl<S: Source> MainCache<S> {
         ensures once { IsDistinct bytes_eq (keys_of self.now.entries) }
         ensures answers { All (IsAnswer S.allowed self.now.group) self.now.entries }
     {
-        let _length = self.entries.len();
+        let entries = &self.entries;
+        let _length = entries.len();
     }
 }

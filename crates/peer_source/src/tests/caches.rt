@@ -42,7 +42,7 @@ fn finds(
 }
 
 // Whether the key is not there.
-fn misses(alloc: Global, cache: &mut MainCache<DemoSource>, key: &[u8]) -> Result<bool, Fail> {
+fn lacks(alloc: Global, cache: &mut MainCache<DemoSource>, key: &[u8]) -> Result<bool, Fail> {
     let key = ByteView::copy_of(alloc, key)?;
     Ok(cache.get(&key)?.is_none())
 }
@@ -51,7 +51,7 @@ fn misses(alloc: Global, cache: &mut MainCache<DemoSource>, key: &[u8]) -> Resul
 fn the_last_used_stay(rt: HostRuntime) -> Result<(), Fail> {
     let mut cache = letters_in(rt.alloc(), 4, b"abc")?;
     assert_eq!(rt; (cache.bytes(), cache.len()), (4, 2));
-    assert!(rt; misses(rt.alloc(), &mut cache, b"a")?);
+    assert!(rt; lacks(rt.alloc(), &mut cache, b"a")?);
     assert!(rt; finds(rt.alloc(), &mut cache, b"b", b"b")?);
     Ok(())
 }
@@ -61,7 +61,7 @@ fn a_get_changes_which_one_goes(rt: HostRuntime) -> Result<(), Fail> {
     let mut cache = letters_in(rt.alloc(), 4, b"ab")?;
     assert!(rt; finds(rt.alloc(), &mut cache, b"a", b"a")?);
     add_letters(rt.alloc(), &mut cache, b"c")?;
-    assert!(rt; misses(rt.alloc(), &mut cache, b"b")?);
+    assert!(rt; lacks(rt.alloc(), &mut cache, b"b")?);
     assert!(rt; finds(rt.alloc(), &mut cache, b"a", b"a")?);
     Ok(())
 }
@@ -80,7 +80,7 @@ fn an_entry_over_the_limit_leaves_none(rt: HostRuntime) -> Result<(), Fail> {
     let mut cache = letters_in(rt.alloc(), 4, b"ab")?;
     cache.add(&fill(rt.alloc(), ECHO, b"abc")?)?;
     assert_eq!(rt; (cache.bytes(), cache.len()), (0, 0));
-    assert!(rt; misses(rt.alloc(), &mut cache, b"abc")?);
+    assert!(rt; lacks(rt.alloc(), &mut cache, b"abc")?);
     Ok(())
 }
 
@@ -117,7 +117,7 @@ fn a_key_is_counted_once(rt: HostRuntime) -> Result<(), Fail> {
     let mut cache = letters_in(rt.alloc(), 4, b"aba")?;
     assert_eq!(rt; (cache.bytes(), cache.len()), (4, 2));
     add_letters(rt.alloc(), &mut cache, b"c")?;
-    assert!(rt; misses(rt.alloc(), &mut cache, b"b")?);
+    assert!(rt; lacks(rt.alloc(), &mut cache, b"b")?);
     Ok(())
 }
 
@@ -167,7 +167,7 @@ fn step(
         if there {
             digits.insert(0, digit)?;
         }
-        there != misses(alloc, cache, &key)?
+        there != lacks(alloc, cache, &key)?
     };
     Ok(same && cache.len() == digits.len() && cache.bytes() == bytes_for(digits))
 }
