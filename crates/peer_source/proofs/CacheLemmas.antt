@@ -21,8 +21,8 @@ abbrev pub cache_of : ℕ → ℕ → Kept → Cache
 cache_of group limit kept = record { group = group; limit = limit; entries = kept.entries }
 
 -- a look-up in the entries finds what the cache has
-pub not_missing : (group limit : ℕ) (kept : Kept) (k v : List ℕ) (c : Cache) → cache_of group limit kept ≡ c → lookup (bytes_eq k) kept.entries ≡ Some v → looked_up k c ≡ None → ⊥
-not_missing group limit kept k v c is found missing = none-some v (sym missing ∙ ap (looked_up k) (sym is) ∙ found)
+pub not_missing : (group limit : ℕ) (kept : Kept) (k v : List ℕ) (c : Cache) → cache_of group limit kept ≡ c → Some v ≡ lookup (bytes_eq k) kept.entries → looked_up k c ≡ None → ⊥
+not_missing group limit kept k v c is found missing = none-some v (sym missing ∙ ap (looked_up k) (sym is) ∙ sym found)
 
 module _ (kept new : Kept) (k v : List ℕ) (there : IsThere k kept.entries v) (moved : new ≡ lru_cache (promoted (bytes_eq k) kept.entries) kept.cap) where
   in_front : new ≡ lru_cache ((k, v) ∷ without k kept.entries) kept.cap

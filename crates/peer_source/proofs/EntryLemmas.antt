@@ -116,11 +116,11 @@ pushes c k v most some =
     ]
 
 -- a look-up that finds a value found it for the key
-pub there_at : (k : List ℕ) (es : List Entry) (v : List ℕ) → lookup (bytes_eq k) es ≡ Some v → IsThere k es v
+pub there_at : (k : List ℕ) (es : List Entry) (v : List ℕ) → Some v ≡ lookup (bytes_eq k) es → IsThere k es v
 there_at k es v found =
     elim (cases_key k es) [
-      | inl none ↦ absurd (none-some v (sym none.value ∙ found))
-      | inr there ↦ subst (IsThere k es) (same_Some there.0 v (sym there.1.value ∙ found)) there.1
+      | inl none ↦ absurd (none-some v (sym none.value ∙ sym found))
+      | inr there ↦ subst (IsThere k es) (same_Some there.0 v (sym there.1.value ∙ sym found)) there.1
     ]
 
 -- the entry that is there comes to the front

@@ -123,9 +123,10 @@ fn a_key_is_counted_once(rt: HostRuntime) -> Result<(), Fail> {
 
 // The bytes of the entries for these digits in a cache of `fill`, where a digit's value is so many bytes.
 fn bytes_for(digits: &[u8]) -> u64 {
-    digits
-        .iter()
-        .fold(0, |bytes: u64, digit| bytes.wrapping_add(1 + u64::from(*digit)))
+    digits.iter().fold(
+        0,
+        |bytes: u64, digit| bytes.wrapping_add(1 + u64::from(*digit)),
+    )
 }
 
 // Takes the digit out of the list, and says whether it was there.
