@@ -1,4 +1,6 @@
 //! The main cache of a group: the values found last, up to a limit in bytes (`cache` of `groupcache.go`).
+//!
+//! It stands on a map by use (`entries`). A get gives a fill of the cache's group and of the key, or none.
 ghost use Rattle.std.specs.Prelude.{◌≡◌, ◌==◌, ℕ, ◌<◌, ◌≤◌, [], None, IfOk, OnOk, OnErr, IsOk, All, length, bytes_eq};
 ghost use Rattle.std.specs.List.{IsDistinct};
 ghost use Rattle.std.specs.Map.{keys_of};
@@ -123,7 +125,7 @@ impl<S: Source> MainCache<S> {
         self.entries.is_empty()
     }
 
-    /// The law of caches.
+    /// The law of caches: what each of them keeps.
     pub fn law(&self)
         ensures within { bytes_in self.now.entries ≤ self.now.limit }
         ensures most { length self.now.entries ≤ MOST_ENTRIES }
