@@ -1,9 +1,12 @@
 pub mod AnswerLemmas
+pub mod ConnectLemmas
 pub mod HeadlineLemmas
 pub mod PartLemmas
+pub mod ReaderLemmas
 pub mod SendLemmas
 pub mod ServeLemmas
 pub mod TotalLemmas
 pub mod TurnLemmas
 pub mod WholeLemmas
 pub mod WishLemmas
+pub mod WriterLemmas

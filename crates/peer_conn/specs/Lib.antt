@@ -1,8 +1,12 @@
+pub mod Connects
 pub mod Ends
 pub mod Headline
 pub mod Laws
 pub mod Nexts
 pub mod Replies
 pub mod Sending
+pub mod Taking
+pub mod Tickets
 pub mod Turns
 pub mod Wishes
+pub mod Writes

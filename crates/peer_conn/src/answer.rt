@@ -53,8 +53,8 @@ impl Rooms {
     }
 }
 
-// Puts a reply behind what is gathered.
-fn put_reply<W: PeerWrite>(reply: &Reply<'_>, out: &mut Gather<W>) -> Put
+/// Puts a reply behind what is gathered.
+pub(crate) fn put_reply<W: PeerWrite>(reply: &Reply<'_>, out: &mut Gather<W>) -> Put
     requires { W.failures out.old.writer < 2 ^ 64 - 1 }
     ensures { PutsReply reply.now (sending W.failures W.taken out.old out.new) result }
 {
@@ -92,16 +92,16 @@ fn put_wish<S: Source, W: PeerWrite>(
     }
 }
 
-// Whether the reply to a wish closes, after `count` replies.
-fn closes_after(count: u64, closing: bool) -> bool
+/// Whether the reply to a wish closes, after `count` replies.
+pub(crate) fn closes_after(count: u64, closing: bool) -> bool
     requires { count < MOST }
     ensures { result ≡ closes_after count closing }
 {
     closing || count + 1 == MOST_REPLIES
 }
 
-// The wish, whose reply closes.
-fn closing(wish: Wish) -> Wish
+/// The wish, whose reply closes.
+pub(crate) fn closing(wish: Wish) -> Wish
     ensures { result ≡ record wish { closing = true } }
 {
     let Wish { body, bare, .. } = wish;

@@ -6,15 +6,20 @@
 #![tactic(auto)]
 
 mod answer;
+mod connection;
 mod end;
 mod functional;
 mod gather;
 mod intake;
 pub mod laws;
+mod reader;
 mod serial;
+mod threads;
 mod told;
 mod wish;
+mod writer;
 
+pub use connection::serve_connection;
 pub use end::{End, Served};
 pub use functional::serve_functional;
 pub use serial::serve_serial;

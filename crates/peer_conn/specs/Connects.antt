@@ -1,0 +1,47 @@
+-- What a call for a connection did, with its reader and its writer in threads of their own.
+use Rattle.std.specs.Prelude.{◌≡◌, ℕ, ◌+◌, ◌⊎◌, ◌≤◌, List, Option}
+use Rattle.std.specs.Io.KnownBytes.{Appends}
+use Rattle.peer_source.specs.Answers.{Answer}
+use Rattle.peer_reply.specs.declared.wish.Wish.{Wish}
+use Rattle.peer_conn.specs.Wishes.{AreFirst}
+use Rattle.peer_conn.specs.Laws.{IsWhole}
+use Rattle.peer_conn.specs.Tickets.{keyed}
+use Rattle.peer_conn.specs.Ends.{Reading, Writing, EndsAs}
+use Rattle.peer_conn.specs.declared.end.End.{End}
+use Rattle.peer_conn.specs.declared.end.End.TheVariants as end
+use Rattle.peer_conn.specs.declared.reader.Cause.{Cause}
+use Rattle.peer_conn.specs.declared.reader.Cause.TheVariants as cause
+use Rattle.peer_conn.specs.declared.writer.Standing.{Standing}
+use Rattle.peer_conn.specs.declared.writer.Standing.TheVariants as standing
+
+-- the end, by how the writer stands and what stopped the reader
+abbrev pub end_for : Standing → Cause → End
+end_for standing.WriteFault c = end.WriteFault
+end_for standing.Memory c = end.Memory
+end_for standing.Fine cause.Closed = end.Clean
+end_for standing.Fine cause.Told = end.Clean
+end_for standing.Fine cause.Cut = end.Cut
+end_for standing.Fine cause.ReadFault = end.ReadFault
+end_for standing.Fine cause.Spent = end.Spent
+end_for standing.Fine cause.Memory = end.Memory
+end_for standing.Fine cause.Worn = end.Worn
+end_for standing.Fine cause.Stopped = end.Memory
+
+-- the wishes that were asked for: all of the text's where it was read through
+abbrev pub AreAsked : (List ℕ → Option ℕ) → End → List ℕ → List Wish → Type 0
+AreAsked numbers end.WriteFault t ws = AreFirst numbers 0 t ws
+AreAsked numbers end.Memory t ws = AreFirst numbers 0 t ws
+AreAsked numbers end.Worn t ws = AreFirst numbers 0 t ws
+AreAsked numbers _ t ws = IsWhole numbers 0 t ws
+
+-- at most `reads` reads, which gave the text, and writes, which took the output; a seat asked for those of its wishes that have group and key
+pub record Connects (numbers : List ℕ → Option ℕ) (answers : ℕ → List ℕ → Answer → Type 0) (reads : ℕ) (r : Reading) (w : Writing) (asked asked' : ℕ) (end : End) : Type 0 where
+  pub text : List ℕ
+  pub output : List ℕ
+  pub wishes : List Wish
+  pub gave : Appends r.given r.given' text
+  pub took : Appends w.taken w.taken' output
+  pub calls : r.calls' ≤ r.calls + reads
+  pub ends : EndsAs numbers answers reads r w text output end
+  pub asks : AreAsked numbers end text wishes
+  pub counted : asked' ≡ asked + keyed wishes
