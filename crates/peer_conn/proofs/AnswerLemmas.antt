@@ -1,18 +1,31 @@
--- What holds under a relation of answers holds under any weaker one.
-use Rattle.std.proofs.Common.{ℕ, Bool, List, [], ◌∷◌, Option}
+-- What holds under a relation of answers holds under any that has the same replies.
+use Rattle.std.proofs.Common.{◌≡◌, ◌∙◌, ap, ℕ, Bool, List, [], ◌∷◌, Option}
+use mathlib.Core.Logic.{∥∥₁_elim}
+use base.Stored.{Coded-set}
+use Rattle.std.specs.Coded.{coded_ℕ, coded_list}
 use Rattle.peer_source.specs.Answers.{Answer}
+use Rattle.peer_reply.specs.Texts.{answer_reply}
 use Rattle.peer_reply.specs.declared.wish.Wish.{Wish}
 use Rattle.peer_reply.specs.declared.wish.WishBody.{WishBody}
 use Rattle.peer_reply.specs.declared.wish.WishBody.TheVariants as body
 use Rattle.peer_conn.specs.Replies.{RepliesTo, Replies, AreReplies, AreFrontOfReplies}
 use Rattle.peer_conn.specs.Ends.{Reading, Writing, EndsAs, Serves}
+use Rattle.peer_conn.specs.Connects.{Connects}
 use Rattle.peer_conn.specs.declared.end.End.{End}
 use Rattle.peer_conn.specs.declared.end.End.TheVariants as end
 
-module _ (A B : ℕ → List ℕ → Answer → Type 0) (weaker : (g : ℕ) (k : List ℕ) (a : Answer) → A g k a → B g k a) where
+-- a reply to one of the answers that a relation gives
+abbrev pub IsReplyOf : (ℕ → List ℕ → Answer → Type 0) → Bool → Bool → ℕ → List ℕ → List ℕ → Type 0
+IsReplyOf answers closing bare g k r = (a : Answer) × answers g k a × (r ≡ answer_reply closing bare a)
+
+-- what is merely the one answer has its reply, since replies are texts
+pub merely_its_reply : (closing bare : Bool) (P : Type 0) (a b : Answer) (r : List ℕ) → ∥ P ∥₁ → (P → a ≡ b) → r ≡ answer_reply closing bare a → r ≡ answer_reply closing bare b
+merely_its_reply closing bare P a b r h same e = ∥∥₁_elim h (Coded-set (coded_list coded_ℕ) r (answer_reply closing bare b)) (λ p. e ∙ ap (answer_reply closing bare) (same p))
+
+module _ (A B : ℕ → List ℕ → Answer → Type 0) (carries : (closing bare : Bool) (g : ℕ) (k r : List ℕ) → IsReplyOf A closing bare g k r → IsReplyOf B closing bare g k r) where
   replies_to : (closing bare : Bool) (b : WishBody) (r : List ℕ) → RepliesTo A closing bare b r → RepliesTo B closing bare b r
   replies_to closing bare (body.Fault f) r h = h
-  replies_to closing bare (body.Get group key) r h = (h.0, weaker group.number key h.0 h.1, h.2)
+  replies_to closing bare (body.Get group key) r h = carries closing bare group.number key r h
 
   pub replies : (ws : List Wish) (rs : List (List ℕ)) → Replies A ws rs → Replies B ws rs
   replies [] rs h = h
@@ -36,3 +49,16 @@ module _ (A B : ℕ → List ℕ → Answer → Type 0) (weaker : (g : ℕ) (k :
 
     pub serves : (e : End) → Serves numbers A reads r w e → Serves numbers B reads r w e
     serves e h = record { text = h.text; output = h.output; gave = h.gave; took = h.took; calls = h.calls; ends = ends h.text h.output e h.ends }
+
+    pub connects_too : (asked asked' : ℕ) (e : End) → Connects numbers A reads r w asked asked' e → Connects numbers B reads r w asked asked' e
+    connects_too asked asked' e h = record {
+      text = h.text;
+      output = h.output;
+      wishes = h.wishes;
+      gave = h.gave;
+      took = h.took;
+      calls = h.calls;
+      ends = ends h.text h.output e h.ends;
+      asks = h.asks;
+      counted = h.counted;
+    }

@@ -1,8 +1,9 @@
 //! Connections: the requests of a stream, each with its reply, in order, and how the connection ends.
 //!
 //! It stands on the heads of `peer_head`, the places of `peer_path`, the sources and fills of `peer_source`, the
-//! replies of `peer_reply`, and the readers and writers of `peer_view`. It promises that what is written is the replies
-//! to what was read, as the end of the call says.
+//! replies of `peer_reply`, the readers and writers of `peer_view`, and, where a connection has a reader and a writer in
+//! threads of their own, on the pool of `peer_fill` and the lanes of `peer_lane`. It promises that what is written is
+//! the replies to what was read, as the end of the call says.
 #![tactic(auto)]
 
 mod answer;
@@ -21,7 +22,7 @@ mod writer;
 
 pub use connection::serve_connection;
 pub use end::{End, Served};
-pub use functional::serve_functional;
+pub use functional::{serve_connection_functional, serve_functional};
 pub use serial::serve_serial;
 pub use told::serve_told;
 pub use wish::wish_of;

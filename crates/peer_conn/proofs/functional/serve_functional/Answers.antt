@@ -16,7 +16,7 @@ returns-clause-serves g c =
     (writing g.W.PeerWrite.taken g.W.PeerWrite.failures c.args.writer c.serve_serial.result.writer) c.serve_serial.result.end in
     subst P names
     (serves (g.S.Source.answers c.args.source.now) (λ group k a. a ≡ g.S.FunctionalSource.the_answer group k)
-    (λ group k a h. functional.single group k a (source.within c.args.source.now group k a h))
+    (λ closing bare group k r h. (h.0, functional.single group k h.0 (source.within c.args.source.now group k h.0 h.1), h.2))
     (g.S.Source.number_of c.args.source.now) c.args.reads _ _ c.serve_serial.result.end c.serve_serial.ensures.serves)
 
 -- and so what is written is a front of the replies of that one answer
