@@ -8,6 +8,7 @@ use peer_flight::Claim;
 use peer_source::{DemoSource, GroupId, Source};
 use peer_view::ByteView;
 use std::alloc::Global;
+use std::hint::spin_loop;
 use std::marker::Brand;
 use std::sync::Wait;
 use std::sync::ledger::{Blank, Ledger};
@@ -15,14 +16,21 @@ use std::test::Fail;
 use std::thread;
 use std::thread::{Threads, join_promised};
 
-// Holds a worker back before each call, so that the queue of jobs runs full.
+// Takes a while, in which a thread that waits falls asleep.
+fn take_a_while() {
+    for _ in 0..3_000_000 {
+        spin_loop();
+    }
+}
+
+// Holds a worker back at each key that ends with 0, so that the queue of jobs runs full and a connection sleeps.
 #[derive(Clone, Copy)]
 struct Slow;
 
 impl Gate for Slow {
-    fn before_call<R: Wait>(&self, _rt: &R, _group: GroupId, _key: &[u8]) {
-        for _ in 0..200 {
-            thread::yield_now();
+    fn before_call<R: Wait>(&self, _rt: &R, _group: GroupId, key: &[u8]) {
+        if key.last() == Some(&0) {
+            take_a_while();
         }
     }
 
@@ -65,7 +73,7 @@ fn count_wrong<S: Source, L: Ledger, R: Wait>(
     wrong
 }
 
-// Asks for each key and waits for each claim. A claim that does not show its key counts as a stranger.
+// Asks for each key once the workers sleep, and waits for each claim. A claim that does not show its key counts as a stranger.
 fn use_seat<S: Source, L: Ledger, R: Wait>(
     rt: &R,
     alloc: Global,
@@ -76,6 +84,7 @@ fn use_seat<S: Source, L: Ledger, R: Wait>(
     requires { IsConnSeatOf pool.now seat }
     ensures { IsConnSeatOf pool.now result }
 {
+    take_a_while();
     let wrong = match ask_each(rt, alloc, pool, &mut seat, keys) {
         Some(claims) => count_wrong(rt, pool, &claims),
         None => 1,
