@@ -1,5 +1,5 @@
 -- Laws of what the writer of a connection did.
-use Rattle.std.proofs.Common.{◌≡◌, ℕ, ◌+◌, ◌-◌, ◌^◌, ◌<◌, Bool, List, [], ◌∷◌, ◌++◌, length, refl, sym, ◌∙◌, ap, subst, arith, append_assoc, append-nil, Option, None, Some, IfSome}
+use Rattle.std.proofs.Common.{◌≡◌, ℕ, ◌+◌, Bool, List, [], ◌∷◌, ◌++◌, length, refl, sym, ◌∙◌, ap, subst, arith, append_assoc, append-nil, Option, None, Some, IfSome}
 use Rattle.peer_source.specs.Answers.{Answer}
 use Rattle.peer_view.specs.Moves.{Moves}
 use Rattle.peer_view.proofs.MovingLemmas.{Moves-along, Moves-none}
@@ -9,7 +9,7 @@ use Rattle.peer_lane.specs.declared.ticket.Body.{Body}
 use Rattle.peer_conn.specs.Replies.{join}
 use Rattle.peer_conn.specs.Tickets.{body_by}
 use Rattle.peer_conn.specs.Turns.{Puts}
-use Rattle.peer_conn.specs.Writes.{CanWrite, Still, AnsweredFirst, FailedFirst, Goes, Flushes}
+use Rattle.peer_conn.specs.Writes.{CanWrite, Goes, Flushes}
 use Rattle.peer_conn.specs.declared.answer.Put.{Put}
 use Rattle.peer_conn.specs.declared.answer.Put.TheVariants as put
 use Rattle.peer_conn.specs.declared.writer.Standing.{Standing}

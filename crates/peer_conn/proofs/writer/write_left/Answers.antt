@@ -1,6 +1,6 @@
 use Rattle.std.proofs.Common.{refl, sym, ◌∙◌, ap, arith, [], ◌∷◌, ◌++◌, append-nil, append_assoc, length}
 use Rattle.peer_conn.specs.Sending.{sending}
-use Rattle.peer_conn.specs.Tickets.{wish_by, wishes_by, wishes_taken}
+use Rattle.peer_conn.specs.Tickets.{wish_by, wishes_by}
 use Rattle.peer_conn.specs.Writes.{allows}
 use Rattle.peer_conn.proofs.ReaderLemmas.{wishes-append}
 use Rattle.peer_conn.proofs.WriterLemmas.{goes_nowhere, goes_then, goes_flush, goes_can, none_left, one_less}

@@ -1,4 +1,4 @@
-use Rattle.std.proofs.Common.{sym, ◌∙◌, ap, subst, [], ◌∷◌}
+use Rattle.std.proofs.Common.{sym, ◌∙◌, ap, subst}
 use Rattle.peer_conn.specs.Sending.{sending}
 use Rattle.peer_conn.specs.Tickets.{wish_by, wishes_by, wishes_taken}
 use Rattle.peer_conn.specs.Writes.{allows, Goes}
