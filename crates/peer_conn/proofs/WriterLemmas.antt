@@ -22,7 +22,7 @@ of_put put.Done = Fine
 of_put put.Memory = Memory
 of_put put.WriteFault = WriteFault
 
-pub sent_none : (f : ℕ) (a : Option (List ℕ)) (x : List ℕ) → Sent (side f f a a x x) []
+sent_none : (f : ℕ) (a : Option (List ℕ)) (x : List ℕ) → Sent (side f f a a x x) []
 sent_none f a x = (Moves-along a a x (x ++ []) x x (sym (append-nil x)) refl (Moves-none a x), refl)
 
 -- an answer that is one of those allowed, as one of those that some source may give
@@ -70,9 +70,6 @@ module _ (answers : ℕ → List ℕ → Answer → Type 0) where
   goes_can ws s WriteFault Fine h lt = absurd h
   goes_can ws s WriteFault Memory h lt = absurd h
   goes_can ws s WriteFault WriteFault h lt = tt
-
-  pub flushes_can : (s : Sending) (p q : Standing) → Flushes p s q → CanWrite p s.failures → CanWrite q s.failures'
-  flushes_can s p q h lt = goes_can [] s p q (flushes_go s p q h) lt
 
   -- a flush that fails before a reply
   pub flush_fails : (w : Wish) (s : Sending) (q : Standing) → Flushes Fine s q → (q ≡ Fine → ⊥) → Goes answers Fine (w ∷ []) s q
