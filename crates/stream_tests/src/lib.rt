@@ -8,6 +8,8 @@
 #![tactic(auto)]
 
 #[cfg(test)]
+mod ahead;
+#[cfg(test)]
 mod bare;
 #[cfg(test)]
 mod closing;
@@ -28,8 +30,16 @@ mod many;
 #[cfg(test)]
 mod model;
 #[cfg(test)]
+mod ordered;
+#[cfg(test)]
+mod pooled;
+#[cfg(test)]
 mod runs;
 #[cfg(test)]
+mod steps;
+#[cfg(test)]
 mod texts;
+#[cfg(test)]
+mod threads;
 #[cfg(test)]
 mod values;
