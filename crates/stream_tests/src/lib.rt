@@ -1,10 +1,11 @@
 //! Tests of whole streams: the bytes that a connection writes and how it ends, for texts in one piece, byte by byte
-//! and in two pieces.
+//! and in two pieces, in one thread and over pools of workers.
 //!
-//! It stands on the connections of `peer_conn`, the source for demonstrations of `peer_source`, and the readers and
-//! writers in memory of `peer_view`. It has tests alone and promises nothing: what they expect is written down from the
-//! forms of requests and replies (RFC 9112, groupcache's `http.go`), and never taken from the program. Texts made by
-//! chance are compared with a plain, slow model, which shares no code with the connections.
+//! It stands on the connections of `peer_conn`, the pools of `peer_fill`, the source for demonstrations of
+//! `peer_source`, and the readers and writers in memory of `peer_view`. It has tests alone and promises nothing: what
+//! they expect is written down from the forms of requests and replies (RFC 9112, groupcache's `http.go`), and never
+//! taken from the program. Texts made by chance are compared with a plain, slow model, which shares no code with the
+//! connections.
 #![tactic(auto)]
 
 #[cfg(test)]

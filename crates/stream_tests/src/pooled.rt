@@ -137,7 +137,8 @@ fn over_pool<
             fills,
             mut conns,
         },
-    ) = opened else {
+    ) = opened
+    else {
         return None;
     };
     let seat = pop_conn(&pool, &mut conns)?;

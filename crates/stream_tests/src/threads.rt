@@ -35,10 +35,7 @@ fn over_pieces<H: Threads + Wait + Sync>(
 // Whether the connection wrote these bytes, and whether it ended so.
 fn is(run: &Option<Pooled<MemReader, MemWriter>>, replies: &[u8], end: End) -> [bool; 2] {
     match run {
-        Some(run) => [
-            run.served.writer.taken() == replies,
-            run.served.end == end,
-        ],
+        Some(run) => [run.served.writer.taken() == replies, run.served.end == end],
         None => [false; 2],
     }
 }
@@ -92,7 +89,10 @@ fn threads_change_nothing(rt: HostRuntime) -> Result<(), Fail> {
     ];
     for (text, replies, end) in rows {
         let count = text.len();
-        assert!(rt; is_each_way(&rt, rt.alloc(), text, replies, end)?, "of {count} bytes");
+        assert!(rt;
+            is_each_way(&rt, rt.alloc(), text, replies, end)?,
+            "of {count} bytes"
+        );
     }
     Ok(())
 }

@@ -1,5 +1,5 @@
 use Rattle.peer_fill.specs.Pools.{IsFillSeatOf}
-use Rattle.stream_tests.proofs.Lasts.{of_last, of_front}
+use Rattle.peer_fill.proofs.Lasts.{of_last, of_front}
 use Rattle.stream_tests.proofs.pooled.pop_fill.Goals as goal
 
 pub returns-clause-seat : goal.returns-clause-seat
