@@ -1,35 +1,26 @@
--- Laws of replies that are gathered and go out.
-use Rattle.std.proofs.Common.{◌≡◌, ℕ, ◌+◌, List, [], ◌∷◌, ◌++◌, Bool, Option, None, Some, refl, sym, ◌∙◌, ap, subst, append_assoc, append-nil}
-use Rattle.std.specs.Prelude.{IfSome, option_map}
+-- Laws of replies that are buffered and go out.
+use Rattle.std.proofs.Common.{◌≡◌, ℕ, ◌+◌, List, [], ◌∷◌, ◌++◌, Option, refl, sym, ◌∙◌, ap, subst, append_assoc, append-nil}
 use Rattle.peer_source.specs.Answers.{Answer}
-use Rattle.peer_source.specs.declared.group.GroupId.{GroupId}
 use Rattle.peer_view.specs.Moves.{Moves}
 use Rattle.peer_view.proofs.MovingLemmas.{Moves-along, Moves-more, Moves-none, Moves-trans}
-use Rattle.peer_reply.specs.Texts.{fault_reply, answer_reply}
-use Rattle.peer_reply.specs.declared.fault.Fault.{Fault}
 use Rattle.peer_reply.specs.declared.wish.Wish.{Wish}
-use Rattle.peer_reply.specs.declared.wish.WishBody.TheVariants as body
-use Rattle.peer_conn.specs.Wishes.{get_wish}
 use Rattle.peer_conn.specs.Replies.{Replies, IsReply, join}
 use Rattle.peer_conn.specs.Sending.{Sending, Sent, Broke, Answered, Failed}
-use Rattle.peer_conn.specs.Turns.{PutsReply, Puts}
-use Rattle.peer_conn.specs.declared.answer.Put.{Put}
-use Rattle.peer_conn.specs.declared.answer.Put.TheVariants as put
 
--- a writer and what is gathered for it, before and after
-abbrev pub side : ℕ → ℕ → Option (List ℕ) → Option (List ℕ) → List ℕ → List ℕ → Sending
-side f f' a a' x x' = record { failures = f; failures' = f'; taken = a; taken' = a'; gathered = x; gathered' = x' }
+-- a writer and what is buffered for it, before and after
+abbrev pub sending_by : ℕ → ℕ → Option (List ℕ) → Option (List ℕ) → List ℕ → List ℕ → Sending
+sending_by f f' a a' x x' = record { failures = f; failures' = f'; taken = a; taken' = a'; buffered = x; buffered' = x' }
 
 pub join-append : (rs ss : List (List ℕ)) → join rs ++ join ss ≡ join (rs ++ ss)
 join-append [] ss = refl
 join-append (r ∷ rs) ss = append_assoc r (join rs) (join ss) ∙ ap (λ v. r ++ v) (join-append rs ss)
 
--- bytes behind gathered ones, and then more
+-- bytes behind buffered ones, and then more
 pub Moves-then : (a b c : Option (List ℕ)) (x p q w y z : List ℕ) → p ++ q ≡ w → Moves a b (x ++ p) y → Moves b c (y ++ q) z → Moves a c (x ++ w) z
 Moves-then a b c x p q w y z e h k =
     Moves-trans a b c (x ++ w) (y ++ q) z (Moves-along a b _ _ _ _ (append_assoc x p q ∙ ap (λ v. x ++ v) e) refl (Moves-more a b (x ++ p) y q h)) k
 
--- bytes behind gathered ones, and then no more of those that follow
+-- bytes behind buffered ones, and then no more of those that follow
 pub Moves-cut : (a b : Option (List ℕ)) (x p q w y : List ℕ) → p ++ q ≡ w → Moves a b (x ++ p) y → Moves a b (x ++ w) (y ++ q)
 Moves-cut a b x p q w y e h = Moves-along a b _ _ _ _ (append_assoc x p q ∙ ap (λ v. x ++ v) e) refl (Moves-more a b (x ++ p) y q h)
 
@@ -39,7 +30,7 @@ module _ (answers : ℕ → List ℕ → Answer → Type 0) where
   Replies-append (w ∷ ws) vs rs ss h k = (h.0, h.1 ++ ss, ap (λ x. x ++ ss) h.2, h.3, Replies-append ws vs h.1 ss h.4 k)
 
   -- one reply that went out
-  pub answered_one : (f f' : ℕ) (a a' : Option (List ℕ)) (x x' : List ℕ) (w : Wish) (r : List ℕ) → IsReply answers w r → Sent (side f f' a a' x x') r → Answered answers (side f f' a a' x x') (w ∷ [])
+  pub answered_one : (f f' : ℕ) (a a' : Option (List ℕ)) (x x' : List ℕ) (w : Wish) (r : List ℕ) → IsReply answers w r → Sent (sending_by f f' a a' x x') r → Answered answers (sending_by f f' a a' x x') (w ∷ [])
   answered_one f f' a a' x x' w r reply sent = record {
     replies = r ∷ [];
     each = (r, [], refl, reply, refl);
@@ -47,39 +38,19 @@ module _ (answers : ℕ → List ℕ → Answer → Type 0) where
   }
 
   -- one reply at which a write failed
-  pub failed_one : (f f' : ℕ) (a a' : Option (List ℕ)) (x x' : List ℕ) (w : Wish) (r : List ℕ) → IsReply answers w r → Broke (side f f' a a' x x') r → Failed answers (side f f' a a' x x') (w ∷ [])
+  pub failed_one : (f f' : ℕ) (a a' : Option (List ℕ)) (x x' : List ℕ) (w : Wish) (r : List ℕ) → IsReply answers w r → Broke (sending_by f f' a a' x x') r → Failed answers (sending_by f f' a a' x x') (w ∷ [])
   failed_one f f' a a' x x' w r reply broke = record {
     replies = r ∷ [];
     each = (r, [], refl, reply, refl);
     broke = ((broke.0.0, Moves-along a a' _ _ _ _ (ap (λ v. x ++ v) (sym (append-nil r))) refl broke.0.1), broke.1);
   }
 
-  -- the reply to a fault
-  pub puts_fault : (f f' : ℕ) (a a' : Option (List ℕ)) (x x' : List ℕ) (fault : Fault) (closing bare : Bool) (p : Put) → PutsReply (fault_reply closing bare fault) (side f f' a a' x x') p →
-      Puts answers (record { body = body.Fault fault; closing = closing; bare = bare }) (side f f' a a' x x') p
-  puts_fault f f' a a' x x' fault closing bare put.Done h = answered_one f f' a a' x x' _ _ refl h
-  puts_fault f f' a a' x x' fault closing bare put.Memory h = absurd h
-  puts_fault f f' a a' x x' fault closing bare put.WriteFault h = failed_one f f' a a' x x' _ _ refl h
-
-  -- the reply to an answer
-  pub puts_answer : (f f' : ℕ) (a a' : Option (List ℕ)) (x x' : List ℕ) (group : GroupId) (key : List ℕ) (closing bare : Bool) (answer : Option Answer) (r : List ℕ) (p : Put) → IfSome answer (answers group.number key) →
-      Some r ≡ option_map (answer_reply closing bare) answer → PutsReply r (side f f' a a' x x') p → Puts answers (get_wish group key closing bare) (side f f' a a' x x') p
-  puts_answer f f' a a' x x' group key closing bare None r p given e h = absurd (some_none e)
-    where
-      some_none : Some r ≡ None → ⊥
-      some_none q = cc
-  puts_answer f f' a a' x x' group key closing bare (Some answer) r put.Done given e h =
-      let is : r ≡ answer_reply closing bare answer = cc in answered_one f f' a a' x x' _ r (answer, given, is) h
-  puts_answer f f' a a' x x' group key closing bare (Some answer) r put.Memory given e h = absurd h
-  puts_answer f f' a a' x x' group key closing bare (Some answer) r put.WriteFault given e h =
-      let is : r ≡ answer_reply closing bare answer = cc in failed_one f f' a a' x x' _ r (answer, given, is) h
-
-  pub answered_none : (f : ℕ) (a : Option (List ℕ)) (x : List ℕ) → Answered answers (side f f a a x x) []
+  pub answered_none : (f : ℕ) (a : Option (List ℕ)) (x : List ℕ) → Answered answers (sending_by f f a a x x) []
   answered_none f a x = record { replies = []; each = refl; sent = (Moves-along a a x (x ++ []) x x (sym (append-nil x)) refl (Moves-none a x), refl) }
 
   module _ (f f1 f2 : ℕ) (a b c : Option (List ℕ)) (x y z : List ℕ) where
     -- replies, and then more
-    pub answered_then : (ws vs : List Wish) → Answered answers (side f f1 a b x y) ws → Answered answers (side f1 f2 b c y z) vs → Answered answers (side f f2 a c x z) (ws ++ vs)
+    pub answered_then : (ws vs : List Wish) → Answered answers (sending_by f f1 a b x y) ws → Answered answers (sending_by f1 f2 b c y z) vs → Answered answers (sending_by f f2 a c x z) (ws ++ vs)
     answered_then ws vs h k = record {
       replies = h.replies ++ k.replies;
       each = Replies-append ws vs h.replies k.replies h.each k.each;
@@ -87,7 +58,7 @@ module _ (answers : ℕ → List ℕ → Answer → Type 0) where
     }
 
     -- replies, and then some at which a write failed
-    pub failed_then : (ws vs : List Wish) → Answered answers (side f f1 a b x y) ws → Failed answers (side f1 f2 b c y z) vs → Failed answers (side f f2 a c x z) (ws ++ vs)
+    pub failed_then : (ws vs : List Wish) → Answered answers (sending_by f f1 a b x y) ws → Failed answers (sending_by f1 f2 b c y z) vs → Failed answers (sending_by f f2 a c x z) (ws ++ vs)
     failed_then ws vs h k = record {
       replies = h.replies ++ k.replies;
       each = Replies-append ws vs h.replies k.replies h.each k.each;
@@ -95,29 +66,17 @@ module _ (answers : ℕ → List ℕ → Answer → Type 0) where
     }
 
     -- replies, and then no more
-    pub answered_still : (ws : List Wish) → Answered answers (side f f1 a b x y) ws → Sent (side f1 f2 b c y z) [] → Answered answers (side f f2 a c x z) ws
+    pub answered_still : (ws : List Wish) → Answered answers (sending_by f f1 a b x y) ws → Sent (sending_by f1 f2 b c y z) [] → Answered answers (sending_by f f2 a c x z) ws
     answered_still ws h k = record {
       replies = h.replies;
       each = h.each;
       sent = (Moves-then a b c x (join h.replies) [] _ y z (append-nil (join h.replies)) h.sent.0 k.0, k.1 ∙ h.sent.1);
     }
 
-    -- replies, and then a flush ..
-    pub answered_flushed : (ws : List Wish) → Answered answers (side f f1 a b x y) ws → z ≡ [] → Moves b c y [] × (f2 ≡ f1) → Answered answers (side f f2 a c x z) ws
-    answered_flushed ws h e k = record {
-      replies = h.replies;
-      each = h.each;
-      sent = (Moves-along a c _ _ [] z refl (sym e) (Moves-trans a b c _ y [] h.sent.0 k.0), k.1 ∙ h.sent.1);
-    }
-
     -- .. that fails
-    pub answered_broken : (ws : List Wish) → Answered answers (side f f1 a b x y) ws → ((q : List ℕ) × Moves b c y q) × (f2 ≡ f1 + 1) → Failed answers (side f f2 a c x z) ws
+    pub answered_broken : (ws : List Wish) → Answered answers (sending_by f f1 a b x y) ws → ((q : List ℕ) × Moves b c y q) × (f2 ≡ f1 + 1) → Failed answers (sending_by f f2 a c x z) ws
     answered_broken ws h k = record {
       replies = h.replies;
       each = h.each;
       broke = ((k.0.0, Moves-trans a b c _ y k.0.0 h.sent.0 k.0.1), k.1 ∙ ap (λ v. v + 1) h.sent.1);
     }
-
-    -- what is gathered after a fault is of no account
-    pub failed_cleared : (ws : List Wish) → Failed answers (side f f1 a b x y) ws → Failed answers (side f f1 a b x z) ws
-    failed_cleared ws h = record { replies = h.replies; each = h.each; broke = h.broke }

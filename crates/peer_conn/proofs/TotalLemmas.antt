@@ -11,10 +11,10 @@ use Rattle.peer_reply.specs.Texts.{fault_reply, answer_reply}
 use Rattle.peer_reply.specs.declared.wish.Wish.{Wish}
 use Rattle.peer_reply.specs.declared.wish.WishBody.{WishBody}
 use Rattle.peer_reply.specs.declared.wish.WishBody.TheVariants as body
-use Rattle.peer_conn.specs.Wishes.{fault_wish, head_wish, IsLastWish, closes_after, OpenWishes, MOST}
+use Rattle.peer_conn.specs.Wishes.{fault_wish, head_wish, IsLastWish, closes_after, OpenWishes, MAX_REPLIES}
 use Rattle.peer_conn.specs.Replies.{IsReply, RepliesTo, Replies}
 use Rattle.peer_conn.specs.Laws.{IsWhole}
-use Rattle.peer_conn.specs.Turns.{IsNextWish, AsksOpen}
+use Rattle.peer_conn.specs.Nexts.{IsNextWish, AsksOpen}
 use Rattle.peer_conn.proofs.WishLemmas.{fault_next, head_next, next_closes, next_stays, next_block, Open-none, Open-more, Open-append, Closed-last, Closed-append}
 
 module _ (numbers : List ℕ → Option ℕ) where
@@ -28,7 +28,7 @@ module _ (numbers : List ℕ → Option ℕ) where
       inr (k.0, record { opens = Open-append numbers n (n + 1) t u k.0 (w ∷ []) ws (Open-more numbers n n t t u [] w (Open-none numbers n t (omega (arith, h.count))) (omega arith) h) refl k.1.opens; unfinished = k.1.unfinished })
 
   -- a wish that closes is a whole list
-  closing_whole : (n : ℕ) (t : List ℕ) (w : Wish) → n < MOST → IsLastWish numbers n t w → IsWhole numbers n t (w ∷ [])
+  closing_whole : (n : ℕ) (t : List ℕ) (w : Wish) → n < MAX_REPLIES → IsLastWish numbers n t w → IsWhole numbers n t (w ∷ [])
   closing_whole n t w lt h = inl (Closed-last numbers n n t t [] w (Open-none numbers n t lt) (omega arith) h)
 
 bool_cases : (b : Bool) → (b ≡ true) ⊎ (b ≡ false)
@@ -46,7 +46,7 @@ module _ (numbers : List ℕ → Option ℕ) where
       by_look (Fault f bare) h = inr (fault_wish f bare, fault_next numbers t f bare h)
 
   -- a text of fewer bytes than `fuel` has its list
-  whole_below : (fuel n : ℕ) (t : List ℕ) → n < MOST → length t < fuel → (ws : List Wish) × IsWhole numbers n t ws
+  whole_below : (fuel n : ℕ) (t : List ℕ) → n < MAX_REPLIES → length t < fuel → (ws : List Wish) × IsWhole numbers n t ws
   whole_below zero n t lt short = absurd (omega (arith, short))
   whole_below (suc fuel) n t lt short =
       elim (next_of t) as (λ _. (ws : List Wish) × IsWhole numbers n t ws) [
@@ -63,7 +63,7 @@ module _ (numbers : List ℕ → Option ℕ) where
       ]
 
   -- a text has its list of wishes
-  pub whole : (n : ℕ) (t : List ℕ) → n < MOST → (ws : List Wish) × IsWhole numbers n t ws
+  pub whole : (n : ℕ) (t : List ℕ) → n < MAX_REPLIES → (ws : List Wish) × IsWhole numbers n t ws
   whole n t lt = whole_below (suc (length t)) n t lt (omega arith)
 
 module _ (answer : ℕ → List ℕ → Answer) where

@@ -11,7 +11,7 @@ use Rattle.peer_reply.specs.Texts.{answer_reply}
 use Rattle.peer_reply.specs.declared.wish.Wish.{Wish}
 use Rattle.peer_reply.specs.declared.wish.WishBody.{WishBody}
 use Rattle.peer_reply.specs.declared.wish.WishBody.TheVariants as body
-use Rattle.peer_conn.specs.Wishes.{Asks, IsWish, no_head, refused, asked, fault_wish, head_wish, AsksInTurn, IsLastWish, too_long, closes, closes_after, OpenWishes, ClosedWishes, AreFirst, AreAll, MOST}
+use Rattle.peer_conn.specs.Wishes.{Asks, IsWish, no_head, refused, asked, fault_wish, head_wish, AsksInTurn, IsLastWish, too_long, closes, closes_after, OpenWishes, ClosedWishes, AreFirst, AreAll, MAX_REPLIES}
 use Rattle.peer_conn.specs.Replies.{IsReply, RepliesTo, Replies}
 use Rattle.peer_conn.specs.Laws.{IsWhole, BeginsWith, HasOneListOfWishes, BeginsWithFirst, KeepsWishes, EndsWithClosing, RepliesAgree}
 use Rattle.peer_conn.proofs.WishLemmas.{Open-extend}
@@ -46,7 +46,7 @@ module _ (numbers : List ℕ → Option ℕ) where
       let same = begins_once_law t x.block y.block u u' x.begins y.begins in
       (wish_unique y.block v w (subst (λ b. IsWish numbers b v) same.0 x.wish) y.wish, same.1)
 
-  -- of two lists of wishes in turn one goes on where the other ends
+  -- of two lists of wishes in turn one step on where the other ends
   pub compare : (ws vs : List Wish) (t u v : List ℕ) → AsksInTurn numbers t ws u → AsksInTurn numbers t vs v →
       ((xs : List Wish) × (vs ≡ ws ++ xs) × AsksInTurn numbers u xs v) ⊎ ((xs : List Wish) × (ws ≡ vs ++ xs) × AsksInTurn numbers v xs u)
   compare [] vs t u v h k = inl (vs, refl, subst (λ x. AsksInTurn numbers x vs v) h k)
@@ -68,13 +68,13 @@ module _ (numbers : List ℕ → Option ℕ) where
   last_unfinished n t w (closes v rest asks e) k = k.none asks.block rest asks.begins
 
   -- .. and no wish follows that stays open
-  pub last_open : (n : ℕ) (t u : List ℕ) (w x : Wish) (xs : List Wish) → IsLastWish numbers n t w → AsksInTurn numbers t (x ∷ xs) u → n + 1 < MOST → ⊥
+  pub last_open : (n : ℕ) (t u : List ℕ) (w x : Wish) (xs : List Wish) → IsLastWish numbers n t w → AsksInTurn numbers t (x ∷ xs) u → n + 1 < MAX_REPLIES → ⊥
   last_open n t u w x xs (too_long h) k lt = h.none k.1.block k.0 k.1.begins
   last_open n t u w x xs (closes v rest asks e) k lt =
       let same = asks_unique t rest k.0 v x asks k.1 in
       not_last n x.closing lt k.2 (ap (λ y. closes_after n y.closing) (sym same.0) ∙ e)
     where
-      not_last : (n : ℕ) (closing : Bool) → n + 1 < MOST → closing ≡ false → closes_after n closing ≡ true → ⊥
+      not_last : (n : ℕ) (closing : Bool) → n + 1 < MAX_REPLIES → closing ≡ false → closes_after n closing ≡ true → ⊥
       not_last n true lt open_wish e = absurd (true_false open_wish)
         where
           true_false : true ≡ false → ⊥
@@ -92,7 +92,7 @@ module _ (numbers : List ℕ → Option ℕ) where
   unfinished_open : (t u : List ℕ) (x : Wish) (xs : List Wish) → IsUnfinished t → AsksInTurn numbers t (x ∷ xs) u → ⊥
   unfinished_open t u x xs h k = h.none k.1.block k.0 k.1.begins
 
-  count_more : (n : ℕ) (ws front : List Wish) (x : Wish) (xs : List Wish) → n + length ws < MOST → ws ≡ front ++ x ∷ xs → (n + length front) + 1 < MOST
+  count_more : (n : ℕ) (ws front : List Wish) (x : Wish) (xs : List Wish) → n + length ws < MAX_REPLIES → ws ≡ front ++ x ∷ xs → (n + length front) + 1 < MAX_REPLIES
   count_more n ws front x xs lt e = omega (arith, lt, ap length e, length-append front (x ∷ xs))
 
   -- two closed lists are one

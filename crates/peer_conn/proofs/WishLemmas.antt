@@ -1,13 +1,13 @@
 -- Laws of the wishes of a text.
-use Rattle.std.proofs.Common.{◌≡◌, ℕ, ◌+◌, ◌<◌, Bool, true, false, List, [], ◌∷◌, ◌++◌, length, inl, inr, refl, sym, ◌∙◌, ap, subst, arith, append_assoc, length-append, Option}
+use Rattle.std.proofs.Common.{◌≡◌, ℕ, ◌+◌, ◌<◌, Bool, true, false, List, [], ◌∷◌, ◌++◌, length, ◌⊎◌, inl, inr, refl, sym, ◌∙◌, ap, subst, arith, append_assoc, length-append, Option}
 use Rattle.peer_head.specs.Blocks.{Begins, HasBlock}
 use Rattle.peer_head.specs.Heads.{HeadParts}
 use Rattle.peer_head.specs.Looks.{ShowsHead, IsFault, too_long as TooLong, no_head as NoHead, of_head}
 use Rattle.peer_head.specs.declared.fault.HeadFault.{HeadFault}
 use Rattle.peer_head.proofs.BlockLaws.{begins_once_law, keeps_block_law}
 use Rattle.peer_reply.specs.declared.wish.Wish.{Wish}
-use Rattle.peer_conn.specs.Wishes.{Asks, no_head, refused, asked, head_wish, fault_wish, AsksInTurn, IsLastWish, too_long as TooLongLast, closes, closes_after, OpenWishes, ClosedWishes, AreFirst, MOST}
-use Rattle.peer_conn.specs.Turns.{IsNextWish, too_long, first, AsksOpen}
+use Rattle.peer_conn.specs.Wishes.{Asks, no_head, refused, asked, head_wish, fault_wish, AsksInTurn, IsLastWish, too_long as TooLongLast, closes, closes_after, OpenWishes, ClosedWishes, AreFirst, MAX_REPLIES}
+use Rattle.peer_conn.specs.Nexts.{IsNextWish, too_long, first, AsksOpen}
 
 module _ (numbers : List ℕ → Option ℕ) where
   -- what a look at a fault tells of the next wish ..
@@ -35,7 +35,7 @@ module _ (numbers : List ℕ → Option ℕ) where
       (h.0 ++ x, record { block = h.1.block; begins = keeps_block_law t h.1.block h.0 x h.1.begins; wish = h.1.wish }, h.2, AsksInTurn-extend ws h.0 u x h.3)
 
   -- no wish yet
-  pub Open-none : (n : ℕ) (t : List ℕ) → n < MOST → OpenWishes numbers n t [] t
+  pub Open-none : (n : ℕ) (t : List ℕ) → n < MAX_REPLIES → OpenWishes numbers n t [] t
   Open-none n t h = record { asks = refl; count = omega arith }
 
   -- more bytes only add wishes
@@ -78,7 +78,7 @@ module _ (numbers : List ℕ → Option ℕ) where
   stays_open n true e = e
   stays_open n false e = refl
 
-  one_more : (n : ℕ) (closing : Bool) → n < MOST → closes_after n closing ≡ false → n + 1 < MOST
+  one_more : (n : ℕ) (closing : Bool) → n < MAX_REPLIES → closes_after n closing ≡ false → n + 1 < MAX_REPLIES
   one_more n closing h e = grind arith
 
   -- .. and where it does not
@@ -89,7 +89,7 @@ module _ (numbers : List ℕ → Option ℕ) where
       true_false p = cc
   next_block n t w (first v rest asks) e = (asks.block, (rest, asks.begins))
 
-  pub next_stays : (n : ℕ) (t : List ℕ) (w : Wish) (u : List ℕ) → IsNextWish numbers t w → closes_after n w.closing ≡ false → n < MOST → (block : List ℕ) × Begins t block u → AsksOpen numbers n t w u
+  pub next_stays : (n : ℕ) (t : List ℕ) (w : Wish) (u : List ℕ) → IsNextWish numbers t w → closes_after n w.closing ≡ false → n < MAX_REPLIES → (block : List ℕ) × Begins t block u → AsksOpen numbers n t w u
   next_stays n t w u (too_long h) e lt b = absurd (true_false e)
     where
       true_false : true ≡ false → ⊥
@@ -97,3 +97,36 @@ module _ (numbers : List ℕ → Option ℕ) where
   next_stays n t w u (first v rest asks) e lt b =
       let same = begins_once_law t asks.block b.0 rest u asks.begins b.1 in
       record { asks = subst (λ x. Asks numbers t v x) same.1 asks; stays_open = stays_open n v.closing e; count = one_more n v.closing lt e }
+
+-- where two lists end in one element, the first is within the other, or all of it
+cut_front : (ws vs front : List Wish) (x : Wish) → ws ++ vs ≡ front ++ x ∷ [] → ((zs : List Wish) × (front ≡ ws ++ zs)) ⊎ (ws ≡ front ++ x ∷ [])
+cut_front [] vs front x e = inl (front, refl)
+cut_front (w ∷ ws) vs [] x e = inr (cut_one ws vs w x e)
+  where
+    cut_one : (ws vs : List Wish) (w x : Wish) → w ∷ (ws ++ vs) ≡ x ∷ [] → w ∷ ws ≡ x ∷ []
+    cut_one [] vs w x e = let same : w ≡ x = cc in ap (λ y. y ∷ []) same
+    cut_one (v ∷ ws) vs w x e = cc
+cut_front (w ∷ ws) vs (f ∷ front) x e =
+    let heads : w ≡ f = cc in
+    let tails : ws ++ vs ≡ front ++ x ∷ [] = cc in
+    elim (cut_front ws vs front x tails) as (λ _. ((zs : List Wish) × (f ∷ front ≡ w ∷ (ws ++ zs))) ⊎ (w ∷ ws ≡ f ∷ (front ++ x ∷ []))) [
+      | inl h ↦ inl (h.0, cc)
+      | inr h ↦ inr cc
+    ]
+
+module _ (numbers : List ℕ → Option ℕ) where
+  first_open : (ws vs : List Wish) (n : ℕ) (t u : List ℕ) → OpenWishes numbers n t (ws ++ vs) u → (v : List ℕ) × OpenWishes numbers n t ws v
+  first_open ws vs n t u h =
+      let cut = AsksInTurn-split numbers ws vs t u h.asks in (cut.0, record { asks = cut.1; count = omega (arith, h.count, length-append ws vs) })
+
+  first_closed : (ws vs : List Wish) (n : ℕ) (t : List ℕ) → ClosedWishes numbers n t (ws ++ vs) → AreFirst numbers n t ws
+  first_closed ws vs n t h =
+      elim (cut_front ws vs h.front h.last h.all) as (λ _. AreFirst numbers n t ws) [
+        | inl k ↦ inl (first_open ws k.0 n t h.at (subst (λ x. OpenWishes numbers n t x h.at) k.1 h.opens))
+        | inr k ↦ inr (record { front = h.front; last = h.last; at = h.at; opens = h.opens; closes = h.closes; all = k })
+      ]
+
+  -- the first of the first wishes
+  pub first_of : (ws vs : List Wish) (n : ℕ) (t : List ℕ) → AreFirst numbers n t (ws ++ vs) → AreFirst numbers n t ws
+  first_of ws vs n t (inl h) = inl (first_open ws vs n t h.0 h.1)
+  first_of ws vs n t (inr h) = first_closed ws vs n t h

@@ -5,27 +5,31 @@ use Rattle.peer_source.specs.Answers.{Answer}
 use Rattle.peer_reply.specs.declared.wish.Wish.{Wish}
 use Rattle.peer_conn.specs.Wishes.{AreFirst}
 use Rattle.peer_conn.specs.Laws.{IsWhole}
-use Rattle.peer_conn.specs.Tickets.{keyed}
+use Rattle.peer_conn.specs.Tickets.{asks_in}
 use Rattle.peer_conn.specs.Ends.{Reading, Writing, EndsAs}
 use Rattle.peer_conn.specs.declared.end.End.{End}
 use Rattle.peer_conn.specs.declared.end.End.TheVariants as end
-use Rattle.peer_conn.specs.declared.reader.Cause.{Cause}
-use Rattle.peer_conn.specs.declared.reader.Cause.TheVariants as cause
-use Rattle.peer_conn.specs.declared.writer.Standing.{Standing}
-use Rattle.peer_conn.specs.declared.writer.Standing.TheVariants as standing
+use Rattle.peer_conn.specs.declared.end.ReaderStop.{ReaderStop}
+use Rattle.peer_conn.specs.declared.end.ReaderStop.TheVariants as stop
+use Rattle.peer_conn.specs.declared.end.WriterState.{WriterState}
+use Rattle.peer_conn.specs.declared.end.WriterState.TheVariants as state
+
+-- the answers that some source of a type may give
+abbrev pub allows : (ℕ → List ℕ → Answer → Type 0) → ℕ → List ℕ → Answer → Type 0
+allows allowed group key answer = ∥ allowed group key answer ∥₁
 
 -- the end, by how the writer stands and what stopped the reader
-abbrev pub end_for : Standing → Cause → End
-end_for standing.WriteFault c = end.WriteFault
-end_for standing.Memory c = end.Memory
-end_for standing.Fine cause.Closed = end.Clean
-end_for standing.Fine cause.Told = end.Clean
-end_for standing.Fine cause.Cut = end.Cut
-end_for standing.Fine cause.ReadFault = end.ReadFault
-end_for standing.Fine cause.Spent = end.Spent
-end_for standing.Fine cause.Memory = end.Memory
-end_for standing.Fine cause.Worn = end.Worn
-end_for standing.Fine cause.Stopped = end.Memory
+abbrev pub end_for : WriterState → ReaderStop → End
+end_for state.WriteFault c = end.WriteFault
+end_for state.Memory c = end.Memory
+end_for state.Active stop.Closed = end.Clean
+end_for state.Active stop.Ended = end.Clean
+end_for state.Active stop.Cut = end.Cut
+end_for state.Active stop.ReadFault = end.ReadFault
+end_for state.Active stop.Spent = end.Spent
+end_for state.Active stop.Memory = end.Memory
+end_for state.Active stop.Worn = end.Worn
+end_for state.Active stop.Stopped = end.Memory
 
 -- the wishes that were asked for: all of the text's where it was read through
 abbrev pub AreAsked : (List ℕ → Option ℕ) → End → List ℕ → List Wish → Type 0
@@ -44,4 +48,4 @@ pub record Connects (numbers : List ℕ → Option ℕ) (answers : ℕ → List 
   pub calls : r.calls' ≤ r.calls + reads
   pub ends : EndsAs numbers answers reads r w text output end
   pub asks : AreAsked numbers end text wishes
-  pub counted : asked' ≡ asked + keyed wishes
+  pub counted : asked' ≡ asked + asks_in wishes

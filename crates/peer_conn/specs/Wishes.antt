@@ -26,6 +26,10 @@ fault_of head.Host = fault.Host
 abbrev pub fault_wish : HeadFault → Bool → Wish
 fault_wish f bare = record { body = body.Fault (fault_of f); closing = true; bare = bare }
 
+-- the wish that is refused with this fault
+abbrev pub refusal : Fault → Bool → Bool → Wish
+refusal fault closing bare = record { body = body.Fault fault; closing = closing; bare = bare }
+
 -- the wish of a group and a key
 abbrev pub get_wish : GroupId → List ℕ → Bool → Bool → Wish
 get_wish group key closing bare = record { body = body.Get group key; closing = closing; bare = bare }
@@ -76,12 +80,12 @@ pub record Asks (numbers : List ℕ → Option ℕ) (t : List ℕ) (w : Wish) (r
   pub wish : IsWish numbers block w
 
 -- how many replies a connection gets at most
-abbrev pub MOST : ℕ
-MOST = 10000
+abbrev pub MAX_REPLIES : ℕ
+MAX_REPLIES = 10000
 
 -- whether the reply to a wish closes, after n replies
 abbrev pub closes_after : ℕ → Bool → Bool
-closes_after n closing = closing || (n + 1 == MOST)
+closes_after n closing = closing || (n + 1 == MAX_REPLIES)
 
 -- t is blocks of these wishes, none of which closes, and then u
 abbrev pub AsksInTurn : (List ℕ → Option ℕ) → List ℕ → List Wish → List ℕ → Type 0
@@ -96,7 +100,7 @@ pub data IsLastWish (numbers : List ℕ → Option ℕ) (n : ℕ) (t : List ℕ)
 -- the first wishes of a text, after n others: none of them closes, and u is left ..
 pub record OpenWishes (numbers : List ℕ → Option ℕ) (n : ℕ) (t : List ℕ) (ws : List Wish) (u : List ℕ) : Type 0 where
   pub asks : AsksInTurn numbers t ws u
-  pub count : n + length ws < MOST
+  pub count : n + length ws < MAX_REPLIES
 
 -- .. or the last of them closes
 pub record ClosedWishes (numbers : List ℕ → Option ℕ) (n : ℕ) (t : List ℕ) (ws : List Wish) : Type 0 where

@@ -1,20 +1,24 @@
 //! A connection whose reader and writer run in threads of their own.
+//!
+//! It stands on the sides of a connection, their threads, and the lane between them. It promises that what is written is
+//! the replies to what was read, as the end says, and what the seat counted.
 ghost use Rattle.std.specs.Prelude.{◌≡◌, ◌≢◌, ℕ, ◌+◌, ◌-◌, ◌^◌, ◌<◌, []};
 ghost use Rattle.peer_fill.specs.Pools.{source_of, IsConnSeatOf};
 ghost use Rattle.peer_fill.specs.Seats.{asks_of, conn_parts};
 ghost use Rattle.peer_lane.specs.Lanes.{tickets_put, tickets_taken, IsLane};
 ghost use Rattle.peer_conn.specs.Ends.{reading, writing};
-ghost use Rattle.peer_conn.specs.Writes.{allows};
-ghost use Rattle.peer_conn.specs.Connects.{Connects, end_for};
+ghost use Rattle.peer_conn.specs.Connects.{Connects, allows};
+ghost use Rattle.peer_conn.specs.Sides.{ServesSides};
+ghost use Rattle.peer_conn.specs.Strangers.{CountsStrangers};
 
-use crate::end::{End, Served};
-use crate::gather::Gather;
-use crate::reader::Cause;
-use crate::threads::{Taken, Written, both};
-use crate::writer::{Standing, write_left};
+use crate::end::{Served, end_of, refused};
+use crate::reader_side::ReaderSide;
+use crate::requests::Requests;
+use crate::responses::Responses;
+use crate::threads::{StoppedReader, run_sides};
+use crate::writer_side::WriterSide;
 use peer_fill::{ConnSeat, Pool};
-use peer_head::HeadBuf;
-use peer_lane::{Bell, LaneIn, LaneOut, lane};
+use peer_lane::{Signal, lane};
 use peer_source::Source;
 use peer_view::{PeerRead, PeerWrite};
 use std::alloc::Global;
@@ -22,23 +26,11 @@ use std::sync::Wait;
 use std::sync::ledger::Ledger;
 use std::thread::Threads;
 
-// The end, by how the writer stands and what stopped the reader.
-fn end_of(standing: Standing, cause: Cause) -> End
-    ensures { result ≡ end_for standing cause }
-{
-    match (standing, cause) {
-        (Standing::WriteFault, _) => End::WriteFault,
-        (Standing::Memory, _) | (Standing::Fine, Cause::Memory | Cause::Stopped) => End::Memory,
-        (Standing::Fine, Cause::Worn) => End::Worn,
-        (Standing::Fine, Cause::Closed | Cause::Told) => End::Clean,
-        (Standing::Fine, Cause::Cut) => End::Cut,
-        (Standing::Fine, Cause::ReadFault) => End::ReadFault,
-        (Standing::Fine, Cause::Spent) => End::Spent,
-    }
-}
-
 /// Serves one connection with at most `reads` reads. One thread reads and asks the pool ahead, and another writes, so
 /// that fills for one connection are had beside one another.
+///
+/// It needs a worker of the pool (`Pool::run_worker`) in another thread, until it returns: without one it waits for ever
+/// for the first fill.
 pub fn serve_connection<
     S: Source,
     L: Ledger + Send + Sync,
@@ -59,37 +51,42 @@ pub fn serve_connection<
     requires failures { W.failures writer < 2 ^ 64 - 1 }
     ensures seat { IsConnSeatOf pool.now result.1 }
     ensures parts { conn_parts result.1 ≡ conn_parts seat }
-    ensures connects { Connects (S.number_of (source_of pool.now)) (allows S.allowed) reads (reading R.given R.calls R.ends R.failures reader result.0.reader) (writing W.taken W.failures writer result.0.writer) (asks_of seat).asked (asks_of result.1).asked result.0.end }
+    ensures strangers { CountsStrangers (2 ^ 56) (asks_of seat).strangers (asks_of result.1).strangers }
+    ensures connects { let r = reading R.given R.calls R.ends R.failures reader result.0.reader in
+        let w = writing W.taken W.failures writer result.0.writer in
+        let asked = (asks_of seat).asked in
+        let asked' = (asks_of result.1).asked in
+        Connects (S.number_of (source_of pool.now)) (allows S.allowed) reads r w asked asked' result.0.end }
 {
-    let out = match Gather::new(alloc, writer) {
-        Ok(out) => out,
+    let responses = match Responses::new(alloc, writer) {
+        Ok(responses) => responses,
         Err(writer) => return (refused(reader, writer), seat),
     };
-    let held = match HeadBuf::new(alloc) {
-        Ok(held) => held,
-        Err(_) => return (refused(reader, out.writer), seat),
+    let requests = match Requests::new(alloc, reader, reads) {
+        Ok(requests) => requests,
+        Err(reader) => return (refused(reader, responses.out.writer), seat),
     };
     match lane(alloc) {
-        Ok((put, taken)) => run(rt, alloc, pool, seat, held, reader, put, out, taken, reads),
-        Err(_) => (refused(reader, out.writer), seat),
+        Ok((put, taken)) => {
+            let reader = ReaderSide {
+                seat,
+                lane: put,
+                requests,
+            };
+            let writer = WriterSide {
+                alloc,
+                lane: taken,
+                responses,
+                strangers: 0,
+            };
+            serve_sides(rt, pool, reader, writer)
+        }
+        Err(_) => (refused(requests.reader, responses.out.writer), seat),
     }
 }
 
-// What is served where memory is refused before the first read.
-fn refused<R, W>(reader: R, writer: W) -> Served<R, W>
-    ensures reader { result.reader ≡ reader }
-    ensures writer { result.writer ≡ writer }
-    ensures end { result.end ≡ End.Memory }
-{
-    Served {
-        reader,
-        writer,
-        end: End::Memory,
-    }
-}
-
-// Serves, where nothing is held, nothing gathered and no ticket put.
-fn run<
+// Serves, where nothing was read, put or written yet.
+fn serve_sides<
     S: Source,
     L: Ledger + Send + Sync,
     R: PeerRead + Send + Drop,
@@ -97,53 +94,35 @@ fn run<
     H: Threads + Wait + Sync,
 >(
     rt: &H,
-    alloc: Global,
     pool: &Pool<S, L>,
-    seat: ConnSeat<S, L>,
-    held: HeadBuf,
-    reader: R,
-    put: LaneIn<S>,
-    out: Gather<W>,
-    taken: LaneOut<S>,
-    reads: u64,
+    reader: ReaderSide<S, L, R>,
+    writer: WriterSide<S, W>,
 ) -> (Served<R, W>, ConnSeat<S, L>)
-    requires seat { IsConnSeatOf pool.now seat }
-    requires held { held.held ≡ [] }
-    requires calls { R.calls reader + reads < 2 ^ 64 }
-    requires failures { W.failures out.writer < 2 ^ 64 - 1 }
-    requires lane { IsLane put taken }
-    requires put { tickets_put put ≡ [] }
-    requires taken { tickets_taken taken ≡ [] }
-    requires empty { out.gathered.items ≡ [] }
+    requires seat { IsConnSeatOf pool.now reader.seat }
+    requires lane { IsLane reader.lane writer.lane }
+    requires put { tickets_put reader.lane ≡ [] }
+    requires taken { tickets_taken writer.lane ≡ [] }
+    requires strangers { writer.strangers ≡ 0 }
     ensures seat { IsConnSeatOf pool.now result.1 }
-    ensures parts { conn_parts result.1 ≡ conn_parts seat }
-    ensures connects { Connects (S.number_of (source_of pool.now)) (allows S.allowed) reads (reading R.given R.calls R.ends R.failures reader result.0.reader) (writing W.taken W.failures out.writer result.0.writer) (asks_of seat).asked (asks_of result.1).asked result.0.end }
+    ensures parts { conn_parts result.1 ≡ conn_parts reader.seat }
+    ensures strangers { CountsStrangers (2 ^ 56) (asks_of reader.seat).strangers (asks_of result.1).strangers }
+    ensures serves { ServesSides (S.number_of (source_of pool.now)) (allows S.allowed) reader writer result.0 (asks_of result.1).asked }
 {
-    let bell = Bell::new();
-    let bell = &bell;
-    let (read, written) = both(
-        rt, alloc, pool, bell, seat, held, reader, put, out, taken, reads,
-    );
-    let Taken {
-        reader,
-        mut put,
+    let signal = Signal::new();
+    let (read, mut writer) = run_sides(rt, pool, &signal, reader, writer);
+    let StoppedReader { side, stop } = read;
+    let ReaderSide {
         mut seat,
-        cause,
-    } = read;
-    let Written {
-        mut out,
-        mut taken,
-        mut desk,
-        standing,
-    } = written;
-    let standing = write_left(
-        rt, alloc, pool, &mut put, &mut taken, &mut desk, &mut out, standing,
-    );
-    seat.add_strangers(desk.strangers);
+        mut lane,
+        requests,
+    } = side;
+    writer.write_left(rt, pool, &mut lane);
+    seat.add_strangers(writer.strangers);
+    let WriterSide { responses, .. } = writer;
     let served = Served {
-        reader,
-        writer: out.writer,
-        end: end_of(standing, cause),
+        reader: requests.reader,
+        end: end_of(responses.state, stop),
+        writer: responses.out.writer,
     };
     (served, seat)
 }

@@ -6,19 +6,19 @@
 //! the replies to what was read, as the end of the call says.
 #![tactic(auto)]
 
-mod answer;
 mod connection;
 mod end;
 mod functional;
-mod gather;
-mod intake;
 pub mod laws;
-mod reader;
+mod reader_side;
+mod requests;
+mod responses;
 mod serial;
 mod threads;
 mod told;
 mod wish;
-mod writer;
+mod write_buffer;
+mod writer_side;
 
 pub use connection::serve_connection;
 pub use end::{End, Served};

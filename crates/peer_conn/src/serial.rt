@@ -1,21 +1,24 @@
 //! A connection in one thread.
-ghost use Rattle.std.specs.Prelude.{◌≡◌, ◌≢◌, ℕ, ◌+◌, ◌-◌, ◌^◌, ◌<◌, []};
+//!
+//! It stands on the requests and the responses of a connection, and on the sources of `peer_source`. It promises that
+//! what is written is the replies to what was read, as the end says.
+ghost use Rattle.std.specs.Prelude.{◌≡◌, ◌≢◌, ℕ, ◌+◌, ◌-◌, ◌^◌, ◌<◌, [], ◌∷◌};
 ghost use Rattle.peer_conn.specs.Ends.{Serves, reading, writing};
-ghost use Rattle.peer_conn.specs.Turns.{EndToldAs};
+ghost use Rattle.peer_conn.specs.Responses.{PutsReplies};
+ghost use Rattle.peer_conn.specs.Exchanges.{Exchanges};
 
-use crate::answer::{Rooms, Turn, answer_flushed};
-use crate::end::{End, Served};
-use crate::gather::Gather;
-use crate::intake::read_more;
-use peer_head::HeadBuf;
-use peer_source::Source;
+use crate::end::{End, ReaderStop, Served, end_of, refused};
+use crate::requests::{NextRequest, Requests};
+use crate::responses::Responses;
+use peer_reply::{Wish, WishBody};
+use peer_source::{Fill, Names, Source};
 use peer_view::{PeerRead, PeerWrite};
 use std::alloc::Global;
 
 /// Serves one connection with at most `reads` reads, in the caller's thread.
 ///
 /// Every head that is held is answered before the next read, and nothing is read behind a closing reply. Replies are
-/// gathered, and written before a read, where there are many, and at the end.
+/// buffered, and written before a read, where there are many, and at the end.
 pub fn serve_serial<S: Source, R: PeerRead, W: PeerWrite>(
     alloc: Global,
     source: &S,
@@ -25,74 +28,90 @@ pub fn serve_serial<S: Source, R: PeerRead, W: PeerWrite>(
 ) -> Served<R, W>
     requires calls { R.calls reader + reads < 2 ^ 64 }
     requires failures { W.failures writer < 2 ^ 64 - 1 }
-    ensures serves { Serves (S.number_of source.now) (S.answers source.now) reads (reading R.given R.calls R.ends R.failures reader result.reader) (writing W.taken W.failures writer result.writer) result.end }
+    ensures serves { let r = reading R.given R.calls R.ends R.failures reader result.reader in
+        let w = writing W.taken W.failures writer result.writer in
+        Serves (S.number_of source.now) (S.answers source.now) reads r w result.end }
     ensures never_worn { result.end ≢ End.Worn }
 {
-    let mut reader = reader;
-    let mut out = match Gather::new(alloc, writer) {
-        Ok(out) => out,
-        Err(writer) => {
-            return Served {
-                reader,
-                writer,
-                end: End::Memory,
-            };
-        }
+    let mut responses = match Responses::new(alloc, writer) {
+        Ok(responses) => responses,
+        Err(writer) => return refused(reader, writer),
     };
-    let end = match HeadBuf::new(alloc) {
-        Ok(held) => run(alloc, source, held, &mut reader, &mut out, reads),
-        Err(_) => End::Memory,
+    let mut requests = match Requests::new(alloc, reader, reads) {
+        Ok(requests) => requests,
+        Err(reader) => return refused(reader, responses.out.writer),
     };
+    let stop = answer_all(
+        alloc,
+        source,
+        &Names::of(source),
+        &mut requests,
+        &mut responses,
+    );
+    responses.flush();
     Served {
-        reader,
-        writer: out.writer,
-        end,
+        reader: requests.reader,
+        end: end_of(responses.state, stop),
+        writer: responses.out.writer,
     }
 }
 
-// Reads and answers, where nothing is held and nothing gathered.
-fn run<S: Source, R: PeerRead, W: PeerWrite>(
+// Answers every request, until one closes or no more come.
+fn answer_all<S: Source, R: PeerRead, W: PeerWrite>(
     alloc: Global,
     source: &S,
-    held: HeadBuf,
-    reader: &mut R,
-    out: &mut Gather<W>,
-    reads: u64,
-) -> End
-    requires calls { R.calls reader.old + reads < 2 ^ 64 }
-    requires failures { W.failures out.old.writer < 2 ^ 64 - 1 }
-    requires held { held.held ≡ [] }
-    requires empty { out.old.gathered.items ≡ [] }
-    ensures serves { Serves (S.number_of source.now) (S.answers source.now) reads (reading R.given R.calls R.ends R.failures reader.old reader.new) (writing W.taken W.failures out.old.writer out.new.writer) result }
-    ensures never_worn { result ≢ End.Worn }
+    names: &Names<'_, S>,
+    requests: &mut Requests<R>,
+    responses: &mut Responses<W>,
+) -> ReaderStop
+    ensures serves { Exchanges (S.number_of names.now) (S.answers source.now) requests.old requests.new responses.old responses.new result }
+    ensures never_worn { result ≢ ReaderStop.Worn }
 {
-    let mut held = held;
-    let mut rooms = Rooms::new();
-    let mut count = 0;
-    for made in 0..reads {
-        match read_more(&mut held, reader) {
-            Err(_) => return End::ReadFault,
-            Ok(0) => return end_told(&held),
-            Ok(_) => {}
-        }
-        match answer_flushed(alloc, source, &mut held, &mut rooms, out, &mut count) {
-            Turn::Need => {}
-            Turn::More => unreachable!(),
-            Turn::Closed => return End::Clean,
-            Turn::Memory => return End::Memory,
-            Turn::WriteFault => return End::WriteFault,
+    loop {
+        match requests.next_held(names) {
+            NextRequest::Request(wish) => {
+                answer(alloc, source, wish, responses);
+                if !responses.is_active() {
+                    return ReaderStop::Stopped;
+                }
+            }
+            NextRequest::Last(wish) => {
+                answer(alloc, source, wish, responses);
+                return ReaderStop::Closed;
+            }
+            NextRequest::Need => {
+                responses.flush();
+                if !responses.is_active() {
+                    return ReaderStop::Stopped;
+                }
+                if let Err(stop) = requests.read() {
+                    return stop;
+                }
+            }
+            NextRequest::NoMemory => return ReaderStop::Memory,
         }
     }
-    End::Spent
 }
 
-// The end of a connection whose reader told its end, by the bytes that are held.
-fn end_told(held: &HeadBuf) -> End
-    ensures { EndToldAs held.now.held result }
+// Puts the reply to a request, for which it calls the source where the request has no fault.
+fn answer<S: Source, W: PeerWrite>(
+    alloc: Global,
+    source: &S,
+    wish: Wish,
+    responses: &mut Responses<W>,
+)
+    ensures { PutsReplies (S.answers source.now) responses.old responses.new (wish ∷ []) }
 {
-    if held.holds_only_pairs() {
-        End::Clean
-    } else {
-        End::Cut
+    let Wish {
+        body,
+        closing,
+        bare,
+    } = wish;
+    match body {
+        WishBody::Fault(fault) => responses.put_fault(&fault, closing, bare),
+        WishBody::Get(group, key) => {
+            let fill = Fill::run(alloc, source, group, key);
+            responses.put_fill(&fill, closing, bare)
+        }
     }
 }

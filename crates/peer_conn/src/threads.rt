@@ -1,66 +1,46 @@
 //! The two threads of a connection.
-ghost use Rattle.std.specs.Prelude.{◌≡◌, ℕ, ◌+◌, ◌-◌, ◌^◌, ◌<◌, []};
+//!
+//! They stand on the two sides of it. Each promises what its side does, from its start to its end.
 ghost use Rattle.peer_fill.specs.Pools.{source_of, IsConnSeatOf};
-ghost use Rattle.peer_fill.specs.Seats.{asks_of, conn_parts};
-ghost use Rattle.peer_lane.specs.Lanes.{tickets_put, tickets_taken, IsSameIn, IsSameOut};
-ghost use Rattle.peer_conn.specs.Ends.{reading};
-ghost use Rattle.peer_conn.specs.Sending.{sending};
-ghost use Rattle.peer_conn.specs.Tickets.{wishes_put, wishes_taken};
-ghost use Rattle.peer_conn.specs.Taking.{Reads};
-ghost use Rattle.peer_conn.specs.Writes.{allows, Goes};
-ghost use Rattle.peer_conn.specs.declared.writer.Standing.TheVariants.{Fine};
+ghost use Rattle.peer_conn.specs.Connects.{allows};
+ghost use Rattle.peer_conn.specs.ReaderSides.{TakesRequests};
+ghost use Rattle.peer_conn.specs.WriterSides.{AnswersTickets};
 
-use crate::gather::Gather;
-use crate::reader::{Cause, take_in};
-use crate::writer::{Desk, Standing, write_out};
-use peer_fill::{ConnSeat, Pool};
-use peer_head::HeadBuf;
-use peer_lane::{Bell, LaneIn, LaneOut};
+use crate::end::ReaderStop;
+use crate::reader_side::ReaderSide;
+use crate::writer_side::WriterSide;
+use peer_fill::Pool;
+use peer_lane::Signal;
 use peer_source::Source;
 use peer_view::{PeerRead, PeerWrite};
-use std::alloc::Global;
 use std::snapshot::Snapshot;
 use std::sync::Wait;
 use std::sync::ledger::Ledger;
 use std::thread;
 use std::thread::{Promise, Threads};
 
-/// What the reader's part gives back.
+/// The reader's side, once it is done, and what stopped it.
 #[derive(Drop)]
-pub(crate) struct Taken<S: Source, L: Ledger, R: Drop> {
-    pub(crate) reader: R,
-    pub(crate) put: LaneIn<S>,
-    pub(crate) seat: ConnSeat<S, L>,
-    pub(crate) cause: Cause,
-}
-
-/// What the writer's part gives back.
-#[derive(Drop)]
-pub(crate) struct Written<S: Source, W: Drop> {
-    pub(crate) out: Gather<W>,
-    pub(crate) taken: LaneOut<S>,
-    pub(crate) desk: Desk,
-    pub(crate) standing: Standing,
+pub(crate) struct StoppedReader<S: Source, L: Ledger, R: PeerRead + Drop> {
+    pub(crate) side: ReaderSide<S, L, R>,
+    pub(crate) stop: ReaderStop,
 }
 
 // The promise of the reader's thread.
 #[derive(Drop)]
-struct ReadsOf<'a, S: Source, L: Ledger, R: Drop> {
+struct ReaderPromise<'a, S: Source, L: Ledger, R: PeerRead + Drop> {
     pool: &'a Pool<S, L>,
-    reads: u64,
-    seat: Snapshot<ConnSeat<S, L>>,
-    reader: Snapshot<R>,
-    put: Snapshot<LaneIn<S>>,
+    side: Snapshot<ReaderSide<S, L, R>>,
 }
 
-impl<'a, S: Source, L: Ledger, R: PeerRead + Drop> Promise<Taken<S, L, R>>
-    for ReadsOf<'a, S, L, R> {
-    ghost kept_by = { λ p r. IsConnSeatOf p.pool.now r.seat × (conn_parts r.seat ≡ conn_parts p.seat.value) × IsSameIn p.put.value r.put × Reads (S.number_of (source_of p.pool.now)) p.reads (reading R.given R.calls R.ends R.failures p.reader.value r.reader) (wishes_put r.put) (asks_of p.seat.value).asked (asks_of r.seat).asked r.cause };
+impl<'a, S: Source, L: Ledger, R: PeerRead + Drop> Promise<StoppedReader<S, L, R>>
+    for ReaderPromise<'a, S, L, R> {
+    ghost kept_by = { λ p r. TakesRequests (S.number_of (source_of p.pool.now)) p.pool.now p.side.value r.side r.stop };
 }
 
 /// Reads in a thread of its own and writes in this one. Where no thread can be had, the reader is stopped before its
 /// first read.
-pub(crate) fn both<
+pub(crate) fn run_sides<
     S: Source,
     L: Ledger + Send + Sync,
     R: PeerRead + Send + Drop,
@@ -68,145 +48,71 @@ pub(crate) fn both<
     H: Threads + Wait + Sync,
 >(
     rt: &H,
-    alloc: Global,
     pool: &Pool<S, L>,
-    bell: &Bell,
-    seat: ConnSeat<S, L>,
-    held: HeadBuf,
-    reader: R,
-    put: LaneIn<S>,
-    out: Gather<W>,
-    taken: LaneOut<S>,
-    reads: u64,
-) -> (Taken<S, L, R>, Written<S, W>)
-    requires seat { IsConnSeatOf pool.now seat }
-    requires held { held.held ≡ [] }
-    requires calls { R.calls reader + reads < 2 ^ 64 }
-    requires failures { W.failures out.writer < 2 ^ 64 - 1 }
-    requires put { tickets_put put ≡ [] }
-    requires taken { tickets_taken taken ≡ [] }
-    ensures seat { IsConnSeatOf pool.now result.0.seat }
-    ensures parts { conn_parts result.0.seat ≡ conn_parts seat }
-    ensures put { IsSameIn put result.0.put }
-    ensures reads { Reads (S.number_of (source_of pool.now)) reads (reading R.given R.calls R.ends R.failures reader result.0.reader) (wishes_put result.0.put) (asks_of seat).asked (asks_of result.0.seat).asked result.0.cause }
-    ensures taken { IsSameOut taken result.1.taken }
-    ensures goes { Goes (allows S.allowed) Fine (wishes_taken result.1.taken) (sending W.failures W.taken out result.1.out) result.1.standing }
+    signal: &Signal,
+    reader: ReaderSide<S, L, R>,
+    writer: WriterSide<S, W>,
+) -> (StoppedReader<S, L, R>, WriterSide<S, W>)
+    requires { IsConnSeatOf pool.now reader.seat }
+    ensures read { TakesRequests (S.number_of (source_of pool.now)) pool.now reader result.0.side result.0.stop }
+    ensures wrote { AnswersTickets (allows S.allowed) writer result.1 }
 {
     thread::scope(
         thread::scope_env(),
         rt,
-        move |scope| -> (Taken<S, L, R>, Written<S, W>)
-            requires seat { IsConnSeatOf pool.now seat }
-            requires held { held.held ≡ [] }
-            requires calls { R.calls reader + reads < 2 ^ 64 }
-            requires failures { W.failures out.writer < 2 ^ 64 - 1 }
-            requires put { tickets_put put ≡ [] }
-            requires taken { tickets_taken taken ≡ [] }
-            ensures seat { IsConnSeatOf pool.entry.now result.0.seat }
-            ensures parts { conn_parts result.0.seat ≡ conn_parts seat }
-            ensures put { IsSameIn put result.0.put }
-            ensures reads { Reads (S.number_of (source_of pool.entry.now)) reads (reading R.given R.calls R.ends R.failures reader result.0.reader) (wishes_put result.0.put) (asks_of seat).asked (asks_of result.0.seat).asked result.0.cause }
-            ensures taken { IsSameOut taken result.1.taken }
-            ensures goes { Goes (allows S.allowed) Fine (wishes_taken result.1.taken) (sending W.failures W.taken out result.1.out) result.1.standing }
+        move |scope| -> (StoppedReader<S, L, R>, WriterSide<S, W>)
+            requires { IsConnSeatOf pool.now reader.seat }
+            ensures read { TakesRequests (S.number_of (source_of pool.entry.now)) pool.entry.now reader result.0.side result.0.stop }
+            ensures wrote { AnswersTickets (allows S.allowed) writer result.1 }
         {
-            let promise = ReadsOf {
+            let promise = ReaderPromise {
                 pool,
-                reads,
-                seat: Snapshot::of(&seat),
-                reader: Snapshot::of(&reader),
-                put: Snapshot::of(&put),
+                side: Snapshot::of(&reader),
             };
-            let job = move || -> Taken<S, L, R>
-                requires seat { IsConnSeatOf pool.now seat }
-                requires held { held.held ≡ [] }
-                requires calls { R.calls reader + reads < 2 ^ 64 }
-                requires put { tickets_put put ≡ [] }
-                ensures seat { IsConnSeatOf pool.entry.now result.seat }
-                ensures parts { conn_parts result.seat ≡ conn_parts seat }
-                ensures put { IsSameIn put result.put }
-                ensures reads { Reads (S.number_of (source_of pool.entry.now)) reads (reading R.given R.calls R.ends R.failures reader result.reader) (wishes_put result.put) (asks_of seat).asked (asks_of result.seat).asked result.cause }
-            { take_all(rt, alloc, pool, bell, seat, held, reader, put, reads) };
+            let job = move || -> StoppedReader<S, L, R>
+                requires { IsConnSeatOf pool.now reader.seat }
+                ensures { TakesRequests (S.number_of (source_of pool.entry.now)) pool.entry.now reader result.side result.stop }
+            { run_reader(rt, pool, signal, reader) };
             match scope.spawn_with(promise, job) {
                 Ok(child) => {
-                    let written = write_all(rt, alloc, pool, bell, out, taken);
+                    let written = run_writer(rt, pool, signal, writer);
                     (child.join(rt), written)
                 }
                 Err(refused) => {
-                    bell.stop();
+                    signal.stop();
                     let read = (refused.value)();
-                    (read, write_all(rt, alloc, pool, bell, out, taken))
+                    (read, run_writer(rt, pool, signal, writer))
                 }
             }
         },
     )
 }
 
-// The reader's part.
-fn take_all<S: Source, L: Ledger, R: PeerRead + Drop, H: Wait>(
+// The reader's side, in its thread.
+fn run_reader<S: Source, L: Ledger, R: PeerRead + Drop, H: Wait>(
     rt: &H,
-    alloc: Global,
     pool: &Pool<S, L>,
-    bell: &Bell,
-    seat: ConnSeat<S, L>,
-    held: HeadBuf,
-    reader: R,
-    put: LaneIn<S>,
-    reads: u64,
-) -> Taken<S, L, R>
-    requires seat { IsConnSeatOf pool.now seat }
-    requires held { held.held ≡ [] }
-    requires calls { R.calls reader + reads < 2 ^ 64 }
-    requires put { tickets_put put ≡ [] }
-    ensures seat { IsConnSeatOf pool.now result.seat }
-    ensures parts { conn_parts result.seat ≡ conn_parts seat }
-    ensures put { IsSameIn put result.put }
-    ensures reads { Reads (S.number_of (source_of pool.now)) reads (reading R.given R.calls R.ends R.failures reader result.reader) (wishes_put result.put) (asks_of seat).asked (asks_of result.seat).asked result.cause }
+    signal: &Signal,
+    side: ReaderSide<S, L, R>,
+) -> StoppedReader<S, L, R>
+    requires { IsConnSeatOf pool.now side.seat }
+    ensures { TakesRequests (S.number_of (source_of pool.now)) pool.now side result.side result.stop }
 {
-    let mut reader = reader;
-    let mut put = put;
-    let mut seat = seat;
-    let cause = take_in(
-        rt,
-        alloc,
-        pool,
-        &mut seat,
-        held,
-        &mut reader,
-        &mut put,
-        bell,
-        reads,
-    );
-    bell.finish();
-    Taken {
-        reader,
-        put,
-        seat,
-        cause,
-    }
+    let mut side = side;
+    let stop = side.run(rt, pool, signal);
+    StoppedReader { side, stop }
 }
 
-// The writer's part.
-fn write_all<S: Source, L: Ledger, W: PeerWrite + Drop, H: Wait>(
+// The writer's side, in its thread.
+fn run_writer<S: Source, L: Ledger, W: PeerWrite + Drop, H: Wait>(
     rt: &H,
-    alloc: Global,
     pool: &Pool<S, L>,
-    bell: &Bell,
-    out: Gather<W>,
-    taken: LaneOut<S>,
-) -> Written<S, W>
-    requires failures { W.failures out.writer < 2 ^ 64 - 1 }
-    requires taken { tickets_taken taken ≡ [] }
-    ensures taken { IsSameOut taken result.taken }
-    ensures goes { Goes (allows S.allowed) Fine (wishes_taken result.taken) (sending W.failures W.taken out result.out) result.standing }
+    signal: &Signal,
+    side: WriterSide<S, W>,
+) -> WriterSide<S, W>
+    ensures { AnswersTickets (allows S.allowed) side result }
 {
-    let mut out = out;
-    let mut taken = taken;
-    let mut desk = Desk::new();
-    let standing = write_out(rt, alloc, pool, &mut taken, bell, &mut desk, &mut out);
-    Written {
-        out,
-        taken,
-        desk,
-        standing,
-    }
+    let mut side = side;
+    side.run(rt, pool, signal);
+    side
 }

@@ -1,9 +1,11 @@
 //! What a request asks for.
-ghost use Rattle.std.specs.Prelude.{◌≡◌, ℕ, List, IfOk};
+//!
+//! It stands on the heads of `peer_head`, the places of `peer_path` and the names of `peer_source`. It promises the wish
+//! of a head: its first fault, or the group and the key that it asks for.
+ghost use Rattle.std.specs.Prelude.{true, ◌≡◌, ℕ, ◌<◌, List, IfOk};
 ghost use Rattle.peer_head.specs.Looks.{LooksAs};
-ghost use Rattle.peer_conn.specs.Wishes.{head_wish, head_body, target_body, in_group, fault_of, is_served};
-ghost use Rattle.peer_conn.specs.Nexts.{IsNextOf};
-ghost use Rattle.peer_conn.specs.Turns.{IsNext};
+ghost use Rattle.peer_conn.specs.Wishes.{head_wish, head_body, target_body, in_group, fault_of, is_served, MAX_REPLIES, closes_after};
+ghost use Rattle.peer_conn.specs.Nexts.{IsNext, IsNextOf};
 
 use peer_head::{FieldPlaces, HeadBuf, HeadFault, HeadView, Look};
 use peer_path::{PathFault, locate};
@@ -135,5 +137,28 @@ pub(crate) fn next_wish<S: Source>(
     match seen_wish(alloc, names, look)? {
         Some(wish) => Ok(Some(Next { wish, len })),
         None => Ok(None),
+    }
+}
+
+/// How many replies a connection gets at most. The last of them closes.
+const MAX_REPLIES: u64 = 10_000;
+
+/// Whether the reply to a wish closes, after `count` replies.
+pub(crate) fn closes_after(count: u64, closing: bool) -> bool
+    requires { count < MAX_REPLIES }
+    ensures { result ≡ closes_after count closing }
+{
+    closing || count + 1 == MAX_REPLIES
+}
+
+/// The wish, whose reply closes.
+pub(crate) fn closing(wish: Wish) -> Wish
+    ensures { result ≡ record wish { closing = true } }
+{
+    let Wish { body, bare, .. } = wish;
+    Wish {
+        body,
+        closing: true,
+        bare,
     }
 }

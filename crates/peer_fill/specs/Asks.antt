@@ -1,6 +1,6 @@
 -- What an ask gives, and how it counts.
 use Rattle.std.specs.Prelude.{◌≡◌, ◌≤◌, ◌+◌, ℕ}
-use Rattle.peer_flight.specs.SingleFlight.{Place}
+use Rattle.peer_fill.specs.Caches.{IsFoundFor}
 use Rattle.peer_flight.specs.declared.claim.Claim.{Claim}
 use Rattle.peer_flight.specs.declared.claim.Claim.TheVariants.{Ready, Pending}
 use Rattle.peer_flight.specs.declared.table.Ask.{Ask}
@@ -17,11 +17,6 @@ abbrev pub hit_count : {S : Type 0} → Claim S → ℕ
 hit_count (Ready fill) = 1
 hit_count (Pending flight) = 0
 
--- the flight is of this place, and so is its right
-abbrev pub IsAskFor : {S : Type 0} → Ask S → Place → Type 0
-IsAskFor (Led flight right) place = (flight.place ≡ place) × (right ≡ flight)
-IsAskFor (Joined flight) place = flight.place ≡ place
-
 -- one ask more, which gave this claim: a hit where it is ready, and else a flight led or joined
 pub record CountsAsk {S : Type 0} (claim : Claim S) (old new : AskCounts) : Type 0 where
   pub asked : new.asked ≡ old.asked + 1
@@ -30,3 +25,8 @@ pub record CountsAsk {S : Type 0} (claim : Claim S) (old new : AskCounts) : Type
   pub led : old.led ≤ new.led
   pub joined : old.joined ≤ new.joined
   pub strangers : new.strangers ≡ old.strangers
+
+-- a claim that is ready shows a value that was found
+abbrev pub IsFoundIfReady : {S : Type 0} → Claim S → Type 0
+IsFoundIfReady (Ready fill) = IsFoundFor fill.group fill.key fill
+IsFoundIfReady (Pending flight) = Unit {0}

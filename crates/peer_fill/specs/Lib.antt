@@ -1,6 +1,9 @@
 pub mod Jobs
 pub mod Counts
 pub mod Seats
+pub mod Caches
+pub mod Works
+pub mod Keeping
 pub mod Asks
 pub mod Tallies
 pub mod Opens

@@ -3,18 +3,18 @@ ghost use Rattle.std.specs.Prelude.{◌≡◌, ◌+◌, ◌<◌, ◌^◌, Err, N
 ghost use Rattle.crossbeam_queue.specs.Passes.{view, IsPassOf};
 ghost use Rattle.peer_flight.specs.Claims.{claim_place, Looked};
 ghost use Rattle.peer_flight.specs.SingleFlight.{place_of};
-ghost use Rattle.peer_fill.specs.Asks.{CountsAsk};
+ghost use Rattle.peer_fill.specs.Asks.{CountsAsk, IsFoundIfReady};
 ghost use Rattle.peer_fill.specs.Jobs.{pushed_by};
 ghost use Rattle.peer_fill.specs.Seats.{asks_of, conn_parts};
 
-use crate::bells::Pause;
 use crate::jobs::{Hand, Job, Push};
 use crate::pool::Pool;
-use crate::seats::{ConnSeat, MOST};
+use crate::seats::{ConnSeat, MAX_COUNT};
 use crossbeam_queue::Pass;
 use peer_flight::{Ask, AskFault, Claim};
 use peer_source::{Fill, GroupId, Source};
 use peer_view::ByteView;
+use peer_wait::Waiter;
 use std::alloc::{AllocError, Global};
 use std::sync::Wait;
 use std::sync::ledger::Ledger;
@@ -29,22 +29,22 @@ impl<S: Source, L: Ledger> Pool<S, L> {
         ensures pass { IsPassOf self.now.jobs pass.new }
         ensures pushed { view pass.new ≡ pushed_by (view pass.old) job }
     {
-        let mut pause = Pause::new(&self.bells.room);
+        let mut waiter = Waiter::new(&self.signals.room);
         for _ in rt.forever() {
             match self.jobs.push_as::<Push, R>(rt, pass, job) {
                 Ok(()) => {
-                    self.bells.job.notify_one();
+                    self.signals.job.notify_one();
                     return;
                 }
                 Err(back) => job = back,
             }
-            pause.rest(rt);
+            waiter.pause(rt);
         }
         unreachable!()
     }
 
-    /// A claim on the fill of this group and key, by joining their open flight or leading one. It waits while the
-    /// queue of jobs is full.
+    /// A claim on the fill of this group and key: it is there where the group's cache keeps a value for the key, and
+    /// else their open flight is joined, or one is led. It waits while the queue of jobs is full.
     ///
     /// `Worn`: the seat has asked 2^56 times, or the table refuses. `Memory`: memory was refused.
     pub fn ask<R: Wait>(
@@ -55,16 +55,24 @@ impl<S: Source, L: Ledger> Pool<S, L> {
         group: GroupId,
         key: ByteView,
     ) -> Result<Claim<S>, AskFault>
-        requires { IsConnSeatOf self.now seat.old }
+        requires seat { IsConnSeatOf self.now seat.old }
+        requires group { group.number < S.count (source_of self.now) }
         ensures seat { IsConnSeatOf self.now seat.new }
         ensures parts { conn_parts seat.new ≡ conn_parts seat.old }
         ensures place { IfOk result (λ claim. claim_place claim ≡ place_of group.number key) }
+        ensures found { IfOk result IsFoundIfReady }
         ensures counted { IfOk result (λ claim. CountsAsk claim (asks_of seat.old) (asks_of seat.new)) }
         ensures refused { OnErr result (asks_of seat.new ≡ asks_of seat.old) }
         ensures worn { (asks_of seat.old).asked ≡ 2 ^ 56 → result ≡ Err AskFault.Worn }
     {
-        if seat.asks.asked >= MOST {
+        if seat.asks.asked >= MAX_COUNT {
             return Err(AskFault::Worn);
+        }
+        let found = self.caches.lock(rt).get(group, &key)?;
+        if let Some(fill) = found {
+            seat.asks.asked += 1;
+            seat.asks.hits += 1;
+            return Ok(Claim::Ready(fill));
         }
         let ask = self
             .table
@@ -91,12 +99,12 @@ impl<S: Source, L: Ledger> Pool<S, L> {
         ensures { Looked claim.now None (Some result.now) (Some result.now) }
     {
         let mut note = claim.note();
-        let mut pause = Pause::new(&self.bells.fill);
+        let mut waiter = Waiter::new(&self.signals.fill);
         for _ in rt.forever() {
             if let Some(fill) = claim.look(&mut note) {
                 return fill;
             }
-            pause.rest(rt);
+            waiter.pause(rt);
         }
         unreachable!()
     }

@@ -1,6 +1,6 @@
 //! The queue of jobs, and the rule by which no job is lost or made up.
 ghost use Rattle.std.specs.Prelude.{◌≡◌, ℕ, ◌+◌, ◌-◌, [], ◌++◌, ⊤, IfOk};
-ghost use Rattle.crossbeam_queue.specs.Passes.{view, IsPassOf};
+ghost use Rattle.crossbeam_queue.specs.Passes.{view, IsPassOf, ruled_capacity};
 ghost use Rattle.peer_fill.specs.Jobs.{hand, pushed_by, popped_by, weigh, ALL, Balanced};
 
 use crossbeam_queue::protocol::{Join, Lesson, Outcome, Protocol, Split};
@@ -13,7 +13,7 @@ use std::collections::LinkedList;
 use std::marker::Model;
 
 // How many jobs the queue has room for.
-const CAPACITY: usize = 256;
+const MAX_JOBS: usize = 256;
 
 /// What a pass of the queue has pushed and popped, by the numbers of the flights, and its parts of the right to know
 /// the whole. No value of it is made.
@@ -110,6 +110,7 @@ pub type Jobs<S> = RuledArrayQueue<Job<S>, Hand, Fair>;
 pub fn empty_queue<S: Source>(alloc: Global) -> Result<(Jobs<S>, Pass<Job<S>, Hand>), AllocError>
     ensures pass { IfOk result (λ queue. IsPassOf queue.0 queue.1) }
     ensures hand { IfOk result (λ queue. view queue.1 ≡ hand ALL [] []) }
+    ensures capacity { IfOk result (λ queue. ruled_capacity queue.0 ≡ 256) }
 {
-    Jobs::<S>::ruled(alloc, CAPACITY)
+    Jobs::<S>::ruled(alloc, MAX_JOBS)
 }

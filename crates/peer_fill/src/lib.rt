@@ -1,23 +1,26 @@
 //! The pool of fills: connections ask, and workers call the source (`Group.load` of `groupcache.go`, `singleflight.go`).
 //!
-//! It stands on the flights of `peer_flight`, the sources and fills of `peer_source`, the ruled queue of
-//! `crossbeam_queue` and the event counts of `crossbeam_utils`. It promises that a claim is of the group and the key
-//! that were asked for, that each ask is counted once by what it gave, and that a pool is closed exactly where all its
-//! seats are handed in, with a report that adds up: what was led is what was called for or is left.
+//! It stands on the flights of `peer_flight`, the sources, fills and caches of `peer_source`, the waits of `peer_wait`
+//! and the ruled queue of `crossbeam_queue`. It promises that a claim is of the group and the key that were asked for,
+//! that one which is ready has a value that was found for them before, that each ask is counted once by what it gave,
+//! and that a pool is closed exactly where all its seats are handed in, with a report that adds up: what was led is what
+//! was called for, was kept by then, or is left. Threads that are handed seats give them back with their parts.
 #![tactic(auto)]
 
 mod ask;
-mod bells;
+mod caches;
 mod close;
 mod counts;
 mod deal;
 mod gate;
+mod handing;
 mod jobs;
+mod keeping;
 mod open;
 mod parts;
 mod pool;
-mod promise;
 mod seats;
+mod signals;
 mod table;
 mod tally;
 mod work;
@@ -25,10 +28,11 @@ mod work;
 pub use close::{CloseFault, Report};
 pub use counts::{AskCounts, FillCounts};
 pub use gate::{Gate, NoGate};
+pub use handing::{pop_conn, pop_fill};
 pub use jobs::{Hand, Job};
+pub use keeping::{KeepsConn, KeepsFill, join_conns, join_fills};
 pub use open::{OpenFault, Opened};
 pub use pool::Pool;
-pub use promise::OfPool;
 pub use seats::{ConnSeat, FillSeat};
 
 #[cfg(test)]

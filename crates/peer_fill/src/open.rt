@@ -32,9 +32,9 @@ impl From<AllocError> for OpenFault {
     }
 }
 
-const MOST_SEATS: usize = 16;
+const MAX_SEATS: usize = 16;
 
-const MOST_GROUPS: usize = 64;
+const MAX_GROUPS: usize = 64;
 
 /// Whether a pool can be opened with so many workers, connections and groups.
 pub(crate) fn check_numbers(workers: usize, conns: usize, groups: usize) -> Result<(), OpenFault>
@@ -44,13 +44,13 @@ pub(crate) fn check_numbers(workers: usize, conns: usize, groups: usize) -> Resu
     ensures memory { ¬ IsErrOf result OpenFault.Memory }
     ensures within { OnOk result (IsWithin 16 workers × IsWithin 16 conns × IsWithin 64 groups) }
 {
-    if workers == 0 || workers > MOST_SEATS {
+    if workers == 0 || workers > MAX_SEATS {
         return Err(OpenFault::Workers);
     }
-    if conns == 0 || conns > MOST_SEATS {
+    if conns == 0 || conns > MAX_SEATS {
         return Err(OpenFault::Conns);
     }
-    if groups == 0 || groups > MOST_GROUPS {
+    if groups == 0 || groups > MAX_GROUPS {
         return Err(OpenFault::Groups);
     }
     Ok(())

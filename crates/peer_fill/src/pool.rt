@@ -4,17 +4,19 @@ ghost use Rattle.peer_fill.specs.Counts.{no_asks, no_fills};
 ghost use Rattle.peer_fill.specs.Opens.{IsOutside, IsWithin};
 ghost use Rattle.peer_fill.specs.Seats.{asks_of, fills_of, HaveAllConns, HaveAllFills};
 
-use crate::bells::Bells;
+use crate::caches::Caches;
 use crate::close::{CloseFault, Report, gather_conns, gather_fills, settle};
 use crate::deal::{deal_conns, deal_fills};
 use crate::jobs::{Half, Jobs, empty_queue};
 use crate::open::{OpenFault, Opened, check_numbers};
 use crate::parts::{has_all_conns, has_all_fills};
 use crate::seats::{ConnSeat, FillSeat};
+use crate::signals::Signals;
 use crate::table::{Counted, Sixteen};
 use crossbeam_utils::CachePadded;
 use peer_source::{Names, Source};
 use std::alloc::Global;
+use std::hash::RandomState;
 use std::sync::atomic::AtomicBool;
 use std::sync::atomic::Ordering::SeqCst;
 use std::sync::ledger::{Blank, Ledger};
@@ -26,7 +28,8 @@ pub struct Pool<S: Source, L: Ledger> {
     pub(crate) source: S,
     pub(crate) jobs: Jobs<S>,
     pub(crate) table: Mutex<Counted<S, L>>,
-    pub(crate) bells: Bells,
+    pub(crate) caches: Mutex<Caches<S>>,
+    pub(crate) signals: Signals,
     pub(crate) stopping: CachePadded<AtomicBool>,
     sixteen: Sixteen<L>,
 }
@@ -36,10 +39,13 @@ impl<S: Source, L: Ledger> Pool<S, L> {
     ghost use Rattle.peer_fill.specs.Pools.{source_of, IsConnSeatOf, IsFillSeatOf};
 
     /// A pool with a seat for each worker and for each connection. The blank names the ledger of the flights that
-    /// are led, in sixteen parts.
+    /// are led, in sixteen parts. The cache of each group of the source keeps at most so many bytes; the seed
+    /// is for the maps of its keys.
     pub fn open(
         alloc: Global,
         source: S,
+        cache_bytes: u64,
+        seed: RandomState,
         workers: usize,
         conns: usize,
         blank: Blank,
@@ -61,7 +67,9 @@ impl<S: Source, L: Ledger> Pool<S, L> {
         ensures no_fills { IfOk result (λ opened. All (λ s. fills_of s ≡ no_fills) opened.fills.items) }
         ensures no_asks { IfOk result (λ opened. All (λ s. asks_of s ≡ no_asks) opened.conns.items) }
     {
-        check_numbers(workers, conns, source.group_count())?;
+        let groups = source.group_count();
+        check_numbers(workers, conns, groups)?;
+        let caches = Caches::new(alloc, groups, cache_bytes, seed)?;
         let (jobs, mut pass) = empty_queue(alloc)?;
         let rest = jobs.another::<Half>(&mut pass);
         let (book, share) = blank.open::<L>();
@@ -71,7 +79,8 @@ impl<S: Source, L: Ledger> Pool<S, L> {
             source,
             jobs,
             table: Mutex::new(Counted::new(alloc, book)),
-            bells: Bells::new(),
+            caches: Mutex::new(caches),
+            signals: Signals::new(),
             stopping: CachePadded::new(AtomicBool::new(false)),
             sixteen: Sixteen::new(),
         };
@@ -88,7 +97,7 @@ impl<S: Source, L: Ledger> Pool<S, L> {
     /// Tells the workers to return once they find no job.
     pub fn stop(&self) {
         self.stopping.store(true, SeqCst);
-        self.bells.job.notify_all();
+        self.signals.job.notify_all();
     }
 
     /// Ends the pool, where all its seats are handed in: those of `open` have all parts, and no seat loses one.
@@ -125,7 +134,8 @@ impl<S: Source, L: Ledger> Pool<S, L> {
             source: _,
             jobs,
             table,
-            bells: _,
+            caches: _,
+            signals: _,
             stopping: _,
             sixteen,
         } = self;

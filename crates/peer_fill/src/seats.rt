@@ -12,7 +12,7 @@ use std::marker::PhantomData;
 use std::sync::ledger::{Ledger, Share};
 
 /// No seat counts further.
-pub(crate) const MOST: u64 = 1 << 56;
+pub(crate) const MAX_COUNT: u64 = 1 << 56;
 
 /// A connection's seat.
 #[derive(Drop)]
@@ -107,10 +107,10 @@ impl<S: Source, L: Ledger> ConnSeat<S, L> {
         ensures seat { IsSameConn self.old self.new }
     {
         let strangers = &mut self.asks.strangers;
-        if n <= MOST - *strangers {
+        if n <= MAX_COUNT - *strangers {
             *strangers += n;
         } else {
-            *strangers = MOST;
+            *strangers = MAX_COUNT;
         }
     }
 }

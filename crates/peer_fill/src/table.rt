@@ -2,7 +2,7 @@
 ghost use Rattle.std.specs.Prelude.{◌≡◌, ◌+◌, ◌<◌, IfOk, OnErr};
 ghost use Rattle.peer_flight.specs.Tables.{state_of};
 
-use peer_flight::{Ask, AskFault, Flight, Table};
+use peer_flight::{Ask, AskFault, Put, Table};
 use peer_source::{GroupId, Source};
 use peer_view::ByteView;
 use std::alloc::Global;
@@ -25,8 +25,9 @@ pub struct Sixteen<L: Ledger> {
 }
 
 impl<S: Source, L: Ledger> Counted<S, L> {
-    ghost use Rattle.peer_flight.specs.SingleFlight.{place_of};
-    ghost use Rattle.peer_fill.specs.Asks.{led_count, IsAskFor};
+    ghost use Rattle.peer_flight.specs.SingleFlight.{Lands, place_of};
+    ghost use Rattle.peer_flight.specs.Tables.{Gives, Stands};
+    ghost use Rattle.peer_fill.specs.Asks.{led_count};
 
     pub fn new(alloc: Global, led: Book<L>) -> Counted<S, L>
         requires { led.total ≡ 0 }
@@ -46,7 +47,8 @@ impl<S: Source, L: Ledger> Counted<S, L> {
         share: &mut Share<L>,
     ) -> Result<Ask<S>, AskFault>
         requires { 0 < share.old.parts }
-        ensures place { IfOk result (λ ask. IsAskFor ask (place_of group.number key.now)) }
+        ensures gives { IfOk result (λ ask. Gives ask (state_of self.old.table) (state_of self.new.table) (place_of group.number key.now)) }
+        ensures stands { IfOk result (λ ask. Stands ask self.old.table self.new.table (place_of group.number key.now)) }
         ensures counted { IfOk result (λ ask. share.new.amount ≡ share.old.amount + led_count ask) }
         ensures refused { OnErr result (share.new.amount ≡ share.old.amount) }
         ensures parts { share.new.parts ≡ share.old.parts }
@@ -62,9 +64,11 @@ impl<S: Source, L: Ledger> Counted<S, L> {
         }
     }
 
-    /// Takes the flight out of the table.
-    pub fn land(&mut self, flight: &Flight<S>) {
-        self.table.land(flight);
+    /// Takes the flight out of the table. Its right is spent: who has a `Put` has spent it.
+    pub fn land(&mut self, put: &Put<S>)
+        ensures { Lands (state_of self.old.table) (state_of self.new.table) put.now.flight.place put.now.flight.number }
+    {
+        self.table.land(&put.flight);
     }
 
     /// How many flights were led, which is what all seats counted.

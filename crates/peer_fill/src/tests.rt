@@ -1,20 +1,26 @@
 //! Tests of what no clause says: that calls succeed, that claims show what the source found, and what a pool counts.
 //!
 //! Each test asserts once: what it saw is collected in small functions, whose proofs are short.
-ghost use Rattle.std.specs.Prelude.{◌≡◌, ◌<◌, All, IfSome, OnSome, vec_len};
-ghost use Rattle.peer_fill.specs.Pools.{IsConnSeatOf, IsFillSeatOf};
+ghost use Rattle.std.specs.Prelude.{◌≡◌, ◌<◌};
+ghost use Rattle.peer_fill.specs.Pools.{source_of, IsConnSeatOf, IsFillSeatOf};
 
+mod kept;
+mod linked;
+mod numbering;
 mod opening;
 mod refills;
 mod rounds;
 mod sources;
 mod threads;
 
-use crate::{ConnSeat, FillSeat, Gate, Opened, Pool};
+use crate::{ConnSeat, FillSeat, Gate, Opened, Pool, pop_conn, pop_fill};
 use peer_flight::Claim;
 use peer_source::{Fill, GroupId, Outcome, Source};
 use peer_view::ByteView;
 use std::alloc::Global;
+use std::hash::RandomState;
+use std::io;
+use std::random::RandomSource;
 use std::sync::Wait;
 use std::sync::ledger::{Blank, Ledger};
 
@@ -32,15 +38,17 @@ struct Small<S: Source, L: Ledger> {
     ghost fill_of_pool: { IsFillSeatOf pool fill },
     ghost one_of_pool: { IsConnSeatOf pool one },
     ghost two_of_pool: { IsConnSeatOf pool two },
+    ghost groups: { 1 < S.count (source_of pool) },
 }
 
 impl<S: Source, L: Ledger> Small<S, L> {
     // One that was just opened.
-    fn open(alloc: Global, source: S, blank: Blank) -> Option<Small<S, L>>
+    fn open(alloc: Global, source: S, cache_bytes: u64, blank: Blank) -> Option<Small<S, L>>
         requires name { blank.name ≡ L.name }
         requires parts { (blank.parts ≡ L.parts) × (blank.parts ≡ 16) }
+        requires groups { 1 < S.count source }
     {
-        let Ok(opened) = Pool::open(alloc, source, 1, 2, blank) else {
+        let Ok(opened) = Pool::open(alloc, source, cache_bytes, seed()?, 1, 2, blank) else {
             return None;
         };
         let Opened {
@@ -91,32 +99,19 @@ impl<S: Source, L: Ledger> Small<S, L> {
     }
 }
 
-// Takes a worker's seat.
-fn pop_fill<S: Source, L: Ledger>(
-    pool: &Pool<S, L>,
-    seats: &mut Vec<FillSeat<S, L>>,
-) -> Option<FillSeat<S, L>>
-    requires { All (IsFillSeatOf pool.now) seats.old.items }
-    ensures seat { IfSome result (IsFillSeatOf pool.now) }
-    ensures rest { All (IsFillSeatOf pool.now) seats.new.items }
-    ensures fewer { OnSome result (vec_len seats.new < vec_len seats.old) }
-{
-    let seat = seats.pop()?;
-    Some(seat)
+// Gives zeros, so that each run has the same seed.
+struct Zeros;
+
+impl RandomSource for Zeros {
+    fn fill_bytes(&self, buf: &mut [u8]) -> io::Result<()> {
+        buf.fill(0);
+        Ok(())
+    }
 }
 
-// Takes a connection's seat.
-fn pop_conn<S: Source, L: Ledger>(
-    pool: &Pool<S, L>,
-    seats: &mut Vec<ConnSeat<S, L>>,
-) -> Option<ConnSeat<S, L>>
-    requires { All (IsConnSeatOf pool.now) seats.old.items }
-    ensures seat { IfSome result (IsConnSeatOf pool.now) }
-    ensures rest { All (IsConnSeatOf pool.now) seats.new.items }
-    ensures fewer { OnSome result (vec_len seats.new < vec_len seats.old) }
-{
-    let seat = seats.pop()?;
-    Some(seat)
+// The seed of a test.
+fn seed() -> Option<RandomState> {
+    RandomState::new(&Zeros).ok()
 }
 
 // A claim on the square of this key.
@@ -127,7 +122,8 @@ fn ask<S: Source, L: Ledger, R: Wait>(
     seat: &mut ConnSeat<S, L>,
     key: &[u8],
 ) -> Option<Claim<S>>
-    requires { IsConnSeatOf pool.now seat.old }
+    requires seat { IsConnSeatOf pool.now seat.old }
+    requires groups { 1 < S.count (source_of pool.now) }
     ensures { IsConnSeatOf pool.now seat.new }
 {
     let key = ByteView::copy_of(alloc, key).ok()?;

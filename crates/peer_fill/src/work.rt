@@ -1,23 +1,78 @@
-//! What workers do with a pool: they take jobs, call the source, and put fills.
-ghost use Rattle.std.specs.Prelude.{◌≡◌, ◌<◌, ◌≤◌, MatchOption};
+//! What workers do with a pool: they take jobs, look into the cache, call the source, and put fills.
+ghost use Rattle.std.specs.Prelude.{◌≡◌, ◌+◌, ◌<◌, ◌≤◌, ◌^◌, Some, IfSome, IsTrue, MatchOption};
 ghost use Rattle.crossbeam_queue.specs.Passes.{view, IsPassOf};
+ghost use Rattle.peer_flight.specs.SingleFlight.{place_of};
 ghost use Rattle.peer_fill.specs.Jobs.{popped_by};
 ghost use Rattle.peer_fill.specs.Seats.{fills_of, fill_parts};
 
-use crate::bells::Pause;
+use crate::counts::FillCounts;
 use crate::gate::Gate;
 use crate::jobs::{Hand, Job, Pop};
 use crate::pool::Pool;
-use crate::seats::{FillSeat, MOST};
+use crate::seats::{FillSeat, MAX_COUNT};
 use crossbeam_queue::Pass;
-use peer_source::{Fill, Source};
+use peer_flight::{FillRight, Put};
+use peer_source::{Evicted, Fill, GroupId, Source};
+use peer_view::ByteView;
+use peer_wait::Waiter;
 use std::alloc::Global;
 use std::sync::Wait;
 use std::sync::atomic::Ordering::SeqCst;
 use std::sync::ledger::Ledger;
 
+/// The fill of a job, by how a worker came by it.
+#[derive(Drop)]
+pub(crate) enum Made<S: Source> {
+    /// The source was called.
+    Called(Fill<S>),
+    /// The value was in the cache by then.
+    Rehit(Fill<S>),
+}
+
+// How many entries that leave a cache are let go after its lock.
+const MAX_EVICTED: usize = 64;
+
+// Room for them, none where memory is refused.
+fn room_for_evicted(alloc: Global) -> Evicted {
+    match Vec::with_capacity(alloc, MAX_EVICTED) {
+        Ok(evicted) => evicted,
+        Err(_) => Vec::new(alloc),
+    }
+}
+
+impl<S: Source> Made<S> {
+    ghost use Rattle.peer_fill.specs.Works.{fill_made};
+
+    // The fill, however it was made.
+    fn into_fill(self) -> Fill<S>
+        ensures { result ≡ fill_made self }
+    {
+        match self {
+            Made::Called(fill) => fill,
+            Made::Rehit(fill) => fill,
+        }
+    }
+}
+
+impl FillCounts {
+    ghost use Rattle.peer_fill.specs.Works.{CountsMade};
+
+    // One job more, whose fill was made so.
+    fn count<S: Source>(&mut self, made: &Made<S>)
+        requires { self.old.calls + self.old.rehits < 2 ^ 56 }
+        ensures { CountsMade made.now self.old self.new }
+    {
+        match made {
+            Made::Called(_) => self.calls += 1,
+            Made::Rehit(_) => self.rehits += 1,
+        }
+    }
+}
+
 impl<S: Source, L: Ledger> Pool<S, L> {
-    ghost use Rattle.peer_fill.specs.Pools.{IsFillSeatOf};
+    ghost use Rattle.peer_fill.specs.Caches.{IsFoundFor};
+    ghost use Rattle.peer_fill.specs.Pools.{source_of, IsFillSeatOf};
+    ghost use Rattle.peer_fill.specs.Works.{IsMadeFor};
 
     // The oldest job, once there is one, or none where the pool was stopped before a look that found none.
     fn next_job<R: Wait>(&self, rt: &R, pass: &mut Pass<Job<S>, Hand>) -> Option<Job<S>>
@@ -26,31 +81,67 @@ impl<S: Source, L: Ledger> Pool<S, L> {
         ensures pass { IsPassOf self.now.jobs pass.new }
         ensures popped { MatchOption result (view pass.new ≡ view pass.old) (λ job. view pass.new ≡ popped_by (view pass.old) job) }
     {
-        let mut pause = Pause::new(&self.bells.job);
+        let mut waiter = Waiter::new(&self.signals.job);
         for _ in rt.forever() {
             let stopping = self.stopping.load(SeqCst);
             if let Some(job) = self.jobs.pop_as::<Pop, R>(rt, pass) {
-                self.bells.room.notify_one();
+                self.signals.room.notify_one();
                 return Some(job);
             }
             if stopping {
                 return None;
             }
-            pause.rest(rt);
+            waiter.pause(rt);
         }
         unreachable!()
     }
 
-    // Calls the source for the job's flight, sets its fill, and lands it.
-    fn serve<R: Wait, G: Gate>(&self, rt: &R, alloc: Global, job: Job<S>, gate: &G) {
-        let Job { right, key } = job;
-        let group = right.flight().group();
-        gate.before_call(rt, group, key.as_slice());
+    // The fill of the value that the group's cache keeps for the key. Where memory refuses it, there is none.
+    fn kept<R: Wait>(&self, rt: &R, group: GroupId, key: &ByteView) -> Option<Fill<S>>
+        ensures { IfSome result (IsFoundFor group.number key.now) }
+    {
+        match self.caches.lock(rt).get(group, key) {
+            Ok(found) => found,
+            Err(_) => None,
+        }
+    }
+
+    // Looks into the cache again, and calls the source where there is no value. What the source finds is kept, unless
+    // memory refuses that.
+    fn make<R: Wait>(
+        &self,
+        rt: &R,
+        alloc: Global,
+        group: GroupId,
+        key: ByteView,
+        evicted: &mut Evicted,
+    ) -> Made<S>
+        ensures { IsMadeFor (S.answers (source_of self.now)) group.number key result }
+    {
+        if let Some(fill) = self.kept(rt, group, &key) {
+            return Made::Rehit(fill);
+        }
         let fill = Fill::run(alloc, &self.source, group, key);
+        let _ = self.caches.lock(rt).add(&fill, evicted);
+        evicted.clear();
+        Made::Called(fill)
+    }
+
+    // Sets the fill of the flight, which is of the flight's group and key, and tells those who wait for it.
+    fn put<R: Wait, G: Gate>(&self, rt: &R, right: FillRight<S>, fill: Fill<S>, gate: &G) -> Put<S>
+        requires { place_of fill.group fill.key ≡ right.place }
+        ensures flight { result.flight ≡ right }
+        ensures kept { IsTrue result.kept → result.note.known ≡ Some fill }
+    {
         let put = right.put(fill);
-        self.bells.fill.notify_all();
-        gate.after_put(rt, group, put.flight.key().as_slice());
-        self.table.lock(rt).land(&put.flight);
+        self.signals.fill.notify_all();
+        gate.after_put(rt, put.flight.group(), put.flight.key().as_slice());
+        put
+    }
+
+    // Takes the flight out of the table. Its right is spent, or there were no `put`.
+    fn land<R: Wait>(&self, rt: &R, put: Put<S>) {
+        self.table.lock(rt).land(&put);
     }
 
     /// Takes jobs until it has seen that the pool was stopped and then finds no job, or until its seat has taken 2^56.
@@ -65,7 +156,7 @@ impl<S: Source, L: Ledger> Pool<S, L> {
         ensures seat { IsFillSeatOf self.now result }
         ensures parts { fill_parts result ≡ fill_parts seat }
         ensures calls { (fills_of seat).calls ≤ (fills_of result).calls }
-        ensures rehits { (fills_of result).rehits ≡ (fills_of seat).rehits }
+        ensures rehits { (fills_of seat).rehits ≤ (fills_of result).rehits }
     {
         let FillSeat {
             mut pass,
@@ -73,12 +164,18 @@ impl<S: Source, L: Ledger> Pool<S, L> {
             parts,
             mut fills,
         } = seat;
-        while fills.calls + fills.rehits < MOST {
+        let mut evicted = room_for_evicted(alloc);
+        while fills.calls + fills.rehits < MAX_COUNT {
             let Some(job) = self.next_job(rt, &mut pass) else {
                 break;
             };
-            fills.calls += 1;
-            self.serve(rt, alloc, job, gate);
+            let Job { right, key } = job;
+            let group = right.flight().group();
+            gate.before_call(rt, group, key.as_slice());
+            let made = self.make(rt, alloc, group, key, &mut evicted);
+            fills.count(&made);
+            let put = self.put(rt, right, made.into_fill(), gate);
+            self.land(rt, put);
         }
         FillSeat::new(pass, parts, fills)
     }

@@ -21,6 +21,13 @@ entry_cases old new p x updates q y is =
       | inr differ ↦ inr (sym (updates q ∙ ap (λ b. cond b x (old q)) (place_eq_other p q differ)) ∙ is)
     ]
 
+-- the place has the entry that was put in, and every other place keeps its own
+pub entry_at : (old new : Place → Option FlightId) (p : Place) (x : Option FlightId) (updates : (q : Place) → new q ≡ cond (place_eq p q) x (old q)) → new p ≡ x
+entry_at old new p x updates = updates p ∙ ap (λ b. cond b x (old p)) (place_eq_same p)
+
+pub entry_else : (old new : Place → Option FlightId) (p : Place) (x : Option FlightId) (updates : (q : Place) → new q ≡ cond (place_eq p q) x (old q)) (q : Place) → q ≢ p → new q ≡ old q
+entry_else old new p x updates q differ = updates q ∙ ap (λ b. cond b x (old q)) (place_eq_other p q differ)
+
 module _ (old new : Place → Option FlightId) (p : Place) (x : Option FlightId) (updates : (q : Place) → new q ≡ cond (place_eq p q) x (old q)) where
   -- the place has the entry that was put in, or none if it was taken out
   pub at_place : number_at (new p) ≡ number_at x

@@ -7,6 +7,3 @@ pub mod Tabling
 pub mod Turning
 pub mod EventSteps
 pub mod EveryRun
-pub mod Seeing
-pub mod Reaching
-pub mod WorldCalls

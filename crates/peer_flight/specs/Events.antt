@@ -1,9 +1,9 @@
 -- The eight events of a pool, each in a world that allows it.
-use Rattle.std.specs.Prelude.{◌≡◌, ℕ, ◌+◌, ◌<◌, Bool, true, false, List, [], ◌∷◌, ◌++◌, length, Option, None, Some, All, ◌⊎◌, MatchBool}
+use Rattle.std.specs.Prelude.{◌≡◌, ℕ, ◌+◌, ◌<◌, Bool, true, false, List, [], ◌∷◌, ◌++◌, length, Option, None, Some, All, ◌⊎◌}
 use Rattle.std.specs.List.{slice_get, slice_set}
 use Rattle.peer_source.specs.Answers.{Answer}
 use Rattle.peer_flight.specs.SingleFlight.{Place, State, Leads, Joins, Lands}
-use Rattle.peer_flight.specs.World.{Wish, Ticket, Outcome, Unset, Answered, NoMemory, Flight, new_flight, Hand, Empty, WithTicket, WithRight, Idle, Filling, Landing, Connection, World, start}
+use Rattle.peer_flight.specs.World.{Wish, Ticket, Outcome, Unset, Answered, NoMemory, Flight, new_flight, Hand, Empty, WithTicket, WithRight, Idle, Filling, Landing, Connection, World}
 
 -- the most jobs in the list
 abbrev pub JOBS : ℕ
@@ -209,19 +209,3 @@ Happens allowed w (LaneTaken c) w' = GoesOn TakesTicket c w w'
 abbrev pub Run : (ℕ → List ℕ → Answer → Type 0) → List Event → World → World → Type 0
 Run allowed [] w w' = w' ≡ w
 Run allowed (e ∷ es) w w' = (mid : World) × Happens allowed w e mid × Run allowed es mid w'
-
--- some events lead from an empty world to this one
-pub record IsReached (allowed : ℕ → List ℕ → Answer → Type 0) (w : World) : Type 0 where
-  pub workers : ℕ
-  pub connections : ℕ
-  pub events : List Event
-  pub run : Run allowed events (start workers connections) w
-
--- nothing changed, and the step leads nowhere from here
-pub record IsRefused {X : Type 0} (Step : X → X → Type 0) (old new : X) : Type 0 where
-  pub same : new ≡ old
-  pub nowhere : (x : X) → Step old x → ⊥
-
--- where the step is allowed it happened, and else nothing: the answer tells which
-abbrev pub WhereAllowed : {X : Type 0} → Bool → (X → X → Type 0) → X → X → Type 0
-WhereAllowed answer Step old new = MatchBool answer (Step old new) (IsRefused Step old new)

@@ -6,5 +6,3 @@ pub mod Laws
 pub mod Flights
 pub mod Claims
 pub mod Tables
-pub mod WorldViews
-pub mod Worlds

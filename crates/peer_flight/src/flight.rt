@@ -10,7 +10,7 @@ use once_cell::race::OnceBox;
 use peer_source::{Fill, GroupId, Source};
 use peer_view::ByteView;
 use std::alloc::{AllocError, Global};
-use std::marker::Model;
+use std::marker::{Model, PhantomData};
 use std::sync::Arc;
 
 // What the shares of a flight have in common.
@@ -56,12 +56,14 @@ impl<S: Source> Model for FillRight<S> {
     ghost view = { λ r. r.flight };
 }
 
-/// What a right left: its flight, a note of it, and whether this call set the flight's cell.
+/// What a right left that was spent: its flight, a note of it, and whether this call set the flight's cell. Only
+/// `FillRight::put` makes one, so who has it knows that the flight has its fill.
 #[derive(Drop)]
 pub struct Put<S: Source> {
     pub flight: Flight<S>,
     pub note: Note<S>,
     pub kept: bool,
+    spent: PhantomData<FillRight<S>>,
 }
 
 impl<S: Source> Flight<S> {
@@ -86,7 +88,8 @@ impl<S: Source> Flight<S> {
         self.landing.place.key()
     }
 
-    pub(crate) fn place(&self) -> &Place
+    /// The group and the key.
+    pub fn place(&self) -> &Place
         ensures { result.now ≡ self.now.place }
     {
         &self.landing.place
@@ -194,6 +197,11 @@ impl<S: Source> FillRight<S> {
         *room = fill;
         let mut note = flight.note();
         let kept = flight.set(room, &mut note);
-        Put { flight, note, kept }
+        Put {
+            flight,
+            note,
+            kept,
+            spent: PhantomData,
+        }
     }
 }

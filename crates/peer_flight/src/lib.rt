@@ -2,7 +2,7 @@
 //!
 //! It stands on the views of `peer_view`, the fills of `peer_source` and the set-once cells of `once_cell`. It promises
 //! that a place has one open flight at most, that what was seen of a flight is seen again, and what holds however the
-//! steps of readers, workers and writers fall (`laws`). `world` is a pool over plain data, one event at a time.
+//! steps of readers, workers and writers fall (`laws`).
 #![tactic(auto)]
 
 mod claim;
@@ -10,10 +10,10 @@ mod flight;
 pub mod laws;
 mod place;
 mod table;
-pub mod world;
 
 pub use claim::Claim;
 pub use flight::{FillRight, Flight, Note, Put};
+pub use place::Place;
 pub use table::{Ask, AskFault, Table};
 
 #[cfg(test)]

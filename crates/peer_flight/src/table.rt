@@ -1,5 +1,5 @@
 //! The table of the open flights (`Group` of `singleflight.go`).
-ghost use Rattle.std.specs.Prelude.{◌≡◌, ℕ, ◌+◌, ◌^◌, ◌≤◌, ◌<◌, Some, IfOk, OnErr, IsErr, IsErrOf};
+ghost use Rattle.std.specs.Prelude.{◌≡◌, ◌≢◌, ℕ, ◌+◌, ◌^◌, ◌≤◌, ◌<◌, Some, IfOk, OnErr, IsErr, IsErrOf};
 ghost use Rattle.std.specs.Option.{ForSome};
 ghost use Rattle.std.specs.HashMap.{get};
 ghost use Rattle.peer_flight.specs.SingleFlight.{Place, place_eq};
@@ -49,11 +49,11 @@ pub struct Table<S: Source> {
 }
 
 // The number that no flight is given.
-const MOST: u64 = 1 << 62;
+const MAX_FLIGHTS: u64 = 1 << 62;
 
 impl<S: Source> Table<S> {
     ghost use Rattle.peer_flight.specs.SingleFlight.{HasOpen, IsSame, Lands, no_flights, place_of};
-    ghost use Rattle.peer_flight.specs.Tables.{Gives, IsWorn, state_of};
+    ghost use Rattle.peer_flight.specs.Tables.{Gives, IsWorn, Stands, flight_at, state_of};
 
     /// A table without flights. The allocator is for its growths.
     pub fn new(alloc: Global) -> Table<S>
@@ -73,6 +73,8 @@ impl<S: Source> Table<S> {
         key: &ByteView,
     ) -> Result<Ask<S>, AskFault>
         ensures gives { IfOk result (λ ask. Gives ask (state_of self.old) (state_of self.new) (place_of group.number key.now)) }
+        ensures stands { IfOk result (λ ask. Stands ask self.old self.new (place_of group.number key.now)) }
+        ensures others { (q : Place) → q ≢ place_of group.number key.now → flight_at self.new q ≡ flight_at self.old q }
         ensures refused { OnErr result (IsSame (state_of self.old) (state_of self.new)) }
         ensures worn { IsErrOf result AskFault.Worn → IsWorn (state_of self.old) (place_of group.number key.now) }
         ensures room { IsWorn (state_of self.old) (place_of group.number key.now) → IsErr result }
@@ -82,7 +84,7 @@ impl<S: Source> Table<S> {
             let share = flight.share()?;
             return Ok(Ask::Joined(share));
         }
-        if self.next >= MOST {
+        if self.next >= MAX_FLIGHTS {
             return Err(AskFault::Worn);
         }
         let (flight, right, share) = Table::lead(alloc, self.next, &place)?;
@@ -116,8 +118,8 @@ impl<S: Source> Table<S> {
         self.land_at(flight.place(), flight.number());
     }
 
-    // Takes the open flight of the place out, where it has this number.
-    pub(crate) fn land_at(&mut self, place: &Place, number: u64)
+    /// Takes the open flight of the place out, where it has this number.
+    pub fn land_at(&mut self, place: &Place, number: u64)
         ensures { Lands (state_of self.old) (state_of self.new) place.now number }
     {
         let Some(found) = self.flights.get(place) else {

@@ -5,7 +5,6 @@
 mod claims;
 mod flights;
 mod slow_table;
-mod worlds;
 
 use crate::{Ask, FillRight, Flight, Table};
 use peer_source::{DemoSource, Fill, GroupId, Outcome};

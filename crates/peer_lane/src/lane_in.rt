@@ -3,9 +3,8 @@ ghost use Rattle.std.specs.Prelude.{◌≡◌};
 ghost use Rattle.peer_flight.specs.Events.{TICKETS};
 ghost use Rattle.rtrb.specs.Ring.{producer_capacity};
 
-use crate::bell::Bell;
+use crate::signal::Signal;
 use crate::ticket::Ticket;
-use crate::waiting::Waiting;
 use peer_source::Source;
 use rtrb::{Producer, PushError};
 use std::sync::Wait;
@@ -39,19 +38,23 @@ impl<S: Source> LaneIn<S> {
     }
 
     /// Puts a ticket, and waits while the lane is full.
-    pub fn put_waiting<R: Wait>(&mut self, rt: &R, bell: &Bell, ticket: Ticket<S>)
+    pub fn put_waiting<R: Wait>(&mut self, rt: &R, signal: &Signal, ticket: Ticket<S>)
         ensures lane { IsSameIn self.old self.new }
         ensures put { tickets_put self.new ≡ tickets_put self.old ++ ticket ∷ [] }
         ensures places { free_places self.old ≤ free_places self.new + 1 }
     {
         let mut ticket = ticket;
-        let mut waiting = Waiting::new(bell);
+        let mut waiter = signal.waiter();
         for _ in rt.forever() {
             match self.put(ticket) {
-                Ok(()) => return waiting.end(),
+                Ok(()) => {
+                    // An announcement that still stood would be notified.
+                    drop(waiter);
+                    return signal.notify();
+                }
                 Err(back) => ticket = back,
             }
-            waiting.pause(rt);
+            waiter.pause(rt);
         }
         unreachable!()
     }

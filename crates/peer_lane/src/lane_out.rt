@@ -3,9 +3,8 @@ ghost use Rattle.std.specs.Prelude.{◌≡◌};
 ghost use Rattle.peer_flight.specs.Events.{TICKETS};
 ghost use Rattle.rtrb.specs.Ring.{consumer_capacity};
 
-use crate::bell::Bell;
+use crate::signal::Signal;
 use crate::ticket::Ticket;
-use crate::waiting::Waiting;
 use peer_source::Source;
 use rtrb::Consumer;
 use std::sync::Wait;
@@ -45,8 +44,8 @@ impl<S: Source> LaneOut<S> {
         self.consumer.pop_known()
     }
 
-    /// Takes the oldest ticket. Where there is none it waits for one, until the bell says that nothing more is put.
-    pub fn take_waiting<R: Wait>(&mut self, rt: &R, bell: &Bell) -> Option<Ticket<S>>
+    /// Takes the oldest ticket. Where there is none it waits for one, until the signal says that nothing more is put.
+    pub fn take_waiting<R: Wait>(&mut self, rt: &R, signal: &Signal) -> Option<Ticket<S>>
         ensures lane { IsSameOut self.old self.new }
         ensures taken { IfSome result (λ t. tickets_taken self.new ≡ tickets_taken self.old ++ t ∷ []) }
         ensures oldest { IfSome result (λ t. IsPrefix (tickets_known self.old) (t ∷ tickets_known self.new)) }
@@ -55,17 +54,19 @@ impl<S: Source> LaneOut<S> {
         ensures none { IfNone result (tickets_known self.new ≡ []) }
         ensures succeeds { 0 < length (tickets_known self.old) → IsSome result }
     {
-        let mut waiting = Waiting::new(bell);
+        let mut waiter = signal.waiter();
         for _ in rt.forever() {
-            let finished = bell.is_finished();
+            let finished = signal.is_finished();
             if let Some(ticket) = self.take() {
-                waiting.end();
+                // An announcement that still stood would be notified.
+                drop(waiter);
+                signal.notify();
                 return Some(ticket);
             }
             if finished {
                 return None;
             }
-            waiting.pause(rt);
+            waiter.pause(rt);
         }
         unreachable!()
     }

@@ -1,6 +1,6 @@
 -- Laws of bodies: what begins with one begins with no other.
 use Rattle.std.proofs.Common.{◌≡◌, ℕ, ◌<◌, ◌≤◌, List, [], ◌∷◌, ◌++◌, length, drop, refl, sym, ◌∙◌, ap, subst, arith, append_assoc, append-nil, length-append}
-use Rattle.peer_view.specs.declared.sink.TheConstants.{VALUE_LIMIT}
+use Rattle.peer_view.specs.Sinks.{MAX_VALUE}
 use Rattle.peer_reply.specs.Bodies.{varint}
 use Rattle.peer_reply.specs.Responses.{IsBody, IsCutShort, HasOtherTag, HasBadLength, GoesOn}
 use Rattle.peer_reply.specs.Laws.{BodiesDiffer, HasOneFault, BodyHasNoFault}
@@ -8,7 +8,7 @@ use Rattle.peer_reply.specs.declared.response.PbFault.TheVariants as fault
 use Rattle.peer_reply.proofs.VarintLemmas.{HasForm, one, two, three, form_of}
 
 -- where two varints begin the same bytes, they are one, and the same follows
-pub varints_same : (n m : ℕ) (x y : List ℕ) → n ≤ VALUE_LIMIT → m ≤ VALUE_LIMIT → varint n ++ x ≡ varint m ++ y → (n ≡ m) × (x ≡ y)
+pub varints_same : (n m : ℕ) (x y : List ℕ) → n ≤ MAX_VALUE → m ≤ MAX_VALUE → varint n ++ x ≡ varint m ++ y → (n ≡ m) × (x ≡ y)
 varints_same n m x y n_small m_small e = by_forms (form_of n n_small) (form_of m m_small)
   where
     by_forms : HasForm n → HasForm m → (n ≡ m) × (x ≡ y)

@@ -3,7 +3,7 @@ use Rattle.std.proofs.Common.{◌≡◌, ℕ, zero, ◌+◌, ◌-◌, ◌*◌, �
 use Rattle.std.proofs.lemmas.List.{length-replicate, length-drop, length-take-le, take-append-drop}
 use Rattle.std.specs.Prelude.{nat_lt}
 use Rattle.std.proofs.lemmas.Bool.{cases_lt}
-use Rattle.peer_view.specs.declared.sink.TheConstants.{VALUE_LIMIT}
+use Rattle.peer_view.specs.Sinks.{MAX_VALUE}
 use Rattle.peer_reply.specs.Bodies.{varint, body_of}
 use Rattle.peer_reply.specs.Lengths.{IsCutLength, HasNoLength, BeginsWithLength, HoldsExactly, ReadsLength}
 use Rattle.peer_reply.specs.Responses.{IsBody, IsCutShort, HasBadLength, GoesOn, ReadsAs}
@@ -56,7 +56,7 @@ pub data HasForm (n : ℕ) : Type 0 where
   two : (a b : ℕ) → 128 ≤ a → 0 < b → b < 128 → n ≡ (a - 128) + 128 * b → varint n ≡ a ∷ b ∷ [] → HasForm n
   three : (a b c : ℕ) → 128 ≤ a → 128 ≤ b → 0 < c → c < 128 → n ≡ (a - 128) + 128 * (b - 128) + 16384 * c → varint n ≡ a ∷ b ∷ c ∷ [] → HasForm n
 
-pub form_of : (n : ℕ) → n ≤ VALUE_LIMIT → HasForm n
+pub form_of : (n : ℕ) → n ≤ MAX_VALUE → HasForm n
 form_of n small =
     elim (cases_lt n 128) as (λ _. HasForm n) [
       | inl lt ↦ one lt (varint_one n lt)
@@ -69,7 +69,7 @@ form_of n small =
     ]
 
 -- bytes that agree with a varint in two places
-pub not_second : (n a : ℕ) (rest more behind : List ℕ) → n ≤ VALUE_LIMIT → 128 ≤ a → (a ∷ zero ∷ rest) ++ more ≡ varint n ++ behind → ⊥
+pub not_second : (n a : ℕ) (rest more behind : List ℕ) → n ≤ MAX_VALUE → 128 ≤ a → (a ∷ zero ∷ rest) ++ more ≡ varint n ++ behind → ⊥
 not_second n a rest more behind small high e = by_form (form_of n small)
   where
     by_form : HasForm n → ⊥
@@ -77,7 +77,7 @@ not_second n a rest more behind small high e = by_form (form_of n small)
     by_form (two x y x_low y_low y_high value is) = let same : a ∷ (zero ∷ (rest ++ more)) ≡ x ∷ (y ∷ behind) = e ∙ ap (λ v. v ++ behind) is in let f : zero ≡ y = cc in omega arith
     by_form (three x y z x_low y_low z_low z_high value is) = let same : a ∷ (zero ∷ (rest ++ more)) ≡ x ∷ (y ∷ (z ∷ behind)) = e ∙ ap (λ v. v ++ behind) is in let f : zero ≡ y = cc in omega arith
 
-pub not_third : (n a b c : ℕ) (rest more behind : List ℕ) → n ≤ VALUE_LIMIT → 128 ≤ a → 128 ≤ b → (c ≡ zero) ⊎ ((128 ≤ c) ⊎ (VALUE_LIMIT < (a - 128) + 128 * (b - 128) + 16384 * c)) → (a ∷ b ∷ c ∷ rest) ++ more ≡ varint n ++ behind → ⊥
+pub not_third : (n a b c : ℕ) (rest more behind : List ℕ) → n ≤ MAX_VALUE → 128 ≤ a → 128 ≤ b → (c ≡ zero) ⊎ ((128 ≤ c) ⊎ (MAX_VALUE < (a - 128) + 128 * (b - 128) + 16384 * c)) → (a ∷ b ∷ c ∷ rest) ++ more ≡ varint n ++ behind → ⊥
 not_third n a b c rest more behind small a_low b_low bad e = by_form (form_of n small)
   where
     by_form : HasForm n → ⊥

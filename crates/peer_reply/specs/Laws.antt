@@ -1,14 +1,14 @@
 -- Laws of bodies, and of reading them.
 use Rattle.std.specs.Prelude.{◌≡◌, ℕ, ◌≤◌, List, [], ◌++◌, length, Ok, Err}
 use Rattle.std.specs.Borrow.{Bor}
-use Rattle.peer_view.specs.declared.sink.TheConstants.{VALUE_LIMIT}
+use Rattle.peer_view.specs.Sinks.{MAX_VALUE}
 use Rattle.peer_reply.specs.Bodies.{body_of}
 use Rattle.peer_reply.specs.Responses.{ReadsAs}
 use Rattle.peer_reply.specs.declared.response.PbFault.{PbFault}
 
 -- no body is a proper prefix of another, and equal bodies have equal values
 abbrev pub BodiesDiffer : Type 0
-BodiesDiffer = (value other more : List ℕ) → length value ≤ VALUE_LIMIT → length other ≤ VALUE_LIMIT → body_of value ++ more ≡ body_of other → (more ≡ []) × (value ≡ other)
+BodiesDiffer = (value other more : List ℕ) → length value ≤ MAX_VALUE → length other ≤ MAX_VALUE → body_of value ++ more ≡ body_of other → (more ≡ []) × (value ≡ other)
 
 -- at most one fault applies ..
 abbrev pub HasOneFault : Type 0

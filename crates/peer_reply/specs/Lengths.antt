@@ -1,7 +1,7 @@
 -- What a list of bytes is beside the lengths of values.
 use Rattle.std.specs.Prelude.{◌≡◌, ℕ, ◌<◌, ◌≤◌, List, ◌++◌, length, Result, Ok, Err}
 use Rattle.std.specs.Borrow.{Bor}
-use Rattle.peer_view.specs.declared.sink.TheConstants.{VALUE_LIMIT}
+use Rattle.peer_view.specs.Sinks.{MAX_VALUE}
 use Rattle.peer_reply.specs.Bodies.{varint}
 use Rattle.peer_reply.specs.declared.response.Length.{Length}
 use Rattle.peer_reply.specs.declared.response.PbFault.{PbFault}
@@ -12,16 +12,16 @@ pub record IsCutLength (bytes : List ℕ) : Type 0 where
   pub value : ℕ
   pub more : List ℕ
   pub some : 0 < length more
-  pub small : value ≤ VALUE_LIMIT
+  pub small : value ≤ MAX_VALUE
   pub whole : bytes ++ more ≡ varint value
 
 -- the bytes agree with the varint of no length
 abbrev pub HasNoLength : List ℕ → Type 0
-HasNoLength bytes = (value : ℕ) (more behind : List ℕ) → value ≤ VALUE_LIMIT → ¬ (bytes ++ more ≡ varint value ++ behind)
+HasNoLength bytes = (value : ℕ) (more behind : List ℕ) → value ≤ MAX_VALUE → ¬ (bytes ++ more ≡ varint value ++ behind)
 
 -- the bytes begin with the varint of this length, and then go on with rest
 pub record BeginsWithLength (bytes : List ℕ) (value : ℕ) (rest : List ℕ) : Type 0 where
-  pub small : value ≤ VALUE_LIMIT
+  pub small : value ≤ MAX_VALUE
   pub begins : bytes ≡ varint value ++ rest
 
 -- what a reading of a length answers

@@ -1,14 +1,14 @@
 -- What a list of bytes is beside the bodies of values (`GetResponse` of `groupcache.proto`).
 use Rattle.std.specs.Prelude.{◌≡◌, ◌≢◌, ℕ, ◌<◌, ◌≤◌, List, ◌∷◌, ◌++◌, length, Result, Ok, Err}
 use Rattle.std.specs.Borrow.{Bor}
-use Rattle.peer_view.specs.declared.sink.TheConstants.{VALUE_LIMIT}
+use Rattle.peer_view.specs.Sinks.{MAX_VALUE}
 use Rattle.peer_reply.specs.Bodies.{body_of}
 use Rattle.peer_reply.specs.declared.response.PbFault.{PbFault}
 use Rattle.peer_reply.specs.declared.response.PbFault.TheVariants as fault
 
 -- the input is the body of the value
 pub record IsBody (input value : List ℕ) : Type 0 where
-  pub small : length value ≤ VALUE_LIMIT
+  pub small : length value ≤ MAX_VALUE
   pub body : input ≡ body_of value
 
 -- the input goes on with more bytes to a body

@@ -1,10 +1,10 @@
 //! What opens the content of a reply, before the value or the text that it lends.
 ghost use Rattle.std.specs.Prelude.{◌≡◌, ◌≤◌, ℕ, ◌++◌, length};
+ghost use Rattle.peer_view.specs.Sinks.{MAX_VALUE};
 ghost use Rattle.peer_reply.specs.Bodies.{tag_and_length, varint};
 ghost use Rattle.peer_reply.specs.Openings.{opening_bytes};
 
 use arrayvec::ArrayVec;
-use peer_view::VALUE_LIMIT;
 
 /// The tag and the length of a body, or the beginning of a text.
 #[derive(Drop)]
@@ -16,7 +16,7 @@ pub enum Opening {
 impl Opening {
     /// The tag and the length of a value's body.
     pub fn of_value(length: usize) -> Opening
-        requires { length ≤ VALUE_LIMIT }
+        requires { length ≤ MAX_VALUE }
         ensures { opening_bytes result ≡ tag_and_length length }
     {
         let mut bytes = ArrayVec::new();
@@ -38,7 +38,7 @@ impl Opening {
 // Appends the shortest varint of a number.
 fn push_varint(bytes: &mut ArrayVec<u8, 4>, n: usize)
     requires room { length bytes.old.items ≡ 1 }
-    requires small { n ≤ VALUE_LIMIT }
+    requires small { n ≤ MAX_VALUE }
     ensures { bytes.new.items ≡ bytes.old.items ++ varint n }
 {
     if n < 0x80 {

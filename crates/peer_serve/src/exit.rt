@@ -1,26 +1,38 @@
 //! Statuses of the program, and the line on standard error that goes with each, empty where there is none.
+ghost use Rattle.std.specs.Prelude.{◌≡◌};
+ghost use Rattle.peer_serve.specs.Exits.{line_of, status_of};
 
 use peer_conn::End;
+
+/// Where everything was answered, or a report was printed.
+pub const SERVED: (u8, &str) = (0, "");
+
+/// Where the program was called with words that it does not know.
+pub const USAGE: (u8, &str) = (1, "usage: peer_serve [ADDRESS WORKERS CONNS ROUNDS [-]]");
+
+/// Where the address cannot be bound.
+pub const CANNOT_BIND: (u8, &str) = (2, "peer_serve: cannot bind");
+
+/// Where standard output fails.
+pub const NO_OUTPUT: (u8, &str) = (4, "peer_serve: write failed");
 
 /// Where memory was refused.
 pub const OUT_OF_MEMORY: (u8, &str) = (5, "peer_serve: out of memory");
 
-const USAGE: (u8, &str) = (1, "usage: peer_serve [ADDRESS WORKERS CONNS ROUNDS [-]]");
+/// Where the system gives no random seed for the caches, so that clients could choose keys that collide.
+pub const NO_SEED: (u8, &str) = (7, "peer_serve: no random seed");
 
 /// The status and the line of a connection that ended.
-pub fn exit_of(end: &End) -> (u8, &'static str) {
+pub fn exit_of(end: &End) -> (u8, &'static str)
+    ensures status { result.0 ≡ status_of end.now }
+    ensures line { result.1.now ≡ line_of end.now }
+{
     match end {
-        End::Clean => (0, ""),
+        End::Clean => SERVED,
         End::Cut => (2, "peer_serve: input ended inside a head"),
         End::ReadFault => (3, "peer_serve: read failed"),
-        End::WriteFault => (4, "peer_serve: write failed"),
+        End::WriteFault => NO_OUTPUT,
         End::Memory | End::Worn => OUT_OF_MEMORY,
         End::Spent => (6, "peer_serve: too many reads"),
     }
-}
-
-/// The status and the line where the program was called with so many words, its own name among them, that it cannot
-/// serve.
-pub fn refusal_of(words: usize) -> Option<(u8, &'static str)> {
-    if words > 1 { Some(USAGE) } else { None }
 }

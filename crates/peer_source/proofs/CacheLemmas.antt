@@ -8,8 +8,7 @@ use Rattle.std.proofs.lemmas.List.{length-take}
 use Rattle.std.proofs.lemmas.List.Elements.{All-cons, All-take}
 use Rattle.lru.specs.LruCache.{LruCache, lru_cache, promoted}
 use Rattle.peer_source.specs.Answers.{Answer}
-use Rattle.peer_source.specs.Caches.{Cache, Entry, IsAnswer, Keeps, bytes_of, bytes_in, brought_to_front, fitting, looked_up, put_first, without}
-use Rattle.peer_source.specs.declared.cache.TheConstants.{MOST_ENTRIES}
+use Rattle.peer_source.specs.Caches.{MAX_ENTRIES, Cache, Entry, IsAnswer, Keeps, bytes_of, bytes_in, brought_to_front, fitting, looked_up, put_first, without}
 use Rattle.peer_source.proofs.EntryLemmas.{IsThere, All-there, All-without, first_of, promoted_there, take_first}
 use Rattle.peer_source.proofs.FittingLemmas.{All-fitting, length-fitting}
 
@@ -51,7 +50,7 @@ fitting_first limit room e es beside =
     rw (fits, left)
 
 module _ (kept put new : Kept) (k v : List ℕ) (limit room others : ℕ)
-    (most : kept.cap ≡ MOST_ENTRIES)
+    (most : kept.cap ≡ MAX_ENTRIES)
     (first : put ≡ lru_cache (first_of kept.cap k v kept.entries) kept.cap)
     (evicted : new ≡ lru_cache (take 1 put.entries ++ fitting room (drop 1 put.entries)) put.cap)
     (counted : others ≡ bytes_in (fitting room (drop 1 put.entries)))
@@ -65,7 +64,7 @@ module _ (kept put new : Kept) (k v : List ℕ) (limit room others : ℕ)
   new_is : new ≡ lru_cache ((k, v) ∷ fitting room (take (kept.cap - 1) (without k kept.entries))) kept.cap
   new_is = evicted ∙ ap (λ (m : Kept). lru_cache (take 1 m.entries ++ fitting room (drop 1 m.entries)) m.cap) put_is
 
-  fits_is : fitting limit (first_of MOST_ENTRIES k v kept.entries) ≡ (k, v) ∷ fitting room (take (kept.cap - 1) (without k kept.entries))
+  fits_is : fitting limit (first_of MAX_ENTRIES k v kept.entries) ≡ (k, v) ∷ fitting room (take (kept.cap - 1) (without k kept.entries))
   fits_is =
       ap (λ n. fitting limit (first_of n k v kept.entries)) (sym most)
       ∙ ap (fitting limit) (take_first kept.cap (k, v) (without k kept.entries) some)

@@ -8,7 +8,7 @@ use Rattle.std.proofs.lemmas.List.{take_all}
 use Rattle.std.proofs.lemmas.List.Elements.{All-weaker, All-contains_itself, All-contains}
 use Rattle.lru.specs.LruCache.{LruCache, promoted, put_entries, displaced}
 use Rattle.lru.proofs.CallerLemmas.{Contains-remove_entry, Contains-lookup_entry}
-use Rattle.peer_source.specs.Caches.{Entry, bytes_of, bytes_in, without}
+use Rattle.peer_source.specs.Caches.{Entry, IsFirst, bytes_of, bytes_in, without}
 
 -- no entry has the key
 pub record IsMissing (k : List ℕ) (es : List Entry) : Type 0 where
@@ -126,3 +126,18 @@ there_at k es v found =
 -- the entry that is there comes to the front
 pub promoted_there : (k : List ℕ) (es : List Entry) (v : List ℕ) → IsThere k es v → promoted (bytes_eq k) es ≡ (k, v) ∷ without k es
 promoted_there k es v there = rw there.entry
+
+-- the first entry is found for its key, and promoting it changes nothing
+pub first_there : (k : List ℕ) (es : List Entry) (v : List ℕ) → slice_get es 0 ≡ Some (k, v) → IsThere k es v
+first_there k [] v none = absurd (let e : None ≡ Some (k, v) = none in cc)
+first_there k (e ∷ es) v first =
+    let same : e ≡ (k, v) = same_Some e (k, v) first in
+    let passes : bytes_eq k e.0 ≡ true = (bytes_eq-Decides k e.0).1 (sym (ap (λ (x : Entry). x.0) same)) in
+    subst (IsThere k (e ∷ es)) (ap (λ (x : Entry). x.1) same) (at_first k e es passes)
+
+pub first_promoted : (k : List ℕ) (es : List Entry) → IsFirst k es → promoted (bytes_eq k) es ≡ es
+first_promoted k [] first = refl
+first_promoted k (e ∷ es) first =
+    let same : e ≡ (k, first.0) = same_Some e (k, first.0) first.1 in
+    let passes : bytes_eq k e.0 ≡ true = (bytes_eq-Decides k e.0).1 (sym (ap (λ (x : Entry). x.0) same)) in
+    rw passes refl

@@ -1,6 +1,6 @@
 -- What a source answers for a group and a key.
 use Rattle.std.specs.Prelude.{ℕ, ◌≤◌, List, length, cond, leb, codes, Option, Some, None}
-use Rattle.peer_view.specs.declared.sink.TheConstants.{VALUE_LIMIT}
+use Rattle.peer_view.specs.Sinks.{MAX_VALUE}
 
 -- a value, or an error with its text
 pub data Answer : Type 0 where
@@ -13,12 +13,12 @@ too_long_text = codes "value too long"
 
 -- a value as it counts: over the limit it is an error
 abbrev pub found_within : List ℕ → Answer
-found_within value = cond (leb (length value) VALUE_LIMIT) (Found value) (Failed too_long_text)
+found_within value = cond (leb (length value) MAX_VALUE) (Found value) (Failed too_long_text)
 
 -- a found value is within the limit
 abbrev pub IsWithinLimit : Option Answer → Type 0
 IsWithinLimit None = Unit {0}
-IsWithinLimit (Some (Found value)) = length value ≤ VALUE_LIMIT
+IsWithinLimit (Some (Found value)) = length value ≤ MAX_VALUE
 IsWithinLimit (Some (Failed text)) = Unit {0}
 
 -- a group's number, a key, and the answer for them, none where memory was refused

@@ -1,11 +1,15 @@
 -- The main cache of a group (groupcache, `groupcache.go` and `lru/lru.go`).
 use Rattle.std.specs.Prelude.{◌≡◌, ℕ, ◌+◌, ◌-◌, ◌≤◌, List, [], ◌∷◌, length, take, All, cond, nat_lt, nat_le, ◌==◌, ◌&&◌, bytes_eq, Option, Some, None, option_map}
+use Rattle.std.specs.List.{slice_get}
 use Rattle.std.specs.Option.{option_map_or}
 use Rattle.std.specs.Map.{lookup, remove_entry}
 use Rattle.lru.specs.LruCache.{LruCache}
-use Rattle.peer_view.specs.declared.sink.TheConstants.{VALUE_LIMIT}
+use Rattle.peer_view.specs.Sinks.{MAX_VALUE}
 use Rattle.peer_source.specs.Answers.{Answer, Found, Failed, Filled}
-use Rattle.peer_source.specs.declared.cache.TheConstants.{MOST_ENTRIES}
+
+-- the most entries of a cache
+abbrev pub MAX_ENTRIES : ℕ
+MAX_ENTRIES = 4096
 
 -- a key and its value
 abbrev pub Entry : Type 0
@@ -39,6 +43,10 @@ fitting room (e ∷ es) = cond (nat_le (bytes_of e) room) (e ∷ fitting (room -
 abbrev pub without : List ℕ → List Entry → List Entry
 without key es = remove_entry (bytes_eq key) es
 
+-- the first entry has this key
+abbrev pub IsFirst : List ℕ → List Entry → Type 0
+IsFirst key es = (value : List ℕ) × (slice_get es 0 ≡ Some (key, value))
+
 -- the value of the entry with this key
 abbrev pub looked_up : List ℕ → Cache → Option (List ℕ)
 looked_up key c = lookup (bytes_eq key) c.entries
@@ -57,7 +65,7 @@ brought_to_front key c = option_map_or (λ value. record c { entries = (key, val
 
 -- an entry goes before the others; of these, the first 4,096 stay, and of those the front that fits the limit
 abbrev pub put_first : List ℕ → List ℕ → Cache → Cache
-put_first key value c = record c { entries = fitting c.limit (take MOST_ENTRIES ((key, value) ∷ without key c.entries)) }
+put_first key value c = record c { entries = fitting c.limit (take MAX_ENTRIES ((key, value) ∷ without key c.entries)) }
 
 -- the value that was found
 abbrev pub found_in : Option Answer → Option (List ℕ)
@@ -75,14 +83,14 @@ added fill c = option_map_or (λ value. put_first fill.key value c) (value_to_ke
 
 -- the entry is an answer that is allowed for the group
 pub record IsAnswer (allowed : ℕ → List ℕ → Answer → Type 0) (group : ℕ) (e : Entry) : Type 0 where
-  pub within : length e.1 ≤ VALUE_LIMIT
+  pub within : length e.1 ≤ MAX_VALUE
   pub answer : ∥ allowed group e.0 (Found e.1) ∥₁
 
 -- what a cache keeps: how many bytes its entries have, within the limit, at most 4,096 of them, at limit 0 none, and answers alone
 pub record Keeps (allowed : ℕ → List ℕ → Answer → Type 0) (group limit bytes : ℕ) (kept : LruCache (List ℕ) (List ℕ)) : Type 0 where
   pub sum : bytes ≡ bytes_in kept.entries
   pub within : bytes ≤ limit
-  pub room : kept.cap ≡ MOST_ENTRIES
-  pub most : length kept.entries ≤ MOST_ENTRIES
+  pub room : kept.cap ≡ MAX_ENTRIES
+  pub most : length kept.entries ≤ MAX_ENTRIES
   pub off : limit ≡ 0 → kept.entries ≡ []
   pub answers : All (IsAnswer allowed group) kept.entries

@@ -3,3 +3,4 @@ pub mod Caches
 pub mod Demo
 pub mod Outcomes
 pub mod Reports
+pub mod DemoLaws

@@ -6,18 +6,20 @@ ghost use Rattle.std.specs.List.{IsDistinct};
 ghost use Rattle.std.specs.Map.{keys_of};
 ghost use Rattle.peer_source.specs.Caches.{IsAnswer, added, bytes_in, brought_to_front, empty_cache, fill_of, looked_up, put_first, value_to_keep};
 
-use crate::entries::{Entries, evict, put_in_front, room_beside};
+use crate::entries::{
+    Entries, Evicted, bring_to_front, evict, look_up, no_entries, put_in_front, room_beside,
+};
 use crate::fill::{Fill, Outcome};
 use crate::group::GroupId;
 use crate::source::Source;
-use lru::LruCache;
 use peer_view::ByteView;
 use std::alloc::{AllocError, Global};
+use std::hash::RandomState;
 use std::marker::{Model, PhantomData};
 use std::num::NonZeroUsize;
 
 // The most entries of a cache.
-const MOST_ENTRIES: usize = 4096;
+const MAX_ENTRIES: usize = 4096;
 
 /// The values found last for the keys of a group. The bytes of an entry are those of its key and of its value.
 #[derive(Drop)]
@@ -40,16 +42,22 @@ impl<S: Source> Model for MainCache<S> {
 }
 
 impl<S: Source> MainCache<S> {
-    /// A cache for a group without an entry. It keeps at most so many bytes, and at 0 nothing.
-    pub fn new(alloc: Global, group: GroupId, limit: u64) -> Result<MainCache<S>, AllocError>
+    /// A cache for a group without an entry. It keeps at most so many bytes, and at 0 nothing. The seed is for the map
+    /// of its keys, which peers choose.
+    pub fn new(
+        alloc: Global,
+        group: GroupId,
+        limit: u64,
+        seed: RandomState,
+    ) -> Result<MainCache<S>, AllocError>
         ensures { IfOk result (λ c. c ≡ empty_cache group.number limit) }
     {
-        let most = NonZeroUsize::new(MOST_ENTRIES).unwrap();
+        let most = NonZeroUsize::new(MAX_ENTRIES).unwrap();
         Ok(MainCache {
             group,
             limit,
             bytes: 0,
-            entries: LruCache::sparse(alloc, most)?,
+            entries: no_entries(alloc, most, seed)?,
             of: PhantomData,
         })
     }
@@ -60,21 +68,24 @@ impl<S: Source> MainCache<S> {
         ensures front { OnOk result (self.new ≡ brought_to_front key.now self.old) }
         ensures err { OnErr result (self.new ≡ self.old) }
         ensures missing { looked_up key.now self.old ≡ None → IsOk result }
+        ensures same { (self.new.group ≡ self.old.group) × (self.new.limit ≡ self.old.limit) }
     {
-        let Some(value) = self.entries.peek(key) else {
+        let Some(found) = look_up(&self.entries, key) else {
             return Ok(None);
         };
-        let fill = Fill::found(self.group, key.share()?, value.share()?);
-        let _there = self.entries.promote(key);
+        let in_front = found.in_front;
+        let fill = Fill::found(self.group, key.share()?, found.value.share()?);
+        bring_to_front(&mut self.entries, key, in_front);
         Ok(Some(fill))
     }
 
     /// Keeps a value that was found for the group, and then the entries used last as far as they fit (`add` of
     /// `groupcache.go`). A fill of another group, one without a value, and any at limit 0 change nothing.
-    pub fn add(&mut self, fill: &Fill<S>) -> Result<(), AllocError>
+    pub fn add(&mut self, fill: &Fill<S>, evicted: &mut Evicted) -> Result<(), AllocError>
         ensures ok { OnOk result (self.new ≡ added fill.now self.old) }
         ensures err { OnErr result (self.new ≡ self.old) }
         ensures nothing { value_to_keep fill.now self.old ≡ None → IsOk result }
+        ensures same { (self.new.group ≡ self.old.group) × (self.new.limit ≡ self.old.limit) }
     {
         let Outcome::Found(value) = fill.outcome() else {
             return Ok(());
@@ -83,11 +94,16 @@ impl<S: Source> MainCache<S> {
             return Ok(());
         }
         fill.law();
-        self.put(fill.key(), value)
+        self.put(fill.key(), value, evicted)
     }
 
     // Puts an entry in front, and keeps what fits. One larger than the limit leaves nothing.
-    fn put(&mut self, key: &ByteView, value: &ByteView) -> Result<(), AllocError>
+    fn put(
+        &mut self,
+        key: &ByteView,
+        value: &ByteView,
+        evicted: &mut Evicted,
+    ) -> Result<(), AllocError>
         requires answer { IsAnswer S.allowed self.old.group (key.now, value.now) }
         requires on { 0 < self.old.limit }
         ensures ok { OnOk result (self.new ≡ put_first key.now value.now self.old) }
@@ -99,8 +115,14 @@ impl<S: Source> MainCache<S> {
             return Ok(());
         };
         let bytes = self.bytes;
-        let others = put_in_front(&mut self.entries, bytes, key.share()?, value.share()?)?;
-        self.bytes = evict(&mut self.entries, others, room) + (self.limit - room);
+        let others = put_in_front(
+            &mut self.entries,
+            bytes,
+            key.share()?,
+            value.share()?,
+            evicted,
+        )?;
+        self.bytes = evict(&mut self.entries, others, room, evicted) + (self.limit - room);
         Ok(())
     }
 
@@ -128,7 +150,7 @@ impl<S: Source> MainCache<S> {
     /// The law of caches: what each of them keeps.
     pub fn law(&self)
         ensures within { bytes_in self.now.entries ≤ self.now.limit }
-        ensures most { length self.now.entries ≤ MOST_ENTRIES }
+        ensures most { length self.now.entries ≤ 4096 }
         ensures off { self.now.limit ≡ 0 → self.now.entries ≡ [] }
         ensures once { IsDistinct bytes_eq (keys_of self.now.entries) }
         ensures answers { All (IsAnswer S.allowed self.now.group) self.now.entries }

@@ -2,6 +2,7 @@
 ghost use Rattle.std.specs.Prelude.{◌≡◌, ◌⊎◌, ◌<◌, ◌≤◌, ℕ, [], None, Some, Ok, Err, IfSome, IfOk, refl, replicate};
 ghost use Rattle.peer_source.specs.Answers.{Failed, found_within};
 ghost use Rattle.peer_source.specs.Demo.{DemoAnswers, demo_number, demo_answer, square_answer, fill_answer, number_in, demo_answered, demo_numbered};
+ghost use Rattle.peer_source.specs.DemoLaws.{demo_limited};
 ghost use Rattle.peer_source.specs.Reports.{reported};
 
 use crate::functional::FunctionalSource;
@@ -155,6 +156,8 @@ impl Source for DemoSource {
     }
 
     ghost within = { λ s g k a h. h };
+
+    ghost limited = { λ g k a h. demo_limited g k a h };
 
     ghost answered = { λ s g k. demo_answered g k };
 

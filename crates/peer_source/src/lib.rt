@@ -17,6 +17,7 @@ mod source;
 
 pub use cache::MainCache;
 pub use demo::DemoSource;
+pub use entries::Evicted;
 pub use fill::{Fill, Outcome};
 pub use functional::FunctionalSource;
 pub use group::GroupId;

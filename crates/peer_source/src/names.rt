@@ -1,5 +1,5 @@
 //! The names of the groups of a source, and nothing else of it.
-ghost use Rattle.std.specs.Prelude.{◌≡◌, ℕ, option_map};
+ghost use Rattle.std.specs.Prelude.{◌≡◌, ℕ, ◌<◌, IfSome, option_map};
 
 use crate::group::GroupId;
 use crate::source::Source;
@@ -27,7 +27,8 @@ impl<'a, S: Source> Names<'a, S> {
 
     /// The group of a name, as the source tells it.
     pub fn group(&self, name: &[u8]) -> Option<GroupId>
-        ensures { option_map (λ g. g.number) result ≡ S.number_of self.now name.now }
+        ensures number { option_map (λ g. g.number) result ≡ S.number_of self.now name.now }
+        ensures within { IfSome result (λ g. g.number < S.count self.now) }
     {
         self.source.group(name)
     }

@@ -1,6 +1,6 @@
 //! What has values by group and key (`Getter` and `Group` of `groupcache.go`).
 ghost use Rattle.std.specs.Prelude.{◌≡◌, ℕ, ◌<◌, List, Option, Some, IfSome, option_map};
-ghost use Rattle.peer_source.specs.Answers.{Answer};
+ghost use Rattle.peer_source.specs.Answers.{Answer, IsWithinLimit};
 
 use crate::group::GroupId;
 use peer_view::AllocSink;
@@ -48,8 +48,11 @@ pub trait Source: Send + Sync + Drop {
     ) -> Result<(), GetFault>
         ensures { IfSome (reported result sink.new) (answers self.now group.number key.now) };
 
-    // What a source answers is allowed, it has an answer to everything, and each number is that of a group.
+    // What a source answers is allowed, a found answer is within the limit, there is an answer to everything, and each
+    // number is that of a group.
     ghost within: { (s : Self) (g : ℕ) (k : List ℕ) (a : Answer) → answers s g k a → allowed g k a };
+
+    ghost limited: { (g : ℕ) (k : List ℕ) (a : Answer) → allowed g k a → IsWithinLimit (Some a) };
 
     ghost answered: { (s : Self) (g : ℕ) (k : List ℕ) → (a : Answer) × answers s g k a };
 

@@ -1,5 +1,6 @@
 //! Tests of what no clause says: the source for demonstrations, its fills, its names, and caches of its fills.
 ghost use Rattle.peer_source.specs.Demo.{DemoAnswers, demo_number, demo_answered, demo_numbered};
+ghost use Rattle.peer_source.specs.DemoLaws.{demo_limited};
 
 use crate::{DemoSource, Fill, GetFault, GroupId, Names, Outcome, Source};
 use peer_view::{AllocSink, ByteView};
@@ -51,6 +52,8 @@ impl Source for Counting {
     }
 
     ghost within = { λ s g k a h. h };
+
+    ghost limited = { λ g k a h. demo_limited g k a h };
 
     ghost answered = { λ s g k. demo_answered g k };
 

@@ -1,7 +1,8 @@
 //! The sink that holds its value (`AllocatingByteSliceSink` of `sinks.go`).
 ghost use Rattle.std.specs.Prelude.{◌≡◌, ◌↔◌, ◌<◌, ◌≤◌, [], length, None, OnOk, OnErr, Err};
+ghost use Rattle.peer_view.specs.Sinks.{MAX_VALUE};
 
-use crate::sink::{Sink, SinkFault, VALUE_LIMIT, copied, shared};
+use crate::sink::{Sink, SinkFault, copied, shared};
 use crate::view::ByteView;
 use bytes::Bytes;
 use std::alloc::Global;
@@ -15,13 +16,13 @@ pub struct AllocSink {
 
 impl Model for AllocSink {
     ghost use Rattle.std.specs.Prelude.{List, ℕ, ◌≤◌, length};
-    ghost use Rattle.peer_view.specs.declared.sink.TheConstants.{VALUE_LIMIT};
+    ghost use Rattle.peer_view.specs.Sinks.{MAX_VALUE};
 
     ghost Value = { List ℕ };
 
     ghost view = { λ s. s.value };
 
-    ghost invariant = { λ s. length s.value ≤ VALUE_LIMIT };
+    ghost invariant = { λ s. length s.value ≤ MAX_VALUE };
 }
 
 impl AllocSink {
@@ -38,7 +39,7 @@ impl AllocSink {
     pub fn set_bytes(&mut self, alloc: Global, bytes: &[u8]) -> Result<(), SinkFault>
         ensures ok { OnOk result (self.new ≡ bytes.now) }
         ensures err { OnErr result (self.new ≡ self.old) }
-        ensures too_long { (result ≡ Err SinkFault.TooLong) ↔ (VALUE_LIMIT < length bytes.now) }
+        ensures too_long { (result ≡ Err SinkFault.TooLong) ↔ (MAX_VALUE < length bytes.now) }
     {
         self.value = copied(alloc, bytes)?;
         Ok(())
@@ -48,7 +49,7 @@ impl AllocSink {
     pub fn set_str(&mut self, alloc: Global, text: &str) -> Result<(), SinkFault>
         ensures ok { OnOk result (self.new ≡ text.now) }
         ensures err { OnErr result (self.new ≡ self.old) }
-        ensures too_long { (result ≡ Err SinkFault.TooLong) ↔ (VALUE_LIMIT < length text.now) }
+        ensures too_long { (result ≡ Err SinkFault.TooLong) ↔ (MAX_VALUE < length text.now) }
     {
         self.set_bytes(alloc, text.as_bytes())
     }
@@ -57,7 +58,7 @@ impl AllocSink {
     pub fn set_view(&mut self, view: &ByteView) -> Result<(), SinkFault>
         ensures ok { OnOk result (self.new ≡ view.now) }
         ensures err { OnErr result (self.new ≡ self.old) }
-        ensures too_long { (result ≡ Err SinkFault.TooLong) ↔ (VALUE_LIMIT < length view.now) }
+        ensures too_long { (result ≡ Err SinkFault.TooLong) ↔ (MAX_VALUE < length view.now) }
     {
         self.value = shared(view)?;
         Ok(())
@@ -66,7 +67,7 @@ impl AllocSink {
     /// The last value set, or the empty one.
     pub fn into_view(self) -> ByteView
         ensures value { result ≡ self }
-        ensures fits { length result ≤ VALUE_LIMIT }
+        ensures fits { length result ≤ MAX_VALUE }
     {
         self.value
     }

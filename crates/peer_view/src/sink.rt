@@ -1,7 +1,7 @@
 //! Where a source puts a value (`sinks.go`).
 ghost use Rattle.std.specs.Prelude.{◌≡◌, ◌↔◌, ◌<◌, ◌≤◌, ℕ, List, length, Option, Err, IsSome, IsOk, IfOk, OnOk, OnErr};
 ghost use Rattle.std.specs.Borrow.{GName};
-ghost use Rattle.peer_view.specs.Sinks.{kept, placed, IsTooLong};
+ghost use Rattle.peer_view.specs.Sinks.{kept, placed, IsTooLong, MAX_VALUE};
 
 use crate::view::ByteView;
 use std::alloc::{AllocError, Global};
@@ -60,8 +60,8 @@ pub trait Sink {
 // A view of a copy of the bytes, for a sink to hold.
 pub(crate) fn copied(alloc: Global, bytes: &[u8]) -> Result<ByteView, SinkFault>
     ensures ok { IfOk result (λ v. v ≡ bytes.now) }
-    ensures fits { OnOk result (length bytes.now ≤ VALUE_LIMIT) }
-    ensures too_long { (result ≡ Err SinkFault.TooLong) ↔ (VALUE_LIMIT < length bytes.now) }
+    ensures fits { OnOk result (length bytes.now ≤ MAX_VALUE) }
+    ensures too_long { (result ≡ Err SinkFault.TooLong) ↔ (MAX_VALUE < length bytes.now) }
 {
     if bytes.len() > VALUE_LIMIT {
         return Err(SinkFault::TooLong);
@@ -72,8 +72,8 @@ pub(crate) fn copied(alloc: Global, bytes: &[u8]) -> Result<ByteView, SinkFault>
 // A second view of the bytes, for a sink to hold.
 pub(crate) fn shared(view: &ByteView) -> Result<ByteView, SinkFault>
     ensures ok { IfOk result (λ v. v ≡ view.now) }
-    ensures fits { OnOk result (length view.now ≤ VALUE_LIMIT) }
-    ensures too_long { (result ≡ Err SinkFault.TooLong) ↔ (VALUE_LIMIT < length view.now) }
+    ensures fits { OnOk result (length view.now ≤ MAX_VALUE) }
+    ensures too_long { (result ≡ Err SinkFault.TooLong) ↔ (MAX_VALUE < length view.now) }
 {
     if view.len() > VALUE_LIMIT {
         return Err(SinkFault::TooLong);

@@ -1,11 +1,11 @@
 //! The reader reads on while the writer waits.
 ghost use Rattle.std.specs.Prelude.{Some};
 
-use crate::pooled::{Pooled, serve_pooled};
+use crate::demos::demo;
+use crate::pooled::{Devices, Pooled, serve_pooled};
 use crate::runs::{READS, halves};
 use crate::steps::Step;
 use peer_conn::End;
-use peer_fill::NoGate;
 use peer_view::{MemReader, MemWriter, PeerRead, PeerWrite, ReadFailed, WriteFailed};
 use std::sync::atomic::AtomicU64;
 use std::sync::atomic::Ordering::SeqCst;
@@ -85,15 +85,18 @@ fn a_read_and_a_write_wait_for_one_another(rt: HostRuntime) -> Result<(), Fail> 
         second_read: Step::new(),
         first_write: Step::new(),
     };
-    let reader = AheadReader {
-        reader: MemReader::new(halves(rt.alloc(), text, 45)?, false),
-        meeting: &meeting,
+    let devices = Devices {
+        reader: AheadReader {
+            reader: MemReader::new(halves(rt.alloc(), text, 45)?, false),
+            meeting: &meeting,
+        },
+        writer: LateWriter {
+            writer: MemWriter::new(rt.alloc(), 65_536, None),
+            meeting: &meeting,
+        },
+        reads: READS,
     };
-    let writer = LateWriter {
-        writer: MemWriter::new(rt.alloc(), 65_536, None),
-        meeting: &meeting,
-    };
-    let run = serve_pooled(&rt, rt.alloc(), 1, &NoGate, reader, writer, READS);
+    let run = serve_pooled(&rt, rt.alloc(), demo(1, 0), devices);
     assert_eq!(rt; is_clean(&run, replies), [true; 2]);
     let expired = [
         meeting.second_read.has_expired(),

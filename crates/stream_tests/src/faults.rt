@@ -5,11 +5,13 @@ use crate::texts::{Then, fault_reply, joined, method_reply, request, value_reply
 use peer_conn::End;
 use std::alloc::AllocError;
 use std::process::Abort;
+use std::sync::Wait;
 use std::test::Fail;
+use std::thread::Threads;
 
 // Demands a fault that stays open for GET of a target.
 fn demand_fault(
-    rt: &(impl Abort + AllocGlobal),
+    rt: &(impl Abort + AllocGlobal + Threads + Wait + Sync),
     target: &str,
     status: &str,
     text: &str,
@@ -21,7 +23,7 @@ fn demand_fault(
 
 // Demands one closing fault for a head, and no reply to the request behind it.
 fn demand_closing_fault(
-    rt: &(impl Abort + AllocGlobal),
+    rt: &(impl Abort + AllocGlobal + Threads + Wait + Sync),
     head: &[u8],
     status: &str,
     text: &str,

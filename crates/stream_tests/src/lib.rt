@@ -13,9 +13,13 @@ mod ahead;
 #[cfg(test)]
 mod bare;
 #[cfg(test)]
+mod calls;
+#[cfg(test)]
 mod closing;
 #[cfg(test)]
 mod compared;
+#[cfg(test)]
+mod demos;
 #[cfg(test)]
 mod devices;
 #[cfg(test)]
@@ -36,6 +40,10 @@ mod ordered;
 mod pooled;
 #[cfg(test)]
 mod runs;
+#[cfg(test)]
+mod slow_key;
+#[cfg(test)]
+mod sources;
 #[cfg(test)]
 mod steps;
 #[cfg(test)]

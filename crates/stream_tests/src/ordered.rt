@@ -1,19 +1,19 @@
 //! Replies come in the order of their requests, whatever the order of their fills.
 
-use crate::pooled::{Pooled, serve_pooled};
+use crate::pooled::{Devices, Pooled, Setup, serve_pooled};
 use crate::runs::{READS, whole};
 use crate::steps::Step;
 use peer_conn::End;
 use peer_fill::{Gate, Report};
-use peer_source::GroupId;
+use peer_source::{DemoSource, GroupId};
 use peer_view::{MemReader, MemWriter};
 use std::sync::Wait;
 use std::test::Fail;
 
-// Holds the call for the key `a` back until the fill for the key `b` was put.
+/// Holds the call for the key `a` back until the fill for the key `b` was put.
 #[derive(Drop)]
-struct Holding {
-    put: Step,
+pub struct Holding {
+    pub put: Step,
 }
 
 impl Gate for Holding {
@@ -57,9 +57,18 @@ fn a_later_fill_waits_for_an_earlier_one(rt: HostRuntime) -> Result<(), Fail> {
         left: 0,
     };
     let gate = Holding { put: Step::new() };
-    let reader = MemReader::new(whole(rt.alloc(), text)?, false);
-    let writer = MemWriter::new(rt.alloc(), 65_536, None);
-    let run = serve_pooled(&rt, rt.alloc(), 2, &gate, reader, writer, READS);
+    let setup = Setup {
+        source: DemoSource,
+        cache_bytes: 0,
+        workers: 2,
+        gate: &gate,
+    };
+    let devices = Devices {
+        reader: MemReader::new(whole(rt.alloc(), text)?, false),
+        writer: MemWriter::new(rt.alloc(), 65_536, None),
+        reads: READS,
+    };
+    let run = serve_pooled(&rt, rt.alloc(), setup, devices);
     assert_eq!(rt; counted(run, replies), Some(expected));
     assert!(rt; !gate.put.has_expired());
     Ok(())

@@ -1,17 +1,55 @@
 //! Runs of a connection over a pool, whose workers are threads.
-ghost use Rattle.std.specs.Prelude.{◌≡◌, ◌+◌, ◌-◌, ◌^◌, ◌<◌, All, IfSome, OnSome, vec_len};
+ghost use Rattle.std.specs.Prelude.{◌≡◌, ◌+◌, ◌-◌, ◌^◌, ◌<◌, All, IfSome};
+ghost use Rattle.peer_fill.specs.Seats.{fill_parts};
 ghost use Rattle.peer_fill.specs.Pools.{IsConnSeatOf, IsFillSeatOf};
 
 use peer_conn::{Served, serve_connection};
-use peer_fill::{ConnSeat, FillSeat, Gate, OfPool, Opened, Pool, Report};
-use peer_source::{DemoSource, Source};
+use peer_fill::{
+    ConnSeat, FillSeat, Gate, KeepsFill, Opened, Pool, Report, join_fills, pop_conn, pop_fill,
+};
+use peer_source::Source;
 use peer_view::{PeerRead, PeerWrite};
 use std::alloc::Global;
+use std::hash::RandomState;
 use std::marker::Brand;
+use std::random::RandomSource;
 use std::sync::Wait;
 use std::sync::ledger::{Blank, Ledger};
-use std::thread;
-use std::thread::{Threads, join_promised};
+use std::thread::Threads;
+use std::{io, thread};
+
+// Gives zeros, so that each run has the same seed.
+struct Zeros;
+
+impl RandomSource for Zeros {
+    fn fill_bytes(&self, buf: &mut [u8]) -> io::Result<()> {
+        buf.fill(0);
+        Ok(())
+    }
+}
+
+/// The seed of the caches of a test.
+pub fn seed() -> Option<RandomState> {
+    RandomState::new(&Zeros).ok()
+}
+
+/// What a pool is opened with: its source, the limit of each cache in bytes, the number of its workers, and the gate
+/// round their calls.
+#[derive(Drop)]
+pub struct Setup<'g, S: Source, G: Gate> {
+    pub source: S,
+    pub cache_bytes: u64,
+    pub workers: usize,
+    pub gate: &'g G,
+}
+
+/// The devices of a connection, and how many reads it may make.
+#[derive(Drop)]
+pub struct Devices<R: Drop, W: Drop> {
+    pub reader: R,
+    pub writer: W,
+    pub reads: u64,
+}
 
 /// A connection that was served: what its seat asked for, and what its pool counted.
 #[derive(Drop)]
@@ -21,31 +59,11 @@ pub struct Pooled<R, W> {
     pub report: Report,
 }
 
-// Takes a worker's seat.
-fn pop_fill<S: Source, L: Ledger>(
-    pool: &Pool<S, L>,
-    seats: &mut Vec<FillSeat<S, L>>,
-) -> Option<FillSeat<S, L>>
-    requires { All (IsFillSeatOf pool.now) seats.old.items }
-    ensures seat { IfSome result (IsFillSeatOf pool.now) }
-    ensures rest { All (IsFillSeatOf pool.now) seats.new.items }
-    ensures fewer { OnSome result (vec_len seats.new < vec_len seats.old) }
-{
-    let seat = seats.pop()?;
-    Some(seat)
-}
-
-// Takes a connection's seat.
-fn pop_conn<S: Source, L: Ledger>(
-    pool: &Pool<S, L>,
-    seats: &mut Vec<ConnSeat<S, L>>,
-) -> Option<ConnSeat<S, L>>
-    requires { All (IsConnSeatOf pool.now) seats.old.items }
-    ensures seat { IfSome result (IsConnSeatOf pool.now) }
-    ensures rest { All (IsConnSeatOf pool.now) seats.new.items }
-{
-    let seat = seats.pop()?;
-    Some(seat)
+// The seats of a pool with one connection.
+#[derive(Drop)]
+struct Seats<S: Source, L: Ledger> {
+    fills: Vec<FillSeat<S, L>>,
+    conn: ConnSeat<S, L>,
 }
 
 // Each worker works in a thread of its own while the connection is served.
@@ -60,36 +78,40 @@ fn use_pool<
     rt: &H,
     alloc: Global,
     pool: &Pool<S, L>,
-    mut fills: Vec<FillSeat<S, L>>,
-    seat: ConnSeat<S, L>,
+    seats: Seats<S, L>,
     gate: &G,
-    reader: R,
-    writer: W,
-    reads: u64,
-) -> Option<(Vec<FillSeat<S, L>>, ConnSeat<S, L>, Served<R, W>)>
-    requires fills { All (IsFillSeatOf pool.now) fills.items }
-    requires seat { IsConnSeatOf pool.now seat }
-    requires calls { R.calls reader + reads < 2 ^ 64 }
-    requires failures { W.failures writer < 2 ^ 64 - 1 }
-    ensures { IfSome result (λ run. All (IsFillSeatOf pool.now) run.0.items × IsConnSeatOf pool.now run.1) }
+    devices: Devices<R, W>,
+) -> Option<(Seats<S, L>, Served<R, W>)>
+    requires fills { All (IsFillSeatOf pool.now) seats.fills.items }
+    requires conn { IsConnSeatOf pool.now seats.conn }
+    requires calls { R.calls devices.reader + devices.reads < 2 ^ 64 }
+    requires failures { W.failures devices.writer < 2 ^ 64 - 1 }
+    ensures { IfSome result (λ run. All (IsFillSeatOf pool.now) run.0.fills.items × IsConnSeatOf pool.now run.0.conn) }
 {
+    let Devices {
+        reader,
+        writer,
+        reads,
+    } = devices;
+    let Seats { mut fills, conn } = seats;
     thread::scope(
         thread::scope_env(),
         rt,
-        move |scope| -> Option<(Vec<FillSeat<S, L>>, ConnSeat<S, L>, Served<R, W>)>
+        move |scope| -> Option<(Seats<S, L>, Served<R, W>)>
             requires fills { All (IsFillSeatOf pool.now) fills.items }
-            requires seat { IsConnSeatOf pool.now seat }
+            requires conn { IsConnSeatOf pool.now conn }
             requires calls { R.calls reader + reads < 2 ^ 64 }
             requires failures { W.failures writer < 2 ^ 64 - 1 }
-            ensures { IfSome result (λ run. All (IsFillSeatOf pool.entry.now) run.0.items × IsConnSeatOf pool.entry.now run.1) }
+            ensures { IfSome result (λ run. All (IsFillSeatOf pool.entry.now) run.0.fills.items × IsConnSeatOf pool.entry.now run.0.conn) }
         {
             let mut working = Vec::new(alloc);
             while let Some(seat) = pop_fill(pool, &mut fills) {
+                let keeps = KeepsFill::new(pool, &seat);
                 let work = move ||
                     requires { IsFillSeatOf pool.now seat }
-                    ensures { IsFillSeatOf pool.entry.now result }
+                    ensures { IsFillSeatOf pool.entry.now result × (fill_parts result ≡ fill_parts seat) }
                 { pool.run_worker(rt, alloc, seat, gate) };
-                let Ok(handle) = scope.spawn_with(OfPool(pool), work) else {
+                let Ok(handle) = scope.spawn_with(keeps, work) else {
                     pool.stop();
                     return None;
                 };
@@ -98,18 +120,17 @@ fn use_pool<
                     return None;
                 };
             }
-            let (served, seat) = serve_connection(rt, alloc, pool, seat, reader, writer, reads);
+            let (served, conn) = serve_connection(rt, alloc, pool, conn, reader, writer, reads);
             pool.stop();
-            match join_promised(rt, working) {
-                Ok(fills) => Some((fills, seat, served)),
-                Err(_) => None,
-            }
+            join_fills(rt, pool, working, &mut fills);
+            Some((Seats { fills, conn }, served))
         },
     )
 }
 
-// Opens a pool with so many workers, serves the connection and closes the pool.
+// Opens a pool with one connection, serves it and closes the pool.
 fn over_pool<
+    S: Source,
     L: Ledger + Send + Sync,
     R: PeerRead + Send + Drop,
     W: PeerWrite + Drop,
@@ -118,19 +139,22 @@ fn over_pool<
 >(
     rt: &H,
     alloc: Global,
-    workers: usize,
-    gate: &G,
-    reader: R,
-    writer: W,
-    reads: u64,
+    setup: Setup<'_, S, G>,
+    devices: Devices<R, W>,
     blank: Blank,
 ) -> Option<Pooled<R, W>>
     requires name { blank.name ≡ L.name }
     requires parts { (blank.parts ≡ L.parts) × (blank.parts ≡ 16) }
-    requires calls { R.calls reader + reads < 2 ^ 64 }
-    requires failures { W.failures writer < 2 ^ 64 - 1 }
+    requires calls { R.calls devices.reader + devices.reads < 2 ^ 64 }
+    requires failures { W.failures devices.writer < 2 ^ 64 - 1 }
 {
-    let opened = Pool::<DemoSource, L>::open(alloc, DemoSource, workers, 1, blank);
+    let Setup {
+        source,
+        cache_bytes,
+        workers,
+        gate,
+    } = setup;
+    let opened = Pool::<S, L>::open(alloc, source, cache_bytes, seed()?, workers, 1, blank);
     let Ok(
         Opened {
             pool,
@@ -141,12 +165,11 @@ fn over_pool<
     else {
         return None;
     };
-    let seat = pop_conn(&pool, &mut conns)?;
-    let (fills, seat, served) = use_pool(
-        rt, alloc, &pool, fills, seat, gate, reader, writer, reads,
-    )?;
-    let asked = seat.asked();
-    let conns = Vec::from_array(alloc, [seat]).ok()?;
+    let conn = pop_conn(&pool, &mut conns)?;
+    let (seats, served) = use_pool(rt, alloc, &pool, Seats { fills, conn }, gate, devices)?;
+    let Seats { fills, conn } = seats;
+    let asked = conn.asked();
+    let conns = Vec::from_array(alloc, [conn]).ok()?;
     let report = pool.close(rt, fills, conns).ok()?;
     Some(Pooled {
         served,
@@ -155,33 +178,16 @@ fn over_pool<
     })
 }
 
-/// A connection over the source for demonstrations with so many workers, which the gate may hold back. None where
-/// memory or a thread was refused.
+/// A connection over a pool of its own. None where memory or a thread was refused.
 pub fn serve_pooled<
+    S: Source,
     R: PeerRead + Send + Drop,
     W: PeerWrite + Drop,
     G: Gate,
     H: Threads + Wait + Sync,
->(
-    rt: &H,
-    alloc: Global,
-    workers: usize,
-    gate: &G,
-    reader: R,
-    writer: W,
-    reads: u64,
-) -> Option<Pooled<R, W>>
-    requires calls { R.calls reader + reads < 2 ^ 64 }
-    requires failures { W.failures writer < 2 ^ 64 - 1 }
+>(rt: &H, alloc: Global, setup: Setup<'_, S, G>, devices: Devices<R, W>) -> Option<Pooled<R, W>>
+    requires calls { R.calls devices.reader + devices.reads < 2 ^ 64 }
+    requires failures { W.failures devices.writer < 2 ^ 64 - 1 }
 {
-    over_pool::<Brand, R, W, G, H>(
-        rt,
-        alloc,
-        workers,
-        gate,
-        reader,
-        writer,
-        reads,
-        Blank::new(16),
-    )
+    over_pool::<S, Brand, R, W, G, H>(rt, alloc, setup, devices, Blank::new(16))
 }

@@ -1,11 +1,14 @@
 //! Runs of a connection over texts cut into pieces.
 ghost use Rattle.std.specs.Prelude.{◌≤◌, ◌<◌, length};
 
+use crate::demos::{demo, is_served, over_pieces};
 use peer_conn::{End, Served, serve_serial};
 use peer_source::DemoSource;
 use peer_view::{MemReader, MemWriter};
 use std::alloc::{AllocError, Global};
 use std::process::Abort;
+use std::sync::Wait;
+use std::thread::Threads;
 
 /// More reads than any text here needs.
 pub const READS: u64 = 1_000_000;
@@ -80,10 +83,51 @@ pub fn demand(rt: &(impl Abort + AllocGlobal), pieces: Vec<Vec<u8>>, replies: &[
     assert_eq!(rt; served.writer.taken(), replies);
 }
 
-/// Demands these bytes and this end for a text in one piece, byte by byte, and in two pieces at every place of a
-/// short text.
+// Whether a text is answered so by pools of 1, 2 and 16 workers, each without a cache, with one of 4 bytes and with
+// one of 1 MiB: in one piece and byte by byte.
+fn is_served_by_pools<H: Threads + Wait + Sync>(
+    rt: &H,
+    alloc: Global,
+    text: &[u8],
+    replies: &[u8],
+    end: End,
+) -> Result<bool, AllocError> {
+    let mut same = true;
+    for (workers, cache_bytes) in [
+        (1, 0),
+        (1, 4),
+        (1, 1_048_576),
+        (2, 0),
+        (2, 4),
+        (2, 1_048_576),
+        (16, 0),
+        (16, 4),
+        (16, 1_048_576),
+    ] {
+        let one = over_pieces(
+            rt,
+            alloc,
+            demo(workers, cache_bytes),
+            whole(alloc, text)?,
+            false,
+        );
+        let cut = over_pieces(
+            rt,
+            alloc,
+            demo(workers, cache_bytes),
+            by_bytes(alloc, text)?,
+            false,
+        );
+        same &= is_served(&one, replies, end) == [true; 2];
+        same &= is_served(&cut, replies, end) == [true; 2];
+    }
+    Ok(same)
+}
+
+/// Demands these bytes and this end for a text in one thread: in one piece, byte by byte, and in two pieces at every
+/// place of a short text. And the same over pools.
 pub fn demand_all_ways(
-    rt: &(impl Abort + AllocGlobal),
+    rt: &(impl Abort + AllocGlobal + Threads + Wait + Sync),
     text: &[u8],
     replies: &[u8],
     end: End,
@@ -95,5 +139,9 @@ pub fn demand_all_ways(
             demand(rt, halves(rt.alloc(), text, at)?, replies, end);
         }
     }
+    assert!(rt;
+        is_served_by_pools(rt, rt.alloc(), text, replies, end)?,
+        "over pools"
+    );
     Ok(())
 }

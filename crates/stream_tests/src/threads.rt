@@ -1,10 +1,12 @@
-//! Connections whose reader and writer are threads: the same bytes and ends as in one thread.
+//! Connections whose reader and writer are threads: what they ask for, and how they end.
 
-use crate::pooled::{Pooled, serve_pooled};
-use crate::runs::{READS, by_bytes, served, whole};
+use crate::demos::{demo, is_served, over_pieces, over_pieces_into};
+use crate::ends::{THREE, THREE_REPLIES};
+use crate::pooled::{Devices, Pooled, serve_pooled};
+use crate::runs::{READS, by_bytes, whole};
 use crate::texts::{Then, joined, request, value_reply};
 use peer_conn::End;
-use peer_fill::{NoGate, Report};
+use peer_fill::Report;
 use peer_view::{MemReader, MemWriter};
 use std::alloc::{AllocError, Global};
 use std::sync::Wait;
@@ -18,80 +20,37 @@ const REQUEST: &[u8] = b"GET /_groupcache/echo/k HTTP/1.1\r\nHost: h\r\n\r\n";
 const REPLY: &[u8] =
     b"HTTP/1.1 200 OK\r\nContent-Type: application/x-protobuf\r\nContent-Length: 3\r\n\r\n\x0A\x01k";
 
-// A connection with so many workers, whose reader gives these pieces and then fails or tells its end.
-fn over_pieces<H: Threads + Wait + Sync>(
-    rt: &H,
-    alloc: Global,
-    workers: usize,
-    pieces: Vec<Vec<u8>>,
-    fails: bool,
-    reads: u64,
-) -> Option<Pooled<MemReader, MemWriter>> {
-    let reader = MemReader::new(pieces, fails);
-    let writer = MemWriter::new(alloc, 65_536, None);
-    serve_pooled(rt, alloc, workers, &NoGate, reader, writer, reads)
-}
-
-// Whether the connection wrote these bytes, and whether it ended so.
-fn is(run: &Option<Pooled<MemReader, MemWriter>>, replies: &[u8], end: End) -> [bool; 2] {
-    match run {
-        Some(run) => [run.served.writer.taken() == replies, run.served.end == end],
-        None => [false; 2],
-    }
-}
-
-// Whether a text is answered so in one thread, and with 1, 2 and 16 workers in one piece and byte by byte.
-fn is_each_way<H: Threads + Wait + Sync>(
+// How many asks the seat of a connection counted, and the pool, for a text in one piece.
+fn asks<H: Threads + Wait + Sync>(
     rt: &H,
     alloc: Global,
     text: &[u8],
-    replies: &[u8],
-    end: End,
-) -> Result<bool, AllocError> {
-    let serial = served(alloc, whole(alloc, text)?, false, READS);
-    let mut same = serial.end == end && serial.writer.taken() == replies;
-    for workers in [1, 2, 16] {
-        let one = over_pieces(rt, alloc, workers, whole(alloc, text)?, false, READS);
-        let cut = over_pieces(rt, alloc, workers, by_bytes(alloc, text)?, false, READS);
-        same &= is(&one, replies, end) == [true; 2];
-        same &= is(&cut, replies, end) == [true; 2];
-    }
-    Ok(same)
+) -> Result<Option<[u64; 2]>, AllocError> {
+    let run = over_pieces(rt, alloc, demo(2, 0), whole(alloc, text)?, false);
+    Ok(run.map(|run| [run.asked, run.report.asked]))
 }
 
 #[test]
-fn threads_change_nothing(rt: HostRuntime) -> Result<(), Fail> {
-    let rows: [(&[u8], &[u8], End); 8] = [
-        (REQUEST, REPLY, End::Clean),
-        (b"", b"", End::Clean),
-        (b"\r", b"", End::Cut),
-        (b"GET /_groupcache/echo/k HTTP/1.1\r\nHo", b"", End::Cut),
-        (
-            b"HEAD /_groupcache/echo/k HTTP/1.1\r\nHost: h\r\n\r\n",
-            b"HTTP/1.1 200 OK\r\nContent-Type: application/x-protobuf\r\nContent-Length: 3\r\n\r\n",
-            End::Clean,
-        ),
-        (
-            b"POST /other HTTP/1.1\r\nHost: h\r\nconnection: close\r\n\r\n",
-            b"HTTP/1.1 405 Method Not Allowed\r\nAllow: GET, HEAD\r\nContent-Length: 0\r\nConnection: close\r\n\r\n",
-            End::Clean,
-        ),
-        (
-            b"GET /_groupcache/echo HTTP/1.1\r\nHost: h\r\n\r\n",
-            b"HTTP/1.1 400 Bad Request\r\nContent-Type: text/plain; charset=utf-8\r\nX-Content-Type-Options: nosniff\r\nContent-Length: 12\r\n\r\nbad request\n",
-            End::Clean,
-        ),
+fn a_request_with_a_known_group_is_asked_for(rt: HostRuntime) -> Result<(), Fail> {
+    let rows: [(&[u8], u64); 8] = [
+        (REQUEST, 1),
+        (b"", 0),
+        (b"GET /_groupcache/echo/k HTTP/1.1\r\nHo", 0),
+        (b"HEAD /_groupcache/echo/k HTTP/1.1\r\nHost: h\r\n\r\n", 1),
+        (b"POST /_groupcache/echo/k HTTP/1.1\r\nHost: h\r\n\r\n", 0),
+        (b"GET /_groupcache/nope/k HTTP/1.1\r\nHost: h\r\n\r\n", 0),
+        (THREE, 3),
         (
             b"GET /_groupcache/echo/k HTTP/1.1\r\nHost: h\r\nConnection: close\r\n\r\nGET /_groupcache/echo/c HTTP/1.1\r\nHost: h\r\n\r\n",
-            b"HTTP/1.1 200 OK\r\nContent-Type: application/x-protobuf\r\nContent-Length: 3\r\nConnection: close\r\n\r\n\x0A\x01k",
-            End::Clean,
+            1,
         ),
     ];
-    for (text, replies, end) in rows {
-        let count = text.len();
-        assert!(rt;
-            is_each_way(&rt, rt.alloc(), text, replies, end)?,
-            "of {count} bytes"
+    for (text, count) in rows {
+        let length = text.len();
+        assert_eq!(rt;
+            asks(&rt, rt.alloc(), text)?,
+            Some([count; 2]),
+            "of {length} bytes"
         );
     }
     Ok(())
@@ -129,35 +88,103 @@ fn more_replies_than_places_come_in_order(rt: HostRuntime) -> Result<(), Fail> {
         rehits: 0,
         left: 0,
     };
-    let run = over_pieces(&rt, rt.alloc(), 2, whole(rt.alloc(), &text)?, false, READS);
-    assert_eq!(rt; is(&run, &replies, End::Clean), [true; 2]);
+    let run = over_pieces(
+        &rt,
+        rt.alloc(),
+        demo(2, 0),
+        whole(rt.alloc(), &text)?,
+        false,
+    );
+    assert_eq!(rt; is_served(&run, &replies, End::Clean), [true; 2]);
     assert_eq!(rt; counts(run), Some((200, expected)));
     Ok(())
 }
 
-#[test]
-fn a_writer_fails(rt: HostRuntime) -> Result<(), Fail> {
-    let reader = MemReader::new(whole(rt.alloc(), REQUEST)?, false);
-    let writer = MemWriter::new(rt.alloc(), 4096, Some(10));
-    let run = serve_pooled(&rt, rt.alloc(), 1, &NoGate, reader, writer, READS);
-    assert_eq!(rt; is(&run, b"HTTP/1.1 2", End::WriteFault), [true; 2]);
-    Ok(())
+// Whether each limit of a writer gives the bytes up to it and a fault, in one piece and byte by byte.
+fn fails_at_limits<H: Threads + Wait + Sync>(rt: &H, alloc: Global) -> Result<bool, AllocError> {
+    let mut right = true;
+    for limit in 0..237 {
+        let (replies, _) = THREE_REPLIES.as_slice().split_at(limit);
+        let one = over_pieces_into(rt, alloc, demo(2, 0), whole(alloc, THREE)?, limit);
+        let cut = over_pieces_into(rt, alloc, demo(2, 4), by_bytes(alloc, THREE)?, limit);
+        right &= is_served(&one, replies, End::WriteFault) == [true; 2];
+        right &= is_served(&cut, replies, End::WriteFault) == [true; 2];
+    }
+    Ok(right)
 }
 
 #[test]
-fn a_reader_fails(rt: HostRuntime) -> Result<(), Fail> {
-    let text = joined(rt.alloc(), &[REQUEST, REQUEST])?;
-    let replies = joined(rt.alloc(), &[REPLY, REPLY])?;
-    let run = over_pieces(&rt, rt.alloc(), 1, whole(rt.alloc(), &text)?, true, READS);
-    assert_eq!(rt; is(&run, &replies, End::ReadFault), [true; 2]);
+fn a_writer_fails_at_each_limit(rt: HostRuntime) -> Result<(), Fail> {
+    assert!(rt; fails_at_limits(&rt, rt.alloc())?);
+    Ok(())
+}
+
+// Whether a reader that fails behind each beginning of a text gets its whole replies.
+fn fails_behind_beginnings<H: Threads + Wait + Sync>(
+    rt: &H,
+    alloc: Global,
+) -> Result<bool, AllocError> {
+    let mut right = true;
+    for count in 0..=135 {
+        let (text, _) = THREE.as_slice().split_at(count);
+        let (replies, _) = THREE_REPLIES.as_slice().split_at(count / 45 * 79);
+        let one = over_pieces(rt, alloc, demo(1, 0), whole(alloc, text)?, true);
+        let cut = over_pieces(rt, alloc, demo(1, 4), by_bytes(alloc, text)?, true);
+        right &= is_served(&one, replies, End::ReadFault) == [true; 2];
+        right &= is_served(&cut, replies, End::ReadFault) == [true; 2];
+    }
+    Ok(right)
+}
+
+#[test]
+fn a_reader_fails_behind_each_beginning(rt: HostRuntime) -> Result<(), Fail> {
+    assert!(rt; fails_behind_beginnings(&rt, rt.alloc())?);
     Ok(())
 }
 
 #[test]
 fn nothing_is_read_without_reads(rt: HostRuntime) -> Result<(), Fail> {
-    let run = over_pieces(&rt, rt.alloc(), 1, whole(rt.alloc(), REQUEST)?, true, 0);
-    assert_eq!(rt; is(&run, b"", End::Spent), [true; 2]);
+    let devices = Devices {
+        reader: MemReader::new(whole(rt.alloc(), REQUEST)?, true),
+        writer: MemWriter::new(rt.alloc(), 4096, None),
+        reads: 0,
+    };
+    let run = serve_pooled(&rt, rt.alloc(), demo(1, 0), devices);
+    assert_eq!(rt; is_served(&run, b"", End::Spent), [true; 2]);
     assert_eq!(rt; counts(run).map(|(asked, _)| asked), Some(0));
+    Ok(())
+}
+
+// So many requests, one a piece.
+fn one_a_piece(alloc: Global, count: usize) -> Result<Vec<Vec<u8>>, AllocError> {
+    let mut pieces = Vec::new(alloc);
+    for _ in 0..count {
+        pieces.push(REQUEST.to_vec(alloc)?)?;
+    }
+    Ok(pieces)
+}
+
+// The reader is ahead of the writer by a lane of 64 tickets, and by some 200 replies that are gathered.
+#[test]
+fn a_failed_write_stops_the_reader(rt: HostRuntime) -> Result<(), Fail> {
+    let pieces = one_a_piece(rt.alloc(), 5000)?;
+    let run = over_pieces_into(&rt, rt.alloc(), demo(1, 0), pieces, 10);
+    assert_eq!(rt; is_served(&run, b"HTTP/1.1 2", End::WriteFault), [true; 2]);
+    let asked = counts(run).map_or(5000, |(asked, _)| asked);
+    assert!(rt; asked < 1000, "{asked} asks");
+    Ok(())
+}
+
+// A writer that met a fault goes on taking tickets: else the reader would wait for ever.
+#[test]
+fn tickets_are_taken_behind_a_failed_write(rt: HostRuntime) -> Result<(), Fail> {
+    let mut text = Vec::new(rt.alloc());
+    for _ in 0..500 {
+        text.extend_from_slice(REQUEST)?;
+    }
+    let run = over_pieces_into(&rt, rt.alloc(), demo(1, 0), whole(rt.alloc(), &text)?, 10);
+    assert_eq!(rt; is_served(&run, b"HTTP/1.1 2", End::WriteFault), [true; 2]);
+    assert_eq!(rt; counts(run).map(|(asked, _)| asked), Some(500));
     Ok(())
 }
 
@@ -172,8 +199,14 @@ fn the_10000th_reply_closes(rt: HostRuntime) -> Result<(), Fail> {
         replies.extend_from_slice(REPLY)?;
     }
     replies.extend_from_slice(&value_reply(rt.alloc(), Then::Closes, b"\x0A\x01k")?)?;
-    let run = over_pieces(&rt, rt.alloc(), 2, whole(rt.alloc(), &text)?, false, READS);
-    assert_eq!(rt; is(&run, &replies, End::Clean), [true; 2]);
+    let run = over_pieces(
+        &rt,
+        rt.alloc(),
+        demo(2, 0),
+        whole(rt.alloc(), &text)?,
+        false,
+    );
+    assert_eq!(rt; is_served(&run, &replies, End::Clean), [true; 2]);
     assert_eq!(rt; counts(run).map(|(asked, _)| asked), Some(10_000));
     Ok(())
 }

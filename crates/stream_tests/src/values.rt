@@ -5,7 +5,9 @@ use crate::texts::{Then, fault_reply, joined, request, value_reply};
 use peer_conn::End;
 use std::alloc::{AllocError, Global};
 use std::process::Abort;
+use std::sync::Wait;
 use std::test::Fail;
+use std::thread::Threads;
 
 // What Go's own client sends for the key `k` of the group `echo`.
 const GO_REQUEST: &[u8] =
@@ -17,7 +19,7 @@ const REPLY_K: &[u8] =
 
 // Demands the value with this body for GET of a target.
 fn demand_body(
-    rt: &(impl Abort + AllocGlobal),
+    rt: &(impl Abort + AllocGlobal + Threads + Wait + Sync),
     target: &str,
     body: &[u8],
 ) -> Result<(), AllocError> {
@@ -28,7 +30,7 @@ fn demand_body(
 
 // Demands the source's error with this text for GET of a target.
 fn demand_error(
-    rt: &(impl Abort + AllocGlobal),
+    rt: &(impl Abort + AllocGlobal + Threads + Wait + Sync),
     target: &str,
     error: &str,
 ) -> Result<(), AllocError> {

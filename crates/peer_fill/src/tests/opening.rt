@@ -1,8 +1,9 @@
 //! How pools are refused, what a pool's source names, and how far a seat counts.
-ghost use Rattle.std.specs.Prelude.{◌≡◌, None, refl};
-ghost use Rattle.peer_source.specs.Answers.{Failed, too_long_text};
+ghost use Rattle.std.specs.Prelude.{◌≡◌, None, Some, refl};
+ghost use Rattle.peer_source.specs.Answers.{Failed, IsWithinLimit, too_long_text};
+ghost use Rattle.std.proofs.Common.{subst, sym};
 
-use super::{SQUARE, Small};
+use super::{SQUARE, Small, seed};
 use crate::{OpenFault, Pool};
 use peer_source::{DemoSource, GetFault, GroupId, Source};
 use peer_view::AllocSink;
@@ -46,6 +47,8 @@ impl Source for Nameless {
 
     ghost within = { λ s g k a h. h };
 
+    ghost limited = { λ g k a h. subst (λ x. IsWithinLimit (Some x)) (sym h) tt };
+
     ghost answered = { λ s g k. (Failed too_long_text, refl) };
 
     ghost numbered = { λ s name i e. absurd (cc) };
@@ -62,7 +65,10 @@ fn fault_of<L: Ledger>(
     requires name { blank.name ≡ L.name }
     requires parts { (blank.parts ≡ L.parts) × (blank.parts ≡ 16) }
 {
-    match Pool::<Nameless, L>::open(alloc, Nameless { groups }, workers, conns, blank) {
+    let Some(seed) = seed() else {
+        return 9;
+    };
+    match Pool::<Nameless, L>::open(alloc, Nameless { groups }, 0, seed, workers, conns, blank) {
         Ok(_) => 0,
         Err(OpenFault::Workers) => 1,
         Err(OpenFault::Conns) => 2,
@@ -92,7 +98,7 @@ fn group_of<L: Ledger>(alloc: Global, name: &[u8], blank: Blank) -> Option<Group
     requires name { blank.name ≡ L.name }
     requires parts { (blank.parts ≡ L.parts) × (blank.parts ≡ 16) }
 {
-    let small = Small::<DemoSource, L>::open(alloc, DemoSource, blank)?;
+    let small = Small::<DemoSource, L>::open(alloc, DemoSource, 0, blank)?;
     small.pool.source().group(name)
 }
 
@@ -108,7 +114,7 @@ fn strangers_after<L: Ledger>(alloc: Global, added: [u64; 2], blank: Blank) -> O
     requires name { blank.name ≡ L.name }
     requires parts { (blank.parts ≡ L.parts) × (blank.parts ≡ 16) }
 {
-    let mut small = Small::<DemoSource, L>::open(alloc, DemoSource, blank)?;
+    let mut small = Small::<DemoSource, L>::open(alloc, DemoSource, 0, blank)?;
     small.one.add_strangers(added[0]);
     let first = small.one.strangers();
     small.one.add_strangers(added[1]);

@@ -31,7 +31,7 @@ fn refills<L: Ledger, R: Wait>(rt: &R, alloc: Global, blank: Blank) -> Option<[b
     requires name { blank.name ≡ L.name }
     requires parts { (blank.parts ≡ L.parts) × (blank.parts ≡ 16) }
 {
-    let small = Small::<DemoSource, L>::open(alloc, DemoSource, blank)?;
+    let small = Small::<DemoSource, L>::open(alloc, DemoSource, 0, blank)?;
     let Small {
         pool,
         fill: _,

@@ -23,7 +23,7 @@ fn whole_round<L: Ledger, R: Wait>(rt: &R, alloc: Global, blank: Blank) -> Optio
     requires name { blank.name ≡ L.name }
     requires parts { (blank.parts ≡ L.parts) × (blank.parts ≡ 16) }
 {
-    let small = Small::<DemoSource, L>::open(alloc, DemoSource, blank)?;
+    let small = Small::<DemoSource, L>::open(alloc, DemoSource, 0, blank)?;
     let (small, values) = small.both_ask(rt, alloc, b"12", &NoGate)?;
     let shown = are_value(&values, b"144");
     let (missed, report) = close(rt, alloc, small)?;

@@ -1,63 +1,19 @@
 //! How often a source is called, and when.
-ghost use Rattle.std.specs.Prelude.{◌≡◌, ◌∷◌, [], None, refl};
-ghost use Rattle.peer_source.specs.Answers.{Found};
+ghost use Rattle.std.specs.Prelude.{◌≡◌};
+ghost use Rattle.peer_fill.specs.Pools.{IsConnSeatOf};
 
-use super::{Small, are_value};
-use crate::Gate;
-use peer_source::{GetFault, GroupId, Source};
-use peer_view::{AllocSink, ByteView};
+use super::numbering::Numbering;
+use super::{ECHO, Small, are_value};
+use crate::{ConnSeat, Gate, Pool};
+use peer_source::GroupId;
+use peer_view::ByteView;
 use std::alloc::Global;
 use std::marker::Brand;
-use std::sync::Wait;
 use std::sync::atomic::AtomicU64;
 use std::sync::atomic::Ordering::SeqCst;
 use std::sync::ledger::{Blank, Ledger};
+use std::sync::{Mutex, Wait};
 use std::test::Fail;
-
-// Finds the number of its call, by its last digit.
-#[derive(Drop)]
-struct Numbering {
-    calls: AtomicU64,
-}
-
-impl Source for Numbering {
-    ghost answers = { λ s g k a. (digit : _) × (a ≡ Found (digit ∷ [])) };
-
-    ghost allowed = { λ g k a. (digit : _) × (a ≡ Found (digit ∷ [])) };
-
-    ghost count = { λ s. 1 };
-
-    ghost number_of = { λ s name. None };
-
-    fn group_count(&self) -> usize {
-        1
-    }
-
-    fn group(&self, _name: &[u8]) -> Option<GroupId> {
-        None
-    }
-
-    fn get(
-        &self,
-        alloc: Global,
-        _group: GroupId,
-        _key: &[u8],
-        sink: &mut AllocSink,
-    ) -> Result<(), GetFault> {
-        let number = self.calls.fetch_add(1, SeqCst).wrapping_add(1);
-        let digit = b'0' + (number % 10) as u8;
-        match sink.set_bytes(alloc, &[digit]) {
-            Ok(()) => Ok(()),
-            Err(_) => Err(GetFault::Memory),
-        }
-    }
-
-    ghost within = { λ s g k a h. h };
-
-    ghost answered = { λ s g k. (Found (0 ∷ []), (0, refl)) };
-
-    ghost numbered = { λ s name i e. absurd (cc) };
-}
 
 // Counts what a worker calls.
 #[derive(Drop)]
@@ -105,14 +61,11 @@ fn two_runs<L: Ledger, R: Wait>(rt: &R, alloc: Global, blank: Blank) -> Option<[
     requires name { blank.name ≡ L.name }
     requires parts { (blank.parts ≡ L.parts) × (blank.parts ≡ 16) }
 {
-    let source = Numbering {
-        calls: AtomicU64::new(0),
-    };
     let gate = Counting {
         before: AtomicU64::new(0),
         after: AtomicU64::new(0),
     };
-    let small = Small::<Numbering, L>::open(alloc, source, blank)?;
+    let small = Small::<Numbering, L>::open(alloc, Numbering::failing(0), 0, blank)?;
     let (small, values) = small.both_ask(rt, alloc, b"k", &gate)?;
     let first = seen(&small, &gate, &values, b'1');
     let (small, values) = small.both_ask(rt, alloc, b"k", &gate)?;
@@ -132,5 +85,80 @@ fn each_flight_calls_the_source_once(rt: HostRuntime) -> Result<(), Fail> {
         calls: [2, 2, 2],
     };
     assert_eq!(rt; runs, Some([first, second]));
+    Ok(())
+}
+
+// A seat of a pool that asks for the echo of a key.
+#[derive(Drop)]
+struct Asker<'a, L: Ledger> {
+    pool: &'a Pool<Numbering, L>,
+    alloc: Global,
+    seat: ConnSeat<Numbering, L>,
+    ghost of_pool: { IsConnSeatOf pool.now seat },
+}
+
+impl<'a, L: Ledger> Asker<'a, L> {
+    fn ask<R: Wait>(&mut self, rt: &R, key: &[u8]) {
+        if let Ok(key) = ByteView::copy_of(self.alloc, key) {
+            let _claim = self.pool.ask(rt, self.alloc, &mut self.seat, ECHO, key);
+        }
+    }
+}
+
+// Asks again for each key whose fill was put, before its flight lands.
+#[derive(Drop)]
+struct AskingAgain<'a, L: Ledger> {
+    asker: Mutex<Asker<'a, L>>,
+}
+
+impl<'a, L: Ledger + Send + Sync> Gate for AskingAgain<'a, L> {
+    fn before_call<R: Wait>(&self, _rt: &R, _group: GroupId, _key: &[u8]) {}
+
+    fn after_put<R: Wait>(&self, rt: &R, _group: GroupId, key: &[u8]) {
+        self.asker.lock(rt).ask(rt, key);
+    }
+}
+
+// What was led first, led and joined by the second ask, and called.
+fn asked_again<L: Ledger + Send + Sync, R: Wait>(
+    rt: &R,
+    alloc: Global,
+    blank: Blank,
+) -> Option<[u64; 4]>
+    requires name { blank.name ≡ L.name }
+    requires parts { (blank.parts ≡ L.parts) × (blank.parts ≡ 16) }
+{
+    let small = Small::<Numbering, L>::open(alloc, Numbering::failing(0), 0, blank)?;
+    let Small {
+        pool,
+        fill,
+        mut one,
+        two,
+    } = small;
+    let key = ByteView::copy_of(alloc, b"k").ok()?;
+    let _claim = pool.ask(rt, alloc, &mut one, ECHO, key).ok()?;
+    pool.stop();
+    let asker = Asker {
+        pool: &pool,
+        alloc,
+        seat: two,
+    };
+    let gate = AskingAgain {
+        asker: Mutex::new(asker),
+    };
+    let fill = pool.run_worker(rt, alloc, fill, &gate);
+    let again = gate.asker.lock(rt);
+    Some([
+        one.led(),
+        again.seat.led(),
+        again.seat.joined(),
+        fill.calls(),
+    ])
+}
+
+#[test]
+fn a_flight_is_open_until_its_fill_was_put(rt: HostRuntime) -> Result<(), Fail> {
+    let seen = asked_again::<Brand, HostRuntime>(&rt, rt.alloc(), Blank::new(16));
+    assert_eq!(rt; seen, Some([1, 0, 1, 1]));
     Ok(())
 }

@@ -1,9 +1,14 @@
 //! Pools in use by many threads: each worker and each connection has one of its own.
-ghost use Rattle.std.specs.Prelude.{◌≡◌, All, IfSome};
-ghost use Rattle.peer_fill.specs.Pools.{IsConnSeatOf, IsFillSeatOf};
+ghost use Rattle.std.specs.Prelude.{◌≡◌, ◌<◌, All, IfSome};
+ghost use Rattle.peer_fill.specs.Pools.{source_of, IsConnSeatOf, IsFillSeatOf};
+ghost use Rattle.peer_fill.specs.Seats.{conn_parts, fill_parts, HaveAllConns, HaveAllFills};
 
-use super::{ECHO, is_value, pop_conn, pop_fill, value_of};
-use crate::{ConnSeat, FillSeat, Gate, NoGate, OfPool, Opened, Pool, Report};
+use super::linked::Linked;
+use super::{ECHO, is_value, seed, value_of};
+use crate::{
+    ConnSeat, FillSeat, Gate, KeepsConn, KeepsFill, NoGate, Opened, Pool, Report, join_conns,
+    join_fills, pop_conn, pop_fill,
+};
 use peer_flight::Claim;
 use peer_source::{DemoSource, GroupId, Source};
 use peer_view::ByteView;
@@ -14,11 +19,11 @@ use std::sync::Wait;
 use std::sync::ledger::{Blank, Ledger};
 use std::test::Fail;
 use std::thread;
-use std::thread::{Threads, join_promised};
+use std::thread::Threads;
 
 // Takes a while, in which a thread that waits falls asleep.
 fn take_a_while() {
-    for _ in 0..3_000_000 {
+    for _ in 0..1_000_000 {
         spin_loop();
     }
 }
@@ -37,19 +42,50 @@ impl Gate for Slow {
     fn after_put<R: Wait>(&self, _rt: &R, _group: GroupId, _key: &[u8]) {}
 }
 
-// Claims on the echo of so many keys of two bytes.
+// Holds a worker back at each key, so that all connections that want it sleep.
+#[derive(Clone, Copy)]
+struct AlwaysSlow;
+
+impl Gate for AlwaysSlow {
+    fn before_call<R: Wait>(&self, _rt: &R, _group: GroupId, _key: &[u8]) {
+        take_a_while();
+    }
+
+    fn after_put<R: Wait>(&self, _rt: &R, _group: GroupId, _key: &[u8]) {}
+}
+
+// What each connection asks for: in each round so many keys of two bytes, and then it waits for all of them.
+#[derive(Clone, Copy)]
+struct Plan {
+    rounds: u16,
+    keys: u16,
+}
+
+// A pool's threads, what its connections ask for, and what holds its workers back.
+#[derive(Clone, Copy)]
+struct Setting<G> {
+    workers: usize,
+    conns: usize,
+    plan: Plan,
+    gate: G,
+}
+
+// Claims on the echo of these keys of two bytes.
 fn ask_each<S: Source, L: Ledger, R: Wait>(
     rt: &R,
     alloc: Global,
     pool: &Pool<S, L>,
     seat: &mut ConnSeat<S, L>,
-    keys: u16,
+    from: u16,
+    to: u16,
 ) -> Option<Vec<Claim<S>>>
-    requires { IsConnSeatOf pool.now seat.old }
-    ensures { IsConnSeatOf pool.now seat.new }
+    requires seat { IsConnSeatOf pool.now seat.old }
+    requires groups { 0 < S.count (source_of pool.now) }
+    ensures seat { IsConnSeatOf pool.now seat.new }
+    ensures parts { conn_parts seat.new ≡ conn_parts seat.old }
 {
     let mut claims = Vec::new(alloc);
-    for number in 0..keys {
+    for number in from..to {
         let key = ByteView::copy_of(alloc, &number.to_be_bytes()).ok()?;
         let claim = pool.ask(rt, alloc, seat, ECHO, key).ok()?;
         claims.push(claim).ok()?;
@@ -73,23 +109,29 @@ fn count_wrong<S: Source, L: Ledger, R: Wait>(
     wrong
 }
 
-// Asks for each key once the workers sleep, and waits for each claim. A claim that does not show its key counts as a stranger.
+// Asks once the workers sleep. A claim that does not show its key counts as a stranger.
 fn use_seat<S: Source, L: Ledger, R: Wait>(
     rt: &R,
     alloc: Global,
     pool: &Pool<S, L>,
     mut seat: ConnSeat<S, L>,
-    keys: u16,
+    plan: Plan,
 ) -> ConnSeat<S, L>
-    requires { IsConnSeatOf pool.now seat }
-    ensures { IsConnSeatOf pool.now result }
+    requires seat { IsConnSeatOf pool.now seat }
+    requires groups { 0 < S.count (source_of pool.now) }
+    ensures seat { IsConnSeatOf pool.now result }
+    ensures parts { conn_parts result ≡ conn_parts seat }
 {
     take_a_while();
-    let wrong = match ask_each(rt, alloc, pool, &mut seat, keys) {
-        Some(claims) => count_wrong(rt, pool, &claims),
-        None => 1,
-    };
-    seat.add_strangers(wrong);
+    for round in 0..plan.rounds {
+        let from = round.saturating_mul(plan.keys);
+        let to = from.saturating_add(plan.keys);
+        let wrong = match ask_each(rt, alloc, pool, &mut seat, from, to) {
+            Some(claims) => count_wrong(rt, pool, &claims),
+            None => 1,
+        };
+        seat.add_strangers(wrong);
+    }
     seat
 }
 
@@ -99,35 +141,42 @@ fn use_conns<S: Source, L: Ledger + Send + Sync, R: Threads + Wait + Sync>(
     alloc: Global,
     pool: &Pool<S, L>,
     mut conns: Vec<ConnSeat<S, L>>,
-    keys: u16,
+    plan: Plan,
 ) -> Option<Vec<ConnSeat<S, L>>>
-    requires { All (IsConnSeatOf pool.now) conns.items }
-    ensures { IfSome result (λ seats. All (IsConnSeatOf pool.now) seats.items) }
+    requires of { All (IsConnSeatOf pool.now) conns.items }
+    requires all { HaveAllConns conns.items }
+    requires groups { 0 < S.count (source_of pool.now) }
+    ensures of { IfSome result (λ seats. All (IsConnSeatOf pool.now) seats.items) }
+    ensures all { IfSome result (λ seats. HaveAllConns seats.items) }
 {
     thread::scope(
         thread::scope_env(),
         rt,
         move |scope| -> Option<Vec<ConnSeat<S, L>>>
-            requires { All (IsConnSeatOf pool.now) conns.items }
-            ensures { IfSome result (λ seats. All (IsConnSeatOf pool.entry.now) seats.items) }
+            requires of { All (IsConnSeatOf pool.now) conns.items }
+            requires all { HaveAllConns conns.items }
+            requires groups { 0 < S.count (source_of pool.now) }
+            ensures of { IfSome result (λ seats. All (IsConnSeatOf pool.entry.now) seats.items) }
+            ensures all { IfSome result (λ seats. HaveAllConns seats.items) }
         {
             let mut asking = Vec::new(alloc);
             while let Some(seat) = pop_conn(pool, &mut conns) {
+                let promise = KeepsConn::new(pool, &seat);
                 let ask = move ||
-                    requires { IsConnSeatOf pool.now seat }
-                    ensures { IsConnSeatOf pool.entry.now result }
-                { use_seat(rt, alloc, pool, seat, keys) };
-                let Ok(handle) = scope.spawn_with(OfPool(pool), ask) else {
+                    requires seat { IsConnSeatOf pool.now seat }
+                    requires groups { 0 < S.count (source_of pool.now) }
+                    ensures seat { IsConnSeatOf pool.entry.now result }
+                    ensures parts { conn_parts result ≡ conn_parts seat }
+                { use_seat(rt, alloc, pool, seat, plan) };
+                let Ok(handle) = scope.spawn_with(promise, ask) else {
                     return None;
                 };
                 let Ok(()) = asking.push(handle) else {
                     return None;
                 };
             }
-            match join_promised(rt, asking) {
-                Ok(conns) => Some(conns),
-                Err(_) => None,
-            }
+            join_conns(rt, pool, asking, &mut conns);
+            Some(conns)
         },
     )
 }
@@ -137,29 +186,40 @@ fn use_every<S: Source, L: Ledger + Send + Sync, R: Threads + Wait + Sync, G: Ga
     rt: &R,
     alloc: Global,
     pool: &Pool<S, L>,
-    gate: &G,
     mut fills: Vec<FillSeat<S, L>>,
     conns: Vec<ConnSeat<S, L>>,
-    keys: u16,
+    setting: &Setting<G>,
 ) -> Option<(Vec<FillSeat<S, L>>, Vec<ConnSeat<S, L>>)>
-    requires fills { All (IsFillSeatOf pool.now) fills.items }
-    requires conns { All (IsConnSeatOf pool.now) conns.items }
-    ensures { IfSome result (λ seats. All (IsFillSeatOf pool.now) seats.0.items × All (IsConnSeatOf pool.now) seats.1.items) }
+    requires fills { All (IsFillSeatOf pool.now) fills.items × HaveAllFills fills.items }
+    requires conns { All (IsConnSeatOf pool.now) conns.items × HaveAllConns conns.items }
+    requires groups { 0 < S.count (source_of pool.now) }
+    ensures fills { IfSome result (λ seats. All (IsFillSeatOf pool.now) seats.0.items) }
+    ensures conns { IfSome result (λ seats. All (IsConnSeatOf pool.now) seats.1.items) }
+    ensures all_fills { IfSome result (λ seats. HaveAllFills seats.0.items) }
+    ensures all_conns { IfSome result (λ seats. HaveAllConns seats.1.items) }
 {
     thread::scope(
         thread::scope_env(),
         rt,
         move |scope| -> Option<(Vec<FillSeat<S, L>>, Vec<ConnSeat<S, L>>)>
-            requires { All (IsFillSeatOf pool.now) fills.items × All (IsConnSeatOf pool.now) conns.items }
-            ensures { IfSome result (λ seats. All (IsFillSeatOf pool.entry.now) seats.0.items × All (IsConnSeatOf pool.entry.now) seats.1.items) }
+            requires fills { All (IsFillSeatOf pool.now) fills.items × HaveAllFills fills.items }
+            requires conns { All (IsConnSeatOf pool.now) conns.items × HaveAllConns conns.items }
+            requires groups { 0 < S.count (source_of pool.now) }
+            ensures fills { IfSome result (λ seats. All (IsFillSeatOf pool.entry.now) seats.0.items) }
+            ensures conns { IfSome result (λ seats. All (IsConnSeatOf pool.entry.now) seats.1.items) }
+            ensures all_fills { IfSome result (λ seats. HaveAllFills seats.0.items) }
+            ensures all_conns { IfSome result (λ seats. HaveAllConns seats.1.items) }
         {
             let mut working = Vec::new(alloc);
             while let Some(seat) = pop_fill(pool, &mut fills) {
+                let promise = KeepsFill::new(pool, &seat);
+                let gate = &setting.gate;
                 let work = move ||
                     requires { IsFillSeatOf pool.now seat }
-                    ensures { IsFillSeatOf pool.entry.now result }
+                    ensures seat { IsFillSeatOf pool.entry.now result }
+                    ensures parts { fill_parts result ≡ fill_parts seat }
                 { pool.run_worker(rt, alloc, seat, gate) };
-                let Ok(handle) = scope.spawn_with(OfPool(pool), work) else {
+                let Ok(handle) = scope.spawn_with(promise, work) else {
                     pool.stop();
                     return None;
                 };
@@ -168,46 +228,57 @@ fn use_every<S: Source, L: Ledger + Send + Sync, R: Threads + Wait + Sync, G: Ga
                     return None;
                 };
             }
-            let conns = use_conns(rt, alloc, pool, conns, keys);
+            let conns = use_conns(rt, alloc, pool, conns, setting.plan);
             pool.stop();
-            match (join_promised(rt, working), conns) {
-                (Ok(fills), Some(conns)) => Some((fills, conns)),
-                _ => None,
+            join_fills(rt, pool, working, &mut fills);
+            match conns {
+                Some(conns) => Some((fills, conns)),
+                None => None,
             }
         },
     )
 }
 
-// The report of a pool with so many workers and connections, each in a thread.
-fn report_of<L: Ledger + Send + Sync, R: Threads + Wait + Sync, G: Gate>(
+// The report of a pool whose workers and connections each have a thread. It can be closed: all seats came back.
+fn report_of<S: Source, L: Ledger + Send + Sync, R: Threads + Wait + Sync, G: Gate>(
     rt: &R,
     alloc: Global,
-    gate: &G,
-    workers: usize,
-    conns: usize,
-    keys: u16,
+    source: S,
+    setting: &Setting<G>,
     blank: Blank,
 ) -> Option<Report>
     requires name { blank.name ≡ L.name }
     requires parts { (blank.parts ≡ L.parts) × (blank.parts ≡ 16) }
+    requires groups { 0 < S.count source }
 {
-    let opened = Pool::<DemoSource, L>::open(alloc, DemoSource, workers, conns, blank);
+    let Setting { workers, conns, .. } = setting;
+    let opened = Pool::<S, L>::open(alloc, source, 0, seed()?, *workers, *conns, blank);
     let Ok(Opened { pool, fills, conns }) = opened else {
         return None;
     };
-    let (fills, conns) = use_every(rt, alloc, &pool, gate, fills, conns, keys)?;
-    pool.close(rt, fills, conns).ok()
+    let (fills, conns) = use_every(rt, alloc, &pool, fills, conns, setting)?;
+    match pool.close(rt, fills, conns) {
+        Ok(report) => Some(report),
+        Err(_) => unreachable!(),
+    }
 }
 
 #[test]
 fn one_worker_fills_three_hundred_keys(rt: HostRuntime) -> Result<(), Fail> {
-    let report = report_of::<Brand, HostRuntime, Slow>(
+    let setting = Setting {
+        workers: 1,
+        conns: 1,
+        plan: Plan {
+            rounds: 1,
+            keys: 300,
+        },
+        gate: Slow,
+    };
+    let report = report_of::<DemoSource, Brand, HostRuntime, Slow>(
         &rt,
         rt.alloc(),
-        &Slow,
-        1,
-        1,
-        300,
+        DemoSource,
+        &setting,
         Blank::new(16),
     );
     let expected = Report {
@@ -236,15 +307,63 @@ fn same_each_run(report: Report) -> (u64, u64, u64, bool) {
 
 #[test]
 fn sixteen_workers_serve_sixteen_connections(rt: HostRuntime) -> Result<(), Fail> {
-    let report = report_of::<Brand, HostRuntime, NoGate>(
+    let setting = Setting {
+        workers: 16,
+        conns: 16,
+        plan: Plan {
+            rounds: 1,
+            keys: 250,
+        },
+        gate: NoGate,
+    };
+    let report = report_of::<DemoSource, Brand, HostRuntime, NoGate>(
         &rt,
         rt.alloc(),
-        &NoGate,
-        16,
-        16,
-        250,
+        DemoSource,
+        &setting,
         Blank::new(16),
     );
     assert_eq!(rt; report.map(same_each_run), Some((4000, 0, 0, true)));
+    Ok(())
+}
+
+#[test]
+fn all_that_wait_for_a_fill_are_woken(rt: HostRuntime) -> Result<(), Fail> {
+    let setting = Setting {
+        workers: 1,
+        conns: 16,
+        plan: Plan {
+            rounds: 20,
+            keys: 1,
+        },
+        gate: AlwaysSlow,
+    };
+    let report = report_of::<DemoSource, Brand, HostRuntime, AlwaysSlow>(
+        &rt,
+        rt.alloc(),
+        DemoSource,
+        &setting,
+        Blank::new(16),
+    );
+    assert_eq!(rt; report.map(same_each_run), Some((320, 0, 0, true)));
+    Ok(())
+}
+
+#[test]
+fn no_lock_is_held_while_the_source_is_called(rt: HostRuntime) -> Result<(), Fail> {
+    let setting = Setting {
+        workers: 2,
+        conns: 1,
+        plan: Plan { rounds: 1, keys: 2 },
+        gate: NoGate,
+    };
+    let report = report_of::<Linked, Brand, HostRuntime, NoGate>(
+        &rt,
+        rt.alloc(),
+        Linked::new(),
+        &setting,
+        Blank::new(16),
+    );
+    assert_eq!(rt; report.map(same_each_run), Some((2, 0, 0, true)));
     Ok(())
 }

@@ -1,36 +1,20 @@
-//! The flags of a bell, and how long patience lasts.
-use crate::{Bell, Patience};
+//! The flags of a signal.
+use crate::Signal;
 
-// Whether the bell is finished, and whether it is stopped.
-fn flags(bell: &Bell) -> [bool; 2] {
-    [bell.is_finished(), bell.is_stopped()]
+// Whether the signal is finished, and whether it is stopped.
+fn flags(signal: &Signal) -> [bool; 2] {
+    [signal.is_finished(), signal.is_stopped()]
 }
 
 #[test]
 fn flags_are_raised_one_by_one(rt: HostRuntime) {
-    let bell = Bell::new();
-    let new = flags(&bell);
-    bell.stop();
-    let stopped = flags(&bell);
-    bell.finish();
+    let signal = Signal::new();
+    let new = flags(&signal);
+    signal.stop();
+    let stopped = flags(&signal);
+    signal.finish();
     assert_eq!(rt;
-        [new, stopped, flags(&bell)],
+        [new, stopped, flags(&signal)],
         [[false, false], [false, true], [true, true]]
     );
-}
-
-// Whether so many looks have a pause before them, and no more.
-fn pauses(looks: u32) -> bool {
-    let mut patience = Patience::new();
-    for _ in 0..looks {
-        if !patience.pause() {
-            return false;
-        }
-    }
-    !patience.pause()
-}
-
-#[test]
-fn patience_ends_after_120_looks(rt: HostRuntime) {
-    assert!(rt; pauses(120));
 }

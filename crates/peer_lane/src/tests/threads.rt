@@ -1,7 +1,7 @@
 //! A lane between two threads: tickets come in order, and each thread sleeps and is woken.
 use super::full::fill_up;
 use super::{bears, numbered};
-use crate::{Bell, LaneIn, LaneOut, lane};
+use crate::{LaneIn, LaneOut, Signal, lane};
 use peer_source::DemoSource;
 use std::alloc::{AllocError, Global};
 use std::sync::Wait;
@@ -17,13 +17,13 @@ const MANY: u8 = 200;
 fn put_many<R: Wait + Clock>(
     rt: &R,
     alloc: Global,
-    bell: &Bell,
+    signal: &Signal,
     put: &mut LaneIn<DemoSource>,
     late: Duration,
 ) -> Result<(), AllocError> {
     thread::sleep(rt, late);
     for number in 0..MANY {
-        put.put_waiting(rt, bell, numbered(alloc, number)?);
+        put.put_waiting(rt, signal, numbered(alloc, number)?);
     }
     Ok(())
 }
@@ -31,17 +31,17 @@ fn put_many<R: Wait + Clock>(
 // Whether the tickets came in order, and then the word that nothing more is put.
 fn take_many<R: Wait + Clock>(
     rt: &R,
-    bell: &Bell,
+    signal: &Signal,
     taken: &mut LaneOut<DemoSource>,
     late: Duration,
 ) -> bool {
     thread::sleep(rt, late);
     for number in 0..MANY {
-        if !bears(taken.take_waiting(rt, bell), number) {
+        if !bears(taken.take_waiting(rt, signal), number) {
             return false;
         }
     }
-    taken.take_waiting(rt, bell).is_none()
+    taken.take_waiting(rt, signal).is_none()
 }
 
 // Whether all tickets were put, and whether they came in order.
@@ -52,16 +52,16 @@ fn cross<R: Threads + Wait + Clock + Sync>(
     take_late: Duration,
 ) -> Result<(bool, bool), AllocError> {
     let (mut put, mut taken) = lane(alloc)?;
-    let bell = Bell::new();
-    let bell = &bell;
+    let signal = Signal::new();
+    let signal = &signal;
     Ok(thread::join(
         rt,
         move || {
-            let all = put_many(rt, alloc, bell, &mut put, put_late).is_ok();
-            bell.finish();
+            let all = put_many(rt, alloc, signal, &mut put, put_late).is_ok();
+            signal.finish();
             all
         },
-        move || take_many(rt, bell, &mut taken, take_late),
+        move || take_many(rt, signal, &mut taken, take_late),
     ))
 }
 
@@ -75,36 +75,40 @@ fn tickets_cross_to_another_thread(rt: HostRuntime) -> Result<(), Fail> {
     Ok(())
 }
 
-// Whether a ticket of a full lane was taken and, with a ring, the one that waited came behind the others.
-fn take_and_ring<R: Wait + Clock>(rt: &R, bell: &Bell, taken: &mut LaneOut<DemoSource>) -> bool {
+// Whether a ticket of a full lane was taken and, with a notice, the one that waited came behind the others.
+fn take_and_notify<R: Wait + Clock>(
+    rt: &R,
+    signal: &Signal,
+    taken: &mut LaneOut<DemoSource>,
+) -> bool {
     thread::sleep(rt, Duration::from_micros(3000));
     let first = bears(taken.take(), 0);
-    bell.ring();
+    signal.notify();
     for number in 1..64 {
         if !bears(taken.take(), number) {
             return false;
         }
     }
-    first && bears(taken.take_waiting(rt, bell), 64)
+    first && bears(taken.take_waiting(rt, signal), 64)
 }
 
-// Whether a ring after a `take` wakes the thread that waits to put a ticket into a full lane.
+// Whether a notice after a `take` wakes the thread that waits to put a ticket into a full lane.
 fn wakes<R: Threads + Wait + Clock + Sync>(rt: &R, alloc: Global) -> Result<bool, AllocError> {
     let (mut put, mut taken) = lane(alloc)?;
     fill_up(alloc, &mut put)?;
     let ticket = numbered(alloc, 64)?;
-    let bell = Bell::new();
-    let bell = &bell;
+    let signal = Signal::new();
+    let signal = &signal;
     let (_, woken) = thread::join(
         rt,
-        move || put.put_waiting(rt, bell, ticket),
-        move || take_and_ring(rt, bell, &mut taken),
+        move || put.put_waiting(rt, signal, ticket),
+        move || take_and_notify(rt, signal, &mut taken),
     );
     Ok(woken)
 }
 
 #[test]
-fn a_ring_wakes_the_other_end(rt: HostRuntime) -> Result<(), Fail> {
+fn a_notice_wakes_the_other_end(rt: HostRuntime) -> Result<(), Fail> {
     assert!(rt; wakes(&rt, rt.alloc())?);
     Ok(())
 }

@@ -1,9 +1,32 @@
 //! Tests of caches: what stays and what goes, and a list that does the same.
 use super::{ECHO, FILL, SQUARE, fill};
-use crate::{DemoSource, GroupId, MainCache, Outcome};
+use crate::{DemoSource, Fill, GroupId, MainCache, Outcome};
 use peer_view::ByteView;
 use std::alloc::Global;
+use std::hash::RandomState;
+use std::io;
+use std::random::RandomSource;
 use std::test::Fail;
+
+// Gives zeros, so that each run has the same seed.
+struct Zeros;
+
+impl RandomSource for Zeros {
+    fn fill_bytes(&self, buf: &mut [u8]) -> io::Result<()> {
+        buf.fill(0);
+        Ok(())
+    }
+}
+
+// Adds a fill, and lets go what leaves the cache.
+fn keep(
+    alloc: Global,
+    cache: &mut MainCache<DemoSource>,
+    fill: Fill<DemoSource>,
+) -> Result<(), Fail> {
+    cache.add(&fill, &mut Vec::new(alloc))?;
+    Ok(())
+}
 
 // Adds the fills of `echo` for keys of one byte.
 fn add_letters(
@@ -12,14 +35,14 @@ fn add_letters(
     letters: &[u8],
 ) -> Result<(), Fail> {
     for letter in letters {
-        cache.add(&fill(alloc, ECHO, &[*letter])?)?;
+        keep(alloc, cache, fill(alloc, ECHO, &[*letter])?)?;
     }
     Ok(())
 }
 
 // A cache of `echo` with this limit, to which these letters were added.
 fn letters_in(alloc: Global, limit: u64, letters: &[u8]) -> Result<MainCache<DemoSource>, Fail> {
-    let mut cache = MainCache::new(alloc, ECHO, limit)?;
+    let mut cache = MainCache::new(alloc, ECHO, limit, RandomState::new(&Zeros)?)?;
     add_letters(alloc, &mut cache, letters)?;
     Ok(cache)
 }
@@ -69,7 +92,7 @@ fn a_get_changes_which_one_goes(rt: HostRuntime) -> Result<(), Fail> {
 #[test]
 fn at_limit_0_nothing_stays(rt: HostRuntime) -> Result<(), Fail> {
     let mut cache = letters_in(rt.alloc(), 0, b"a")?;
-    cache.add(&fill(rt.alloc(), ECHO, b"")?)?;
+    keep(rt.alloc(), &mut cache, fill(rt.alloc(), ECHO, b"")?)?;
     assert!(rt; cache.is_empty());
     assert_eq!(rt; cache.bytes(), 0);
     Ok(())
@@ -78,7 +101,7 @@ fn at_limit_0_nothing_stays(rt: HostRuntime) -> Result<(), Fail> {
 #[test]
 fn an_entry_over_the_limit_leaves_none(rt: HostRuntime) -> Result<(), Fail> {
     let mut cache = letters_in(rt.alloc(), 4, b"ab")?;
-    cache.add(&fill(rt.alloc(), ECHO, b"abc")?)?;
+    keep(rt.alloc(), &mut cache, fill(rt.alloc(), ECHO, b"abc")?)?;
     assert_eq!(rt; (cache.bytes(), cache.len()), (0, 0));
     assert!(rt; lacks(rt.alloc(), &mut cache, b"abc")?);
     Ok(())
@@ -87,7 +110,7 @@ fn an_entry_over_the_limit_leaves_none(rt: HostRuntime) -> Result<(), Fail> {
 #[test]
 fn an_entry_of_the_limit_stays(rt: HostRuntime) -> Result<(), Fail> {
     let mut cache = letters_in(rt.alloc(), 4, b"a")?;
-    cache.add(&fill(rt.alloc(), ECHO, b"de")?)?;
+    keep(rt.alloc(), &mut cache, fill(rt.alloc(), ECHO, b"de")?)?;
     assert_eq!(rt; (cache.bytes(), cache.len()), (4, 1));
     assert!(rt; finds(rt.alloc(), &mut cache, b"de", b"de")?);
     Ok(())
@@ -95,10 +118,10 @@ fn an_entry_of_the_limit_stays(rt: HostRuntime) -> Result<(), Fail> {
 
 #[test]
 fn errors_are_not_kept(rt: HostRuntime) -> Result<(), Fail> {
-    let mut cache = MainCache::new(rt.alloc(), SQUARE, 100)?;
-    cache.add(&fill(rt.alloc(), SQUARE, b"x")?)?;
+    let mut cache = MainCache::new(rt.alloc(), SQUARE, 100, RandomState::new(&Zeros)?)?;
+    keep(rt.alloc(), &mut cache, fill(rt.alloc(), SQUARE, b"x")?)?;
     assert!(rt; cache.is_empty());
-    cache.add(&fill(rt.alloc(), SQUARE, b"12")?)?;
+    keep(rt.alloc(), &mut cache, fill(rt.alloc(), SQUARE, b"12")?)?;
     assert!(rt; finds(rt.alloc(), &mut cache, b"12", b"144")?);
     Ok(())
 }
@@ -106,7 +129,7 @@ fn errors_are_not_kept(rt: HostRuntime) -> Result<(), Fail> {
 #[test]
 fn another_group_is_not_kept(rt: HostRuntime) -> Result<(), Fail> {
     let mut cache = letters_in(rt.alloc(), 100, b"7")?;
-    cache.add(&fill(rt.alloc(), SQUARE, b"7")?)?;
+    keep(rt.alloc(), &mut cache, fill(rt.alloc(), SQUARE, b"7")?)?;
     assert_eq!(rt; (cache.bytes(), cache.len()), (2, 1));
     assert!(rt; finds(rt.alloc(), &mut cache, b"7", b"7")?);
     Ok(())
@@ -160,7 +183,7 @@ fn step(
 ) -> Result<bool, Fail> {
     let key = [b'0'.wrapping_add(digit)];
     let same = if add {
-        cache.add(&fill(alloc, FILL, &key)?)?;
+        keep(alloc, cache, fill(alloc, FILL, &key)?)?;
         put_first(digits, digit, LIMIT)?;
         true
     } else {
@@ -175,7 +198,7 @@ fn step(
 
 // Whether a cache and a list agree for so many steps.
 fn agree_for(alloc: Global, steps: u32) -> Result<bool, Fail> {
-    let mut cache = MainCache::new(alloc, FILL, LIMIT)?;
+    let mut cache = MainCache::new(alloc, FILL, LIMIT, RandomState::new(&Zeros)?)?;
     let mut digits = Vec::new(alloc);
     let mut drawn: u64 = 1;
     for _ in 0..steps {

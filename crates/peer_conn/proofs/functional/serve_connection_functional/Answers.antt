@@ -2,7 +2,7 @@ use Rattle.std.proofs.Common.{◌≡◌, ℕ, List, Option, subst, refl}
 use mathlib.Core.Path.{fun_ext}
 use Rattle.peer_fill.specs.Pools.{source_of}
 use Rattle.peer_fill.specs.Seats.{asks_of}
-use Rattle.peer_conn.specs.Writes.{allows}
+use Rattle.peer_conn.specs.Connects.{allows}
 use Rattle.peer_conn.specs.Connects.{Connects}
 use Rattle.peer_conn.specs.Ends.{reading, writing}
 use Rattle.peer_conn.proofs.AnswerLemmas.{connects_too, merely_its_reply}

@@ -1,5 +1,5 @@
 use Rattle.std.proofs.Common.{subst}
-use Rattle.peer_conn.specs.Turns.{IsNext}
+use Rattle.peer_conn.specs.Nexts.{IsNext}
 use Rattle.peer_conn.proofs.wish.next_wish.Goals as goal
 
 pub returns-in-Some : goal.returns-in-Some

@@ -3,7 +3,7 @@ use Rattle.peer_reply.specs.declared.wish.Wish.{Wish}
 use Rattle.peer_reply.specs.declared.fault.Fault.{Fault}
 use Rattle.peer_reply.specs.declared.wish.WishBody.TheVariants.{Fault as AFault}
 use Rattle.peer_head.specs.Looks.{LooksAs}
-use Rattle.peer_conn.specs.Turns.{IsNextWish}
+use Rattle.peer_conn.specs.Nexts.{IsNextWish}
 use Rattle.peer_conn.proofs.WishLemmas.{fault_next, head_next}
 use Rattle.peer_conn.proofs.wish.seen_wish.Goals as goal
 

@@ -10,7 +10,7 @@ invariant-loop-fills g l = record {
   popped : length (view l.pass).popped ≡ l.fills.calls + l.fills.rehits;
   most : l.fills.calls + l.fills.rehits ≤ 2 ^ 56;
   calls : l.initial.fills.calls ≤ l.fills.calls;
-  rehits : l.initial.fills.rehits ≡ l.fills.rehits;
+  rehits : l.initial.fills.rehits ≤ l.fills.rehits;
 }
 
 abbrev pub decreases-loop-fills : goal.decreases-loop-fills

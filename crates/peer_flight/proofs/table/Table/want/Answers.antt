@@ -3,7 +3,7 @@ use Rattle.std.proofs.lemmas.Option.{same_Some}
 use Rattle.std.specs.HashMap.{get}
 use Rattle.peer_flight.specs.SingleFlight.{place_of, place_eq}
 use Rattle.peer_flight.specs.Flights.{FlightId}
-use Rattle.peer_flight.proofs.EntryNumbers.{number_at, at_place, at_other, entry_cases}
+use Rattle.peer_flight.proofs.EntryNumbers.{number_at, at_place, at_other, entry_at, entry_else, entry_cases}
 use Rattle.peer_flight.proofs.table.Table.want.Goals as goal
 
 pub returns-in-Some-clause-room : goal.returns-in-Some-clause-room
@@ -60,3 +60,23 @@ returns-in-Some-clause-gives g c =
       },
       ap (λ (f : FlightId). f.place) share ∙ was.0 ∙ of,
     )
+
+pub returns-clause-stands : goal.returns-clause-stands
+returns-clause-stands g c =
+    let old = get place_eq c.args.self.now.flights in
+    let new = get place_eq c.insert.new.self in
+    let place = c.in_ok-place.place in
+    let of : place ≡ place_of c.args.group.number c.args.key.now = c.in_ok-place.ensures in
+    ap new (sym of) ∙ entry_at old new place (Some c.in_ok-flight.share) c.in-Ok.ensures.updates.0 ∙ ap Some c.in_ok-flight.ensures.share
+
+pub returns-in-Some-clause-stands : goal.returns-in-Some-clause-stands
+returns-in-Some-clause-stands g c =
+    let old = get place_eq c.args.self.now.flights in
+    let of : c.in_ok-place.place ≡ place_of c.args.group.number c.args.key.now = c.in_ok-place.ensures in
+    ap old (sym of) ∙ sym c.in-Some.ensures.value ∙ ap Some (sym c.in_ok-share.ensures)
+
+pub returns-clause-others : goal.returns-clause-others
+returns-clause-others g c q differ =
+    let old = get place_eq c.args.self.now.flights in
+    let new = get place_eq c.insert.new.self in
+    entry_else old new c.in_ok-place.place (Some c.in_ok-flight.share) c.in-Ok.ensures.updates.0 q (λ same. differ (same ∙ c.in_ok-place.ensures))

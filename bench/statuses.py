@@ -1,0 +1,77 @@
+#!/usr/bin/env python3
+"""Each status of the built peer_serve, with its line on standard error.
+
+    (cd crates/peer_serve && rt run < stdin > /dev/null)    # builds it
+    python3 bench/statuses.py [crates/peer_serve/out/peer_serve]
+
+Its last line is `rows N failures 0`; where a row fails, so does the program.
+"""
+import os
+import socket
+import subprocess
+import sys
+
+PROGRAM = sys.argv[1] if len(sys.argv) > 1 else "crates/peer_serve/out/peer_serve"
+USAGE = "usage: peer_serve [ADDRESS WORKERS CONNS ROUNDS [-]]\n"
+HEAD = b"GET /_groupcache/echo/k HTTP/1.1\r\nHost: h\r\n\r\n"
+HERE = "127.0.0.1:0"
+GROUPS = b"".join(b"g%d\tk\tv\n" % i for i in range(65))
+
+
+def taken_address():
+    listener = socket.socket()
+    listener.bind(("127.0.0.1", 0))
+    listener.listen()
+    return listener, "127.0.0.1:%d" % listener.getsockname()[1]
+
+
+LISTENER, TAKEN = taken_address()
+
+# the words, standard input, standard output where it is not read, the status, the line
+ROWS = [
+    ([], HEAD, None, 0, ""),
+    ([], b"", None, 0, ""),
+    (["x"], b"", None, 1, USAGE),
+    ([HERE, "1", "1"], b"", None, 1, USAGE),
+    ([HERE, "17", "1", "1"], b"", None, 1, USAGE),
+    ([HERE, "1", "0", "1"], b"", None, 1, USAGE),
+    ([HERE, "1", "1", "+1"], b"", None, 1, USAGE),
+    ([HERE, "1", "1", "1", "x"], b"", None, 1, USAGE),
+    ([HERE, "1", "1", b"\xff"], b"", None, 1, USAGE),
+    ([], HEAD[:-1], None, 2, "peer_serve: input ended inside a head\n"),
+    (["x", "1", "1", "1"], b"", None, 2, "peer_serve: cannot bind\n"),
+    ([TAKEN, "1", "1", "1"], b"", None, 2, "peer_serve: cannot bind\n"),
+    ([TAKEN, "1", "1", "1", "-"], b"g\tk\tv\n", None, 2, "peer_serve: cannot bind\n"),
+    ([TAKEN, "1", "1", "1", "-"], b"", None, 2, "peer_serve: bad table at line 1\n"),
+    ([TAKEN, "1", "1", "1", "-"], b"g\tk\tv\ng\tk\tv\n", None, 2, "peer_serve: bad table at line 2\n"),
+    ([TAKEN, "1", "1", "1", "-"], GROUPS, None, 2, "peer_serve: bad table at line 65\n"),
+    ([TAKEN, "1", "1", "1", "-"], b"g\tk\t" + b"v" * 1048577 + b"\n", None, 2, "peer_serve: bad table at line 1\n"),
+    ([TAKEN, "1", "1", "1", "-"], b"x" * 16777217, None, 2, "peer_serve: table too large\n"),
+    ([TAKEN, "1", "1", "0", "-"], b"", None, 1, USAGE),
+    ([TAKEN, "1", "1", "1", "-"], "/", None, 3, "peer_serve: read failed\n"),
+    ([], "/", None, 3, "peer_serve: read failed\n"),
+    ([], HEAD, "/dev/full", 4, "peer_serve: write failed\n"),
+    ([HERE, "1", "1", "1"], b"", "/dev/full", 4, "peer_serve: write failed\n"),
+]
+
+
+def run(words, given, shown):
+    """Runs the program on bytes, or on a folder, which no one can read from."""
+    source = {"input": given} if isinstance(given, bytes) else {"stdin": os.open(given, os.O_RDONLY)}
+    out = open(shown, "wb") if shown else subprocess.DEVNULL
+    ended = subprocess.run([PROGRAM, *words], stdout=out, stderr=subprocess.PIPE, timeout=60, **source)
+    return ended.returncode, ended.stderr.decode()
+
+
+def main():
+    failures = 0
+    for words, given, shown, status, line in ROWS:
+        got = run(words, given, shown)
+        ok = got == (status, line)
+        failures += not ok
+        print(f"{'ok  ' if ok else 'FAIL'} {words} {given[:20]!r} {shown or ''}: {got}")
+    print(f"rows {len(ROWS)} failures {failures}")
+    sys.exit(1 if failures else 0)
+
+
+main()

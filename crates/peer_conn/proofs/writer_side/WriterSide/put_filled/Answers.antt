@@ -1,0 +1,12 @@
+use Rattle.std.proofs.Common.{◌≡◌, ◌∙◌, sym}
+use Rattle.peer_flight.specs.SingleFlight.{place_of}
+use Rattle.peer_flight.specs.Claims.{claim_place}
+use Rattle.peer_conn.proofs.StrangerLemmas.{one_good, some_not_none}
+use Rattle.peer_conn.proofs.writer_side.WriterSide.put_filled.Goals as goal
+
+pub returns-in-Ok-Some-clause-strangers : goal.returns-in-Ok-Some-clause-strangers
+returns-in-Ok-Some-clause-strangers g c =
+    let asked = claim_place c.args.claim.now in
+    let came = place_of c.args.fill.now.group c.args.fill.now.key in
+    let other : ¬ (came ≡ asked) = λ e. some_not_none c.in-Ok-Some.is c.in-Ok-Some.field-0-is (c.refill.ensures.own (sym e)) in
+    one_good (record { asked = asked; came = came; other = other }) (c.put_fill-in-Ok-Some.ensures.strangers ∙ c.saturating_add-self.ensures)

@@ -1,0 +1,27 @@
+use Rattle.std.proofs.Common.{◌∙◌, sym, ap, arith, [], ◌∷◌, ◌++◌, append-nil}
+use Rattle.peer_conn.specs.Tickets.{wish_by, wishes_by, wishes_taken}
+use Rattle.peer_conn.proofs.ResponseLemmas.{replies_none, replies_on, replies_then, replies_flushed}
+use Rattle.peer_conn.proofs.StrangerLemmas.{none_good, strangers_then}
+use Rattle.peer_conn.proofs.WriterSideLemmas.{drains_more, none_left}
+use Rattle.peer_conn.proofs.writer_side.WriterSide.write_left.Goals as goal
+
+pub loop-init : goal.loop-init
+loop-init g c =
+    let b = c.beside-left.ensures in
+    ([], record { taken = ap wishes_by b.taken ∙ sym (append-nil _); left = b.left ∙ b.put; count = omega (arith, b.count) }, replies_none _, none_good c.args.self.now.strangers_fit)
+
+pub loop-preserved : goal.loop-preserved
+loop-preserved g c =
+    let i = c.loop.invariant in
+    let t = c.take_known-ticket.ensures in
+    (i.0 ++ wish_by c.take_known-ticket.result ∷ [], drains_more c.take_known-ticket.new.self c.take_known-ticket.result i.1 t.taken t.known c.put.ensures.lane, replies_then i.2 c.put.ensures.replies, strangers_then i.3 c.put.ensures.strangers)
+
+pub returns-clause-left : goal.returns-clause-left
+returns-clause-left g c =
+    let i = c.loop.invariant in
+    record {
+      wishes = i.0;
+      all = sym i.1.taken ∙ ap wishes_by (none_left _ _ _ _ _ i.1.count (omega arith) i.1.left);
+      replies = replies_on i.2 (replies_flushed c.flush.ensures.flushes);
+      made_good = i.3;
+    }

@@ -1,0 +1,152 @@
+//! The reader's side of a connection: from requests to tickets.
+//!
+//! It stands on the pool of `peer_fill` and the lanes of `peer_lane`. It promises a ticket for each request that came, in
+//! order, each that has group and key after it was asked for; nothing is read behind a request that closes.
+ghost use Rattle.std.specs.Prelude.{◌≡◌, ◌+◌, IfOk, OnOk, OnErr};
+ghost use Rattle.peer_fill.specs.Pools.{source_of, IsConnSeatOf};
+ghost use Rattle.peer_fill.specs.Seats.{asks_of, conn_parts};
+ghost use Rattle.peer_conn.specs.Known.{IsKnown};
+ghost use Rattle.peer_conn.specs.Tickets.{wish_by, asks_in_body};
+ghost use Rattle.peer_conn.specs.Stops.{stop_for};
+
+use crate::end::ReaderStop;
+use crate::requests::{NextRequest, Requests};
+use peer_fill::{ConnSeat, Pool};
+use peer_flight::AskFault;
+use peer_lane::{Body, LaneIn, Signal, Ticket};
+use peer_reply::{Wish, WishBody};
+use peer_source::{Names, Source};
+use peer_view::PeerRead;
+use std::alloc::Global;
+use std::sync::Wait;
+use std::sync::ledger::Ledger;
+
+/// What the reader works with.
+#[derive(Drop)]
+pub(crate) struct ReaderSide<S: Source, L: Ledger, R: PeerRead + Drop> {
+    pub(crate) seat: ConnSeat<S, L>,
+    pub(crate) lane: LaneIn<S>,
+    pub(crate) requests: Requests<R>,
+}
+
+impl<S: Source, L: Ledger, R: PeerRead + Drop> ReaderSide<S, L, R> {
+    ghost use Rattle.std.specs.Prelude.{◌≡◌, [], ◌∷◌, OnOk, OnErr};
+    ghost use Rattle.peer_fill.specs.Pools.{source_of, IsConnSeatOf};
+    ghost use Rattle.peer_conn.specs.Known.{IsKnown};
+    ghost use Rattle.peer_conn.specs.ReaderSides.{PutsTickets, TakesRequests};
+
+    /// Puts a ticket for each request, until one closes or no more come.
+    pub(crate) fn run<H: Wait>(&mut self, rt: &H, pool: &Pool<S, L>, signal: &Signal) -> ReaderStop
+        requires { IsConnSeatOf pool.now self.old.seat }
+        ensures { TakesRequests (S.number_of (source_of pool.now)) pool.now self.old self.new result }
+    {
+        let stop = self.take_requests(rt, pool, &pool.source(), signal);
+        signal.finish();
+        stop
+    }
+
+    fn take_requests<H: Wait>(
+        &mut self,
+        rt: &H,
+        pool: &Pool<S, L>,
+        names: &Names<'_, S>,
+        signal: &Signal,
+    ) -> ReaderStop
+        requires seat { IsConnSeatOf pool.now self.old.seat }
+        requires names { names.now ≡ source_of pool.now }
+        ensures { TakesRequests (S.number_of names.now) pool.now self.old self.new result }
+    {
+        loop {
+            match self.requests.next_held(names) {
+                NextRequest::Request(wish) => {
+                    if let Err(fault) = self.put(rt, pool, signal, wish) {
+                        return stop_of(fault);
+                    }
+                }
+                NextRequest::Last(wish) => match self.put(rt, pool, signal, wish) {
+                    Ok(()) => return ReaderStop::Closed,
+                    Err(fault) => return stop_of(fault),
+                },
+                NextRequest::Need => {
+                    if signal.is_stopped() {
+                        return ReaderStop::Stopped;
+                    }
+                    if let Err(stop) = self.requests.read() {
+                        return stop;
+                    }
+                }
+                NextRequest::NoMemory => return ReaderStop::Memory,
+            }
+        }
+    }
+
+    // Puts the ticket of a wish, and waits while the lane is full.
+    fn put<H: Wait>(
+        &mut self,
+        rt: &H,
+        pool: &Pool<S, L>,
+        signal: &Signal,
+        wish: Wish,
+    ) -> Result<(), AskFault>
+        requires seat { IsConnSeatOf pool.now self.old.seat }
+        requires known { IsKnown (S.count (source_of pool.now)) wish.body }
+        ensures requests { self.new.requests ≡ self.old.requests }
+        ensures put { OnOk result (PutsTickets pool.now self.old.seat self.new.seat self.old.lane self.new.lane (wish ∷ [])) }
+        ensures refused { OnErr result (PutsTickets pool.now self.old.seat self.new.seat self.old.lane self.new.lane []) }
+    {
+        let alloc = self.requests.alloc;
+        match ticket_of(rt, alloc, pool, &mut self.seat, wish) {
+            Ok(ticket) => {
+                self.lane.put_waiting(rt, signal, ticket);
+                Ok(())
+            }
+            Err(fault) => Err(fault),
+        }
+    }
+}
+
+// The ticket of a wish. What has group and key is asked for.
+fn ticket_of<S: Source, L: Ledger, H: Wait>(
+    rt: &H,
+    alloc: Global,
+    pool: &Pool<S, L>,
+    seat: &mut ConnSeat<S, L>,
+    wish: Wish,
+) -> Result<Ticket<S>, AskFault>
+    requires seat { IsConnSeatOf pool.now seat.old }
+    requires known { IsKnown (S.count (source_of pool.now)) wish.body }
+    ensures seat { IsConnSeatOf pool.now seat.new }
+    ensures parts { conn_parts seat.new ≡ conn_parts seat.old }
+    ensures strangers { (asks_of seat.new).strangers ≡ (asks_of seat.old).strangers }
+    ensures wish { IfOk result (λ t. wish_by t ≡ wish) }
+    ensures asked { OnOk result ((asks_of seat.new).asked ≡ (asks_of seat.old).asked + asks_in_body wish.body) }
+    ensures refused { OnErr result ((asks_of seat.new).asked ≡ (asks_of seat.old).asked) }
+{
+    let Wish {
+        body,
+        closing,
+        bare,
+    } = wish;
+    let body = match body {
+        WishBody::Fault(fault) => Body::Fault(fault),
+        WishBody::Get(group, key) => match pool.ask(rt, alloc, seat, group, key) {
+            Ok(claim) => Body::Claim(claim),
+            Err(fault) => return Err(fault),
+        },
+    };
+    Ok(Ticket {
+        closing,
+        bare,
+        body,
+    })
+}
+
+// What stopped a reader whose ask was refused.
+fn stop_of(fault: AskFault) -> ReaderStop
+    ensures { result ≡ stop_for fault }
+{
+    match fault {
+        AskFault::Memory => ReaderStop::Memory,
+        AskFault::Worn => ReaderStop::Worn,
+    }
+}

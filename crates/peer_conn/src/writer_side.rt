@@ -1,0 +1,166 @@
+//! The writer's side of a connection: from tickets to responses.
+//!
+//! It stands on the claims of `peer_flight`, the fills of `peer_fill` and the lanes of `peer_lane`. It promises a reply
+//! for each ticket that it took, in order, as far as the writer goes; and that a fill of another group or key than was
+//! asked for is not written.
+ghost use Rattle.std.specs.Prelude.{◌≡◌, ℕ, ◌<◌, ◌^◌};
+
+use crate::responses::Responses;
+use peer_fill::Pool;
+use peer_flight::Claim;
+use peer_lane::{Body, LaneIn, LaneOut, Signal, Ticket, beside};
+use peer_source::{Fill, Source};
+use peer_view::PeerWrite;
+use std::alloc::Global;
+use std::sync::Wait;
+use std::sync::ledger::Ledger;
+
+/// What the writer works with. One that puts no more replies still takes tickets, so that no `put` waits for ever.
+#[derive(Drop)]
+pub(crate) struct WriterSide<S: Source, W: PeerWrite + Drop> {
+    pub(crate) alloc: Global,
+    pub(crate) lane: LaneOut<S>,
+    pub(crate) responses: Responses<W>,
+    /// The tickets that were made good, since the fill that came was of another group or key than was asked for.
+    pub(crate) strangers: u64,
+    ghost strangers_fit: { strangers < 2 ^ 64 },
+}
+
+impl<S: Source, W: PeerWrite + Drop> WriterSide<S, W> {
+    ghost use Rattle.std.specs.Prelude.{◌≡◌, [], ◌∷◌, ◌++◌, IfSome, IfNone};
+    ghost use Rattle.peer_lane.specs.Lanes.{IsLane, IsSameOut, tickets_taken};
+    ghost use Rattle.peer_conn.specs.Tickets.{wish_by, claim_wish, fill_wish};
+    ghost use Rattle.peer_conn.specs.Connects.{allows};
+    ghost use Rattle.peer_conn.specs.Responses.{PutsReplies};
+    ghost use Rattle.peer_conn.specs.WriterSides.{AnswersTickets, AnswersLeft, MakesGood};
+
+    /// Takes tickets until no more are put, and puts their replies.
+    pub(crate) fn run<L: Ledger, H: Wait>(&mut self, rt: &H, pool: &Pool<S, L>, signal: &Signal)
+        ensures { AnswersTickets (allows S.allowed) self.old self.new }
+    {
+        for _ in rt.forever() {
+            let Some(ticket) = self.next_ticket(rt, signal) else {
+                return;
+            };
+            self.put(rt, pool, ticket);
+            self.tell(signal);
+        }
+        unreachable!()
+    }
+
+    /// Puts the replies of the tickets that are left, once both ends are at hand, and writes what is buffered.
+    pub(crate) fn write_left<L: Ledger, H: Wait>(
+        &mut self,
+        rt: &H,
+        pool: &Pool<S, L>,
+        put: &mut LaneIn<S>,
+    )
+        requires { IsLane put.old self.old.lane }
+        ensures left { AnswersLeft (allows S.allowed) put.old self.old self.new }
+        ensures empty { self.new.responses.out.buffered.items ≡ [] }
+    {
+        let left = beside(put, &mut self.lane);
+        for _ in 0..left {
+            let ticket = self.lane.take_known();
+            self.put(rt, pool, ticket);
+        }
+        self.responses.flush();
+    }
+
+    // The next ticket. Before a wait for one, what is buffered is written.
+    fn next_ticket<H: Wait>(&mut self, rt: &H, signal: &Signal) -> Option<Ticket<S>>
+        ensures lane { IsSameOut self.old.lane self.new.lane }
+        ensures taken { IfSome result (λ t. tickets_taken self.new.lane ≡ tickets_taken self.old.lane ++ t ∷ []) }
+        ensures kept { IfNone result (tickets_taken self.new.lane ≡ tickets_taken self.old.lane) }
+        ensures replies { PutsReplies (allows S.allowed) self.old.responses self.new.responses [] }
+        ensures strangers { self.new.strangers ≡ self.old.strangers }
+    {
+        if let Some(ticket) = self.lane.take() {
+            signal.notify();
+            return Some(ticket);
+        }
+        self.responses.flush();
+        self.tell(signal);
+        self.lane.take_waiting(rt, signal)
+    }
+
+    // Tells the reader to stop, where no more replies are put.
+    fn tell(&self, signal: &Signal) {
+        if !self.responses.is_active() {
+            signal.stop();
+        }
+    }
+
+    // Puts the reply of a ticket, and lets the ticket go.
+    fn put<L: Ledger, H: Wait>(&mut self, rt: &H, pool: &Pool<S, L>, ticket: Ticket<S>)
+        ensures replies { PutsReplies (allows S.allowed) self.old.responses self.new.responses (wish_by ticket ∷ []) }
+        ensures lane { self.new.lane ≡ self.old.lane }
+        ensures strangers { MakesGood self.old.strangers self.new.strangers }
+    {
+        match &ticket.body {
+            Body::Fault(fault) => self.responses.put_fault(fault, ticket.closing, ticket.bare),
+            Body::Claim(claim) => self.put_claim(rt, pool, claim, ticket.closing, ticket.bare),
+        }
+    }
+
+    // Puts the reply of a claim. Before a wait for its fill, what is buffered is written; where that fails, there is no
+    // wait.
+    fn put_claim<L: Ledger, H: Wait>(
+        &mut self,
+        rt: &H,
+        pool: &Pool<S, L>,
+        claim: &Claim<S>,
+        closing: bool,
+        bare: bool,
+    )
+        ensures replies { PutsReplies (allows S.allowed) self.old.responses self.new.responses (claim_wish claim.now closing bare ∷ []) }
+        ensures lane { self.new.lane ≡ self.old.lane }
+        ensures strangers { MakesGood self.old.strangers self.new.strangers }
+    {
+        if !self.responses.is_active() {
+            return;
+        }
+        let mut note = claim.note();
+        if let Some(fill) = claim.look(&mut note) {
+            return self.put_filled(pool, claim, fill, closing, bare);
+        }
+        self.responses.flush();
+        if self.responses.is_active() {
+            let fill = pool.wait_for(rt, claim);
+            self.put_filled(pool, claim, fill, closing, bare);
+        }
+    }
+
+    // Puts the reply of a claim whose fill came. A fill of another place than the claim's is not written.
+    fn put_filled<L: Ledger>(
+        &mut self,
+        pool: &Pool<S, L>,
+        claim: &Claim<S>,
+        fill: &Fill<S>,
+        closing: bool,
+        bare: bool,
+    )
+        ensures replies { PutsReplies (allows S.allowed) self.old.responses self.new.responses (claim_wish claim.now closing bare ∷ []) }
+        ensures lane { self.new.lane ≡ self.old.lane }
+        ensures strangers { MakesGood self.old.strangers self.new.strangers }
+    {
+        match pool.refill(self.alloc, claim, fill) {
+            Ok(None) => self.put_fill(fill, closing, bare),
+            Ok(Some(own)) => {
+                self.strangers = self.strangers.saturating_add(1);
+                self.put_fill(&own, closing, bare)
+            }
+            Err(_) => self.responses.refuse(),
+        }
+    }
+
+    // Puts the reply of a fill.
+    fn put_fill(&mut self, fill: &Fill<S>, closing: bool, bare: bool)
+        ensures replies { PutsReplies (allows S.allowed) self.old.responses self.new.responses (fill_wish fill.now closing bare ∷ []) }
+        ensures lane { self.new.lane ≡ self.old.lane }
+        ensures strangers { self.new.strangers ≡ self.old.strangers }
+    {
+        fill.law();
+        self.responses.put_fill(fill, closing, bare);
+    }
+}

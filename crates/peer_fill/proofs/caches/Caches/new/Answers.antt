@@ -1,0 +1,14 @@
+use Rattle.std.proofs.Common.{◌≡◌, ◌+◌, length, ap, sym, ◌∙◌, arith, rules}
+use Rattle.std.proofs.lemmas.List.{length_push}
+use Rattle.peer_source.specs.Caches.{Cache}
+use Rattle.peer_fill.proofs.Placing.{in_place_push}
+use Rattle.peer_fill.proofs.caches.Caches.new.Goals as goal
+
+pub loop-number-preserved : goal.loop-number-preserved
+loop-number-preserved g c =
+    let items = c.in_ok-push.ensures.items in
+    let i = c.loop-number.invariant in
+    record {
+      len = omega (arith, ap length items, length_push c.loop-number.each.items c.in_ok-new.field-0, i.len);
+      in_place = rw items (in_place_push _ _ i.in_place (ap (λ (x : Cache). x.group) c.in_ok-new.ensures ∙ sym i.len));
+    }

@@ -1,0 +1,9 @@
+use Rattle.std.specs.Prelude.{◌≡◌, length}
+use Rattle.peer_fill.specs.Caches.{EachInPlace}
+use Rattle.peer_fill.proofs.caches.Caches.new.Given as goal
+
+abbrev pub invariant-loop-number : goal.invariant-loop-number
+invariant-loop-number g l = record {
+  len : length l.each.items ≡ l.number;
+  in_place : EachInPlace l.each.items;
+}

@@ -1,0 +1,13 @@
+-- What a pool's caches keep, and what they give.
+use Rattle.std.specs.Prelude.{◌≡◌, ℕ, List, slice_get}
+use Rattle.std.specs.Option.{ForSome}
+use Rattle.peer_source.specs.Answers.{Filled}
+use Rattle.peer_source.specs.Caches.{Cache, found_fill}
+
+-- the cache in each place is that of the group with this number
+abbrev pub EachInPlace : List Cache → Type 0
+EachInPlace caches = (i : ℕ) → ForSome (slice_get caches i) (λ c. c.group ≡ i)
+
+-- it is the fill of a value that was found for this group and key
+abbrev pub IsFoundFor : ℕ → List ℕ → Filled → Type 0
+IsFoundFor group key fill = (value : List ℕ) × (fill ≡ found_fill group key value)

@@ -1,0 +1,49 @@
+//! The main caches of a pool as it locks them: one for each group of its source.
+ghost use Rattle.std.specs.Prelude.{IfOk, IfSome};
+ghost use Rattle.peer_fill.specs.Caches.{IsFoundFor, EachInPlace};
+
+use peer_source::{Evicted, Fill, GroupId, MainCache, Source};
+use peer_view::ByteView;
+use std::alloc::{AllocError, Global};
+use std::hash::RandomState;
+
+/// The caches, each in the place of its group's number.
+#[derive(Drop)]
+pub struct Caches<S: Source> {
+    each: Vec<MainCache<S>>,
+    ghost in_place: { EachInPlace each.items },
+}
+
+impl<S: Source> Caches<S> {
+    /// So many caches without entries, each of which keeps at most so many bytes.
+    pub fn new(
+        alloc: Global,
+        count: usize,
+        limit: u64,
+        seed: RandomState,
+    ) -> Result<Caches<S>, AllocError> {
+        let mut each = Vec::new(alloc);
+        for number in 0..count {
+            each.push(MainCache::new(alloc, GroupId { number }, limit, seed)?)?;
+        }
+        Ok(Caches { each })
+    }
+
+    /// The fill of the value that is kept for the group and the key. A group without a cache has none.
+    pub fn get(&mut self, group: GroupId, key: &ByteView) -> Result<Option<Fill<S>>, AllocError>
+        ensures { IfOk result (λ found. IfSome found (IsFoundFor group.number key.now)) }
+    {
+        let Some(cache) = self.each.get_mut(group.number) else {
+            return Ok(None);
+        };
+        cache.get(key)
+    }
+
+    /// Keeps a value that was found, in the cache of its group.
+    pub fn add(&mut self, fill: &Fill<S>, evicted: &mut Evicted) -> Result<(), AllocError> {
+        let Some(cache) = self.each.get_mut(fill.group().number) else {
+            return Ok(());
+        };
+        cache.add(fill, evicted)
+    }
+}

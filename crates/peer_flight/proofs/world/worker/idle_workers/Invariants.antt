@@ -1,6 +1,0 @@
-use Rattle.std.proofs.Common.{◌≡◌, replicate}
-use Rattle.peer_flight.specs.World.{Idle}
-use Rattle.peer_flight.proofs.world.worker.idle_workers.Given as goal
-
-abbrev pub invariant-loop-made : goal.invariant-loop-made
-invariant-loop-made l = l.workers.items ≡ replicate l._made Idle

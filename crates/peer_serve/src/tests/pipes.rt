@@ -1,0 +1,67 @@
+//! One connection.
+ghost use Rattle.std.specs.Prelude.{◌≡◌, IfOk};
+
+use crate::exit::exit_of;
+use crate::pipe::peer_pipe;
+use peer_conn::End;
+use peer_view::{MemReader, MemWriter};
+use std::alloc::{AllocError, Global};
+use std::test::Fail;
+
+// What Go's own client sends for the key `k` of the group `echo`.
+const GO_REQUEST: &[u8] =
+    b"GET /_groupcache/echo/k HTTP/1.1\r\nHost: 10.0.0.2:8000\r\nUser-Agent: Go-http-client/1.1\r\nAccept-Encoding: gzip\r\n\r\n";
+
+// The reply with the value `k`.
+const REPLY_K: &[u8] =
+    b"HTTP/1.1 200 OK\r\nContent-Type: application/x-protobuf\r\nContent-Length: 3\r\n\r\n\x0A\x01k";
+
+// A reader that gives these bytes in one piece, and then tells its end.
+fn reader_of(alloc: Global, bytes: &[u8]) -> Result<MemReader, AllocError>
+    ensures { IfOk result (λ r. r.calls ≡ 0) }
+{
+    let mut pieces = Vec::new(alloc);
+    pieces.push(bytes.to_vec(alloc)?)?;
+    Ok(MemReader::new(pieces, false))
+}
+
+#[test]
+fn answers_what_go_sends(rt: HostRuntime) -> Result<(), Fail> {
+    let alloc = rt.alloc();
+    let served = peer_pipe(
+        alloc,
+        reader_of(alloc, GO_REQUEST)?,
+        MemWriter::new(alloc, 4096, None),
+    );
+    assert_eq!(rt; served.end, End::Clean);
+    assert_eq!(rt; served.writer.taken(), REPLY_K);
+    Ok(())
+}
+
+#[test]
+fn fails_where_the_writer_fails(rt: HostRuntime) -> Result<(), Fail> {
+    let alloc = rt.alloc();
+    let served = peer_pipe(
+        alloc,
+        reader_of(alloc, GO_REQUEST)?,
+        MemWriter::new(alloc, 4096, Some(10)),
+    );
+    assert_eq!(rt; served.end, End::WriteFault);
+    assert_eq!(rt; served.writer.taken(), b"HTTP/1.1 2".as_slice());
+    Ok(())
+}
+
+#[test]
+fn tells_each_end(rt: HostRuntime) {
+    for (end, exit) in [
+        (End::Clean, (0, "")),
+        (End::Cut, (2, "peer_serve: input ended inside a head")),
+        (End::ReadFault, (3, "peer_serve: read failed")),
+        (End::WriteFault, (4, "peer_serve: write failed")),
+        (End::Memory, (5, "peer_serve: out of memory")),
+        (End::Worn, (5, "peer_serve: out of memory")),
+        (End::Spent, (6, "peer_serve: too many reads")),
+    ] {
+        assert_eq!(rt; exit_of(&end), exit);
+    }
+}

@@ -1,0 +1,115 @@
+//! The connections that one thread serves, one after the other.
+ghost use Rattle.std.specs.Prelude.{◌≡◌};
+ghost use Rattle.peer_fill.specs.Pools.{IsConnSeatOf};
+ghost use Rattle.peer_fill.specs.Seats.{conn_parts};
+
+use crate::client::Client;
+use crate::limits::Limits;
+use crate::occupancy::Occupancy;
+use crate::start::Start;
+use crate::stream::serve_client;
+use peer_fill::{ConnSeat, Pool};
+use peer_source::Source;
+use std::alloc::Global;
+use std::net::{TcpListener, TcpStream};
+use std::sync::Wait;
+use std::sync::ledger::Ledger;
+use std::thread;
+use std::thread::Threads;
+use std::time::Clock;
+
+/// Where the threads of a server find their clients.
+#[derive(Drop)]
+pub struct Acceptor<'a> {
+    pub listener: &'a TcpListener,
+    pub limits: &'a Limits,
+    pub start: Start,
+    pub occupancy: Occupancy,
+    /// How many connections each thread accepts.
+    pub rounds: u64,
+}
+
+impl<'a> Acceptor<'a> {
+    /// An acceptor for so many seats, whose threads wait for their start.
+    pub fn new(
+        listener: &'a TcpListener,
+        limits: &'a Limits,
+        seats: u64,
+        rounds: u64,
+    ) -> Acceptor<'a> {
+        Acceptor {
+            listener,
+            limits,
+            start: Start::new(),
+            occupancy: Occupancy::new(seats),
+            rounds,
+        }
+    }
+}
+
+// Serves one stream. One that refuses its options is let go.
+fn serve_stream<S: Source, L: Ledger + Send + Sync, H: Threads + Wait + Clock + Sync>(
+    rt: &H,
+    alloc: Global,
+    pool: &Pool<S, L>,
+    seat: ConnSeat<S, L>,
+    acceptor: &Acceptor<'_>,
+    stream: &TcpStream,
+) -> ConnSeat<S, L>
+    requires { IsConnSeatOf pool.now seat }
+    ensures seat { IsConnSeatOf pool.now result }
+    ensures parts { conn_parts result ≡ conn_parts seat }
+{
+    match Client::new(rt, stream, acceptor.limits, &acceptor.occupancy) {
+        Some(client) => serve_client(rt, alloc, pool, seat, &client),
+        None => seat,
+    }
+}
+
+// Accepts one connection and serves it. An accept that fails is over after a pause.
+fn serve_next<S: Source, L: Ledger + Send + Sync, H: Threads + Wait + Clock + Sync>(
+    rt: &H,
+    alloc: Global,
+    pool: &Pool<S, L>,
+    seat: ConnSeat<S, L>,
+    acceptor: &Acceptor<'_>,
+) -> ConnSeat<S, L>
+    requires { IsConnSeatOf pool.now seat }
+    ensures seat { IsConnSeatOf pool.now result }
+    ensures parts { conn_parts result ≡ conn_parts seat }
+{
+    match acceptor.listener.accept() {
+        Ok((stream, _)) => {
+            acceptor.occupancy.enter();
+            let seat = serve_stream(rt, alloc, pool, seat, acceptor, &stream);
+            acceptor.occupancy.leave();
+            seat
+        }
+        Err(_) => {
+            thread::sleep(rt, acceptor.limits.pause);
+            seat
+        }
+    }
+}
+
+/// Accepts and serves all rounds, once all threads have been started. After them the seat counts as taken.
+pub fn serve_rounds<S: Source, L: Ledger + Send + Sync, H: Threads + Wait + Clock + Sync>(
+    rt: &H,
+    alloc: Global,
+    pool: &Pool<S, L>,
+    seat: ConnSeat<S, L>,
+    acceptor: &Acceptor<'_>,
+) -> ConnSeat<S, L>
+    requires { IsConnSeatOf pool.now seat }
+    ensures seat { IsConnSeatOf pool.now result }
+    ensures parts { conn_parts result ≡ conn_parts seat }
+{
+    let mut seat = seat;
+    if acceptor.start.wait(rt) {
+        for _ in 0..acceptor.rounds {
+            seat = serve_next(rt, alloc, pool, seat, acceptor);
+        }
+    }
+    acceptor.occupancy.enter();
+    seat
+}

@@ -1,0 +1,155 @@
+//! What a client sends, as a reader that gives up a client which is silent or slow.
+ghost use Rattle.std.specs.Prelude.{◌≡◌, ℕ, ◌+◌, ◌-◌, ◌^◌, ◌<◌, ◌≤◌, length, None, IfSome, IfOk};
+ghost use Rattle.std.specs.Io.KnownBytes.{Appends};
+ghost use Rattle.peer_view.specs.Moves.{moved, failure_count, end_count};
+
+use crate::client::{Client, is_timeout};
+use peer_view::{PeerRead, ReadFailed};
+use std::io::Read;
+use std::time::{Clock, Instant};
+
+// Bytes came from that time on, and nothing was written since: there were so many writes.
+#[derive(Clone, Copy)]
+struct Unanswered {
+    since: Instant,
+    writes: u64,
+}
+
+// What is known of the bytes of a client.
+#[derive(Drop)]
+struct Input<'a, H> {
+    client: &'a Client<'a, H>,
+    unanswered: Option<Unanswered>,
+}
+
+impl<'a, H: Clock> Input<'a, H> {
+    // Whether the client is to be given up for sending so long without a reply.
+    fn is_slow(&self) -> bool {
+        match self.unanswered {
+            Some(Unanswered { since, writes }) if writes == self.client.writes() => {
+                match self.client.since(since) {
+                    Some(time) => time >= self.client.limits().request_when_full,
+                    None => true,
+                }
+            }
+            _ => false,
+        }
+    }
+
+    // Whether the client is to be given up for sending nothing since then.
+    fn is_silent(&self, begun: Instant) -> bool {
+        let limits = self.client.limits();
+        match self.client.since(begun) {
+            Some(time) => {
+                time >= limits.silence
+                    || self.client.is_crowded() && time >= limits.silence_when_full
+            }
+            None => true,
+        }
+    }
+
+    // Bytes came.
+    fn note_bytes(&mut self) {
+        let writes = self.client.writes();
+        match self.unanswered {
+            Some(unanswered) if unanswered.writes == writes => {}
+            _ => {
+                self.unanswered = match self.client.now() {
+                    Some(since) => Some(Unanswered { since, writes }),
+                    None => None,
+                };
+            }
+        }
+    }
+
+    // The bytes that come next, or none where the stream failed or the client was given up.
+    fn receive(&mut self, room: &mut [u8]) -> Option<usize>
+        ensures { IfSome result (λ n. n ≤ length room.new) }
+    {
+        let begun = self.client.now()?;
+        let mut stream = self.client.stream();
+        for _ in 0..u64::MAX {
+            if self.client.is_crowded() && self.is_slow() {
+                return None;
+            }
+            match stream.read(room) {
+                Ok(n) => {
+                    self.note_bytes();
+                    return Some(n);
+                }
+                Err(error) if is_timeout(&error) && !self.is_silent(begun) => {}
+                Err(_) => return None,
+            }
+        }
+        None
+    }
+}
+
+/// A reader of what a client sends.
+#[derive(Drop)]
+pub struct ClientReader<'a, H> {
+    input: Input<'a, H>,
+    calls: u64,
+    ends: u64,
+    failures: u64,
+    ghost ends_counted: { ends ≤ calls },
+    ghost failures_counted: { failures ≤ calls },
+}
+
+impl<'a, H: Clock> ClientReader<'a, H> {
+    /// A reader that was not called yet.
+    pub fn new(client: &'a Client<'a, H>) -> ClientReader<'a, H>
+        ensures calls { result.calls ≡ 0 }
+        ensures ends { result.ends ≡ 0 }
+        ensures failures { result.failures ≡ 0 }
+    {
+        ClientReader {
+            input: Input {
+                client,
+                unanswered: None,
+            },
+            calls: 0,
+            ends: 0,
+            failures: 0,
+        }
+    }
+
+    /// Whether the client told its end.
+    pub fn has_ended(&self) -> bool {
+        self.ends > 0
+    }
+}
+
+impl<'a, H: Clock> PeerRead for ClientReader<'a, H> {
+    ghost given = { λ r. None };
+
+    ghost calls = { λ r. r.calls };
+
+    ghost ends = { λ r. r.ends };
+
+    ghost failures = { λ r. r.failures };
+
+    /// Waits for bytes as long as the client may be silent.
+    fn read(&mut self, room: &mut [u8]) -> Result<usize, ReadFailed>
+        requires { self.old.calls < 2 ^ 64 - 1 }
+        ensures bound { IfOk result (λ n. n ≤ length room.new) }
+        ensures bytes { Appends None None (moved result room.new) }
+        ensures called { self.new.calls ≡ self.old.calls + 1 }
+        ensures end_told { self.new.ends ≡ self.old.ends + end_count result room.new }
+        ensures failed { self.new.failures ≡ self.old.failures + failure_count result }
+    {
+        self.calls += 1;
+        match self.input.receive(room) {
+            Some(n) => {
+                if n == 0 && !room.is_empty() {
+                    self.ends += 1;
+                }
+                Ok(n)
+            }
+            None => {
+                self.failures += 1;
+                Err(ReadFailed)
+            }
+        }
+    }
+}

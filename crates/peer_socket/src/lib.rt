@@ -1,0 +1,23 @@
+//! The peer server on a socket: workers fill, and each seat serves one connection after the other in a thread of its own.
+//!
+//! It stands on the pool of `peer_fill`, the connections of `peer_conn` and the sockets of std. It promises that a
+//! server which ends gives the report of its pool, which adds up. What a socket carried, and how long a call waited, no
+//! contract can say.
+#![tactic(auto)]
+
+mod acceptor;
+mod client;
+mod client_reader;
+mod client_writer;
+mod closing;
+mod limits;
+mod occupancy;
+mod server;
+mod start;
+mod stream;
+#[cfg(test)]
+mod tests;
+mod threads;
+
+pub use limits::Limits;
+pub use server::{ServerFault, Settings, peer_server, serve_within};

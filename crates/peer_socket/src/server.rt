@@ -1,0 +1,144 @@
+//! The peer server on a socket.
+ghost use Rattle.std.specs.Prelude.{◌≡◌, ◌+◌, ◌↔◌, IfOk, IsErrOf};
+ghost use Rattle.peer_fill.specs.Opens.{IsOutside, IsWithin};
+
+use crate::acceptor::Acceptor;
+use crate::limits::Limits;
+use crate::threads::{Seats, use_seats};
+use peer_fill::{OpenFault, Opened, Pool, Report};
+use peer_source::Source;
+use std::alloc::Global;
+use std::hash::RandomState;
+use std::marker::Brand;
+use std::net::TcpListener;
+use std::sync::Wait;
+use std::sync::ledger::{Blank, Ledger};
+use std::thread::Threads;
+use std::time::Clock;
+use thiserror::Error;
+
+/// Why a server ended without a report.
+#[derive(Debug, Drop, Error)]
+pub enum ServerFault {
+    /// The pool could not be opened.
+    #[error("no pool: {0}")]
+    Open(OpenFault),
+    /// Memory or a thread was refused. No connection was accepted.
+    #[error("out of memory")]
+    Memory,
+}
+
+/// How a server serves.
+#[derive(Clone, Copy, Debug)]
+pub struct Settings {
+    /// How many threads call the source, from 1 to 16.
+    pub workers: usize,
+    /// How many connections are served at one moment, from 1 to 16.
+    pub conns: usize,
+    /// How many connections each seat serves, one after the other.
+    pub rounds: u64,
+    /// How many bytes of keys and values the cache of each group keeps at most.
+    pub cache_bytes: u64,
+    /// The seed of the caches' maps.
+    pub seed: RandomState,
+    /// How long clients are waited for.
+    pub limits: Limits,
+}
+
+// Opens a pool, serves, and closes it.
+fn over_pool<S: Source, L: Ledger + Send + Sync, H: Threads + Wait + Clock + Sync>(
+    rt: &H,
+    alloc: Global,
+    source: S,
+    listener: &TcpListener,
+    settings: &Settings,
+    blank: Blank,
+) -> Result<Report, ServerFault>
+    requires name { blank.name ≡ L.name }
+    requires parts { (blank.parts ≡ L.parts) × (blank.parts ≡ 16) }
+    ensures workers { IsErrOf result (ServerFault.Open OpenFault.Workers) ↔ IsOutside 16 settings.now.workers }
+    ensures conns { IsErrOf result (ServerFault.Open OpenFault.Conns)
+        ↔ (IsWithin 16 settings.now.workers × IsOutside 16 settings.now.conns) }
+    ensures groups { IsErrOf result (ServerFault.Open OpenFault.Groups)
+        ↔ (IsWithin 16 settings.now.workers × IsWithin 16 settings.now.conns × IsOutside 64 (S.count source)) }
+    ensures each_ask { IfOk result (λ report. report.asked ≡ report.hits + report.led + report.joined) }
+    ensures each_flight { IfOk result (λ report. report.led ≡ report.calls + report.rehits + report.left) }
+{
+    let opened = match Pool::<S, L>::open(
+        alloc,
+        source,
+        settings.cache_bytes,
+        settings.seed,
+        settings.workers,
+        settings.conns,
+        blank,
+    ) {
+        Ok(opened) => opened,
+        Err(fault) => return Err(ServerFault::Open(fault)),
+    };
+    let Opened { pool, fills, conns } = opened;
+    let acceptor = Acceptor::new(
+        listener,
+        &settings.limits,
+        settings.conns as u64,
+        settings.rounds,
+    );
+    let Some(Seats { fills, conns }) = use_seats(rt, alloc, &pool, fills, conns, &acceptor) else {
+        return Err(ServerFault::Memory);
+    };
+    match pool.close(rt, fills, conns) {
+        Ok(report) => Ok(report),
+        Err(_) => unreachable!(),
+    }
+}
+
+/// `peer_server` with settings of one's own.
+pub fn serve_within<S: Source, H: Threads + Wait + Clock + Sync>(
+    rt: &H,
+    alloc: Global,
+    source: S,
+    listener: TcpListener,
+    settings: &Settings,
+) -> Result<Report, ServerFault>
+    ensures workers { IsErrOf result (ServerFault.Open OpenFault.Workers) ↔ IsOutside 16 settings.now.workers }
+    ensures conns { IsErrOf result (ServerFault.Open OpenFault.Conns)
+        ↔ (IsWithin 16 settings.now.workers × IsOutside 16 settings.now.conns) }
+    ensures groups { IsErrOf result (ServerFault.Open OpenFault.Groups)
+        ↔ (IsWithin 16 settings.now.workers × IsWithin 16 settings.now.conns × IsOutside 64 (S.count source)) }
+    ensures each_ask { IfOk result (λ report. report.asked ≡ report.hits + report.led + report.joined) }
+    ensures each_flight { IfOk result (λ report. report.led ≡ report.calls + report.rehits + report.left) }
+{
+    over_pool::<S, Brand, H>(rt, alloc, source, &listener, settings, Blank::new(16))
+}
+
+/// Serves `rounds` connections on each of `conns` threads, with so many workers that call the source, and gives the
+/// pool's report once all have ended. The cache of each group keeps at most `cache_bytes` bytes. An accept that fails, or a stream that refuses its options, uses up a round.
+pub fn peer_server<S: Source, H: Threads + Wait + Clock + Sync>(
+    rt: &H,
+    alloc: Global,
+    source: S,
+    listener: TcpListener,
+    workers: usize,
+    conns: usize,
+    rounds: u64,
+    cache_bytes: u64,
+    seed: RandomState,
+) -> Result<Report, ServerFault>
+    ensures workers { IsErrOf result (ServerFault.Open OpenFault.Workers) ↔ IsOutside 16 workers }
+    ensures conns { IsErrOf result (ServerFault.Open OpenFault.Conns)
+        ↔ (IsWithin 16 workers × IsOutside 16 conns) }
+    ensures groups { IsErrOf result (ServerFault.Open OpenFault.Groups)
+        ↔ (IsWithin 16 workers × IsWithin 16 conns × IsOutside 64 (S.count source)) }
+    ensures each_ask { IfOk result (λ report. report.asked ≡ report.hits + report.led + report.joined) }
+    ensures each_flight { IfOk result (λ report. report.led ≡ report.calls + report.rehits + report.left) }
+{
+    let settings = Settings {
+        workers,
+        conns,
+        rounds,
+        cache_bytes,
+        seed,
+        limits: Limits::usual(),
+    };
+    serve_within(rt, alloc, source, listener, &settings)
+}

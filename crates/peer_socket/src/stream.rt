@@ -1,0 +1,44 @@
+//! The serving of one stream.
+ghost use Rattle.std.specs.Prelude.{◌≡◌};
+ghost use Rattle.peer_fill.specs.Pools.{IsConnSeatOf};
+ghost use Rattle.peer_fill.specs.Seats.{conn_parts};
+
+use crate::client::Client;
+use crate::client_reader::ClientReader;
+use crate::client_writer::ClientWriter;
+use crate::closing::linger;
+use crate::limits::READS;
+use peer_conn::{End, Served, serve_connection};
+use peer_fill::{ConnSeat, Pool};
+use peer_source::Source;
+use std::alloc::Global;
+use std::sync::Wait;
+use std::sync::ledger::Ledger;
+use std::thread::Threads;
+use std::time::Clock;
+
+// Whether a closing reply was written: it is what ended the connection, and not the client.
+fn is_closed_by_reply<H: Clock>(served: &Served<ClientReader<'_, H>, ClientWriter<'_, H>>) -> bool {
+    served.end == End::Clean && !served.reader.has_ended()
+}
+
+/// Serves a client until its connection ends. The stream can be closed then.
+pub fn serve_client<S: Source, L: Ledger + Send + Sync, H: Threads + Wait + Clock + Sync>(
+    rt: &H,
+    alloc: Global,
+    pool: &Pool<S, L>,
+    seat: ConnSeat<S, L>,
+    client: &Client<'_, H>,
+) -> ConnSeat<S, L>
+    requires { IsConnSeatOf pool.now seat }
+    ensures seat { IsConnSeatOf pool.now result }
+    ensures parts { conn_parts result ≡ conn_parts seat }
+{
+    let reader = ClientReader::new(client);
+    let writer = ClientWriter::new(client);
+    let (served, seat) = serve_connection(rt, alloc, pool, seat, reader, writer, READS);
+    if is_closed_by_reply(&served) {
+        linger(client);
+    }
+    seat
+}

@@ -1,0 +1,148 @@
+//! Texts by chance, and a plain model of tables: a list of lines, searched from the front.
+use super::{fault_of, has, read};
+use crate::{TableFault, TableSource};
+use peer_source::{Names, Source};
+use std::alloc::{AllocError, Global};
+use std::process::Abort;
+use std::test::Fail;
+
+// What fields are made of, and what stands now and then in the place of a separator.
+const LETTERS: &[u8] = b"ab\r\xFF";
+
+const SEPARATORS: &[u8] = b"\t\na";
+
+// The next number of a generator.
+fn next(state: &mut u64) -> usize {
+    *state = state
+        .wrapping_mul(6_364_136_223_846_793_005)
+        .wrapping_add(1_442_695_040_888_963_407);
+    (*state >> 33) as usize
+}
+
+// Adds one of these bytes.
+fn add_one(text: &mut Vec<u8>, state: &mut u64, bytes: &[u8]) -> Result<(), AllocError> {
+    if bytes.is_empty() {
+        return Ok(());
+    }
+    text.push(bytes[next(state) % bytes.len()])?;
+    Ok(())
+}
+
+// Adds a field of at most two bytes, and mostly its separator.
+fn add_field(text: &mut Vec<u8>, state: &mut u64, separator: u8) -> Result<(), AllocError> {
+    for _ in 0..next(state) % 3 {
+        add_one(text, state, LETTERS)?;
+    }
+    if next(state) % 40 == 0 {
+        return add_one(text, state, SEPARATORS);
+    }
+    text.push(separator)?;
+    Ok(())
+}
+
+// A text of at most five lines, some of them bad.
+fn text_of(alloc: Global, state: &mut u64) -> Result<Vec<u8>, AllocError> {
+    let mut text = Vec::new(alloc);
+    for _ in 0..next(state) % 6 {
+        add_field(&mut text, state, b'\t')?;
+        add_field(&mut text, state, b'\t')?;
+        add_field(&mut text, state, b'\n')?;
+    }
+    Ok(text)
+}
+
+// A line of the model.
+#[derive(Clone, Copy)]
+struct Line<'a> {
+    group: &'a [u8],
+    key: &'a [u8],
+    value: &'a [u8],
+}
+
+// The three fields of a line.
+fn line_of(line: &[u8]) -> Option<Line<'_>> {
+    let mut fields = line.split(|byte| *byte == b'\t');
+    let found = Line {
+        group: fields.next()?,
+        key: fields.next()?,
+        value: fields.next()?,
+    };
+    match fields.next() {
+        Some(_) => None,
+        None => Some(found),
+    }
+}
+
+// The lines of a text, or the number of its first bad one, and whether it repeats another.
+fn lines_of(alloc: Global, text: &[u8]) -> Result<Result<Vec<Line<'_>>, TableFault>, AllocError> {
+    let mut lines: Vec<Line<'_>> = Vec::new(alloc);
+    let mut number: usize = 0;
+    for line in text.split_inclusive(|byte| *byte == b'\n') {
+        number = number.saturating_add(1);
+        let Some(line) = line.strip_suffix(b"\n") else {
+            return Ok(Err(TableFault::Line(number)));
+        };
+        let Some(line) = line_of(line) else {
+            return Ok(Err(TableFault::Line(number)));
+        };
+        if lines
+            .iter()
+            .any(|seen| seen.group == line.group && seen.key == line.key)
+        {
+            return Ok(Err(TableFault::Repeated(number)));
+        }
+        lines.push(line)?;
+    }
+    if number == 0 {
+        return Ok(Err(TableFault::Line(1)));
+    }
+    Ok(Ok(lines))
+}
+
+// Whether the numbers of the groups are those of their first appearance.
+fn are_numbered(table: &TableSource, lines: &[Line<'_>]) -> bool {
+    let mut count: usize = 0;
+    for (i, line) in lines.iter().enumerate() {
+        let Some(number) = Names::of(table).group(line.group) else {
+            return false;
+        };
+        let is_new = !lines[..i].iter().any(|seen| seen.group == line.group);
+        if number.number > count || is_new != (number.number == count) {
+            return false;
+        }
+        if is_new {
+            count = count.saturating_add(1);
+        }
+    }
+    table.group_count() == count
+}
+
+// Demands of a text what its lines say, or its fault.
+fn compare(rt: &impl Abort, alloc: Global, text: &[u8]) -> Result<(), Fail> {
+    let lines = match lines_of(alloc, text)? {
+        Ok(lines) => lines,
+        Err(fault) => {
+            assert_eq!(rt; fault_of(alloc, text)?, Some(fault));
+            return Ok(());
+        }
+    };
+    let Ok(table) = read(alloc, &[text], false, 1000)? else {
+        return Err(Fail::new("no table"));
+    };
+    assert!(rt; are_numbered(&table, &lines));
+    for line in &lines {
+        has(rt, alloc, &table, line.group, line.key, line.value, true)?;
+    }
+    Ok(())
+}
+
+#[test]
+fn answers_as_a_list_of_lines_does(rt: HostRuntime) -> Result<(), Fail> {
+    let alloc = rt.alloc();
+    let mut state = 7;
+    for _ in 0..1000 {
+        let text = text_of(alloc, &mut state)?;
+        compare(&rt, alloc, &text)?;
+    }
+    Ok(())
+}

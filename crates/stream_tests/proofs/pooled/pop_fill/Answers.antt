@@ -1,9 +1,0 @@
-use Rattle.peer_fill.specs.Pools.{IsFillSeatOf}
-use Rattle.peer_fill.proofs.Lasts.{of_last, of_front}
-use Rattle.stream_tests.proofs.pooled.pop_fill.Goals as goal
-
-pub returns-clause-seat : goal.returns-clause-seat
-returns-clause-seat g c = of_last (IsFillSeatOf c.args.pool.now) _ _ _ c.in_ok-seat.ensures.items c.requires
-
-pub returns-clause-rest : goal.returns-clause-rest
-returns-clause-rest g c = of_front (IsFillSeatOf c.args.pool.now) _ _ _ c.in_ok-seat.ensures.items c.requires

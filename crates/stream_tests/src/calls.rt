@@ -1,0 +1,151 @@
+//! How often a source is called under a connection, and when.
+ghost use Rattle.std.specs.Prelude.{Some};
+
+use crate::ordered::Holding;
+use crate::pooled::{Devices, Pooled, Setup, serve_pooled};
+use crate::runs::{READS, whole};
+use crate::sources::{Watch, Watched};
+use crate::steps::Step;
+use peer_conn::End;
+use peer_fill::{Gate, NoGate};
+use peer_view::{MemReader, MemWriter, PeerWrite, WriteFailed};
+use std::alloc::{AllocError, Global};
+use std::sync::Wait;
+use std::sync::atomic::Ordering::SeqCst;
+use std::test::Fail;
+use std::thread::Threads;
+
+const TWO: &[u8] =
+    b"GET /_groupcache/echo/a HTTP/1.1\r\nHost: h\r\n\r\nGET /_groupcache/echo/b HTTP/1.1\r\nHost: h\r\n\r\n";
+
+const TWO_REPLIES: &[u8] =
+    b"HTTP/1.1 200 OK\r\nContent-Type: application/x-protobuf\r\nContent-Length: 3\r\n\r\n\x0A\x01aHTTP/1.1 200 OK\r\nContent-Type: application/x-protobuf\r\nContent-Length: 3\r\n\r\n\x0A\x01b";
+
+// How often the source was called, how often the report says so, and how often the pool was asked.
+#[derive(Clone, Copy, Debug, PartialEq, Eq)]
+struct Counts {
+    called: u64,
+    calls: u64,
+    asked: u64,
+}
+
+// The counts of a connection that ended clean.
+fn counted<W: Drop>(watch: &Watch, run: Option<Pooled<MemReader, W>>) -> Option<Counts> {
+    let run = run?;
+    match run.served.end {
+        End::Clean => Some(Counts {
+            called: watch.calls.load(SeqCst),
+            calls: run.report.calls,
+            asked: run.report.asked,
+        }),
+        _ => None,
+    }
+}
+
+// The counts of a text in one piece over two workers.
+fn counts_of<G: Gate, H: Threads + Wait + Sync>(
+    rt: &H,
+    alloc: Global,
+    gate: &G,
+    cache_bytes: u64,
+    text: &[u8],
+) -> Result<Option<Counts>, AllocError> {
+    let watch = Watch::new();
+    let source = Watched {
+        watch: &watch,
+        patient: false,
+    };
+    let setup = Setup {
+        source,
+        cache_bytes,
+        workers: 2,
+        gate,
+    };
+    let devices = Devices {
+        reader: MemReader::new(whole(alloc, text)?, false),
+        writer: MemWriter::new(alloc, 65_536, None),
+        reads: READS,
+    };
+    Ok(counted(&watch, serve_pooled(rt, alloc, setup, devices)))
+}
+
+#[test]
+fn fills_in_the_other_order_are_each_called_for_once(rt: HostRuntime) -> Result<(), Fail> {
+    let gate = Holding { put: Step::new() };
+    let counts = counts_of(&rt, rt.alloc(), &gate, 0, TWO)?;
+    let expected = Counts {
+        called: 2,
+        calls: 2,
+        asked: 2,
+    };
+    assert_eq!(rt; counts, Some(expected));
+    Ok(())
+}
+
+// Whether the source was called as often as the report says, and less often than the pool was asked.
+fn is_shared(counts: Option<Counts>) -> [bool; 2] {
+    match counts {
+        Some(counts) => [counts.called == counts.calls, counts.calls < counts.asked],
+        None => [false; 2],
+    }
+}
+
+#[test]
+fn a_hot_key_is_called_for_as_the_report_says(rt: HostRuntime) -> Result<(), Fail> {
+    let mut text = Vec::new(rt.alloc());
+    for _ in 0..500 {
+        text.extend_from_slice(b"GET /_groupcache/echo/k HTTP/1.1\r\nHost: h\r\n\r\n")?;
+    }
+    for cache_bytes in [0, 1_048_576] {
+        let counts = counts_of(&rt, rt.alloc(), &NoGate, cache_bytes, &text)?;
+        assert_eq!(rt; is_shared(counts), [true; 2]);
+    }
+    Ok(())
+}
+
+// Tells of its first write.
+#[derive(Drop)]
+struct TellingWriter<'a> {
+    writer: MemWriter,
+    watch: &'a Watch,
+}
+
+impl<'a> PeerWrite for TellingWriter<'a> {
+    ghost taken = { λ w. Some w.writer.taken };
+
+    ghost failures = { λ w. w.writer.failures };
+
+    fn write(&mut self, bytes: &[u8]) -> Result<usize, WriteFailed> {
+        self.watch.first_reply.tell();
+        self.writer.write(bytes)
+    }
+}
+
+#[test]
+fn a_reply_is_written_before_a_later_fill_is_there(rt: HostRuntime) -> Result<(), Fail> {
+    let watch = Watch::new();
+    let setup = Setup {
+        source: Watched {
+            watch: &watch,
+            patient: true,
+        },
+        cache_bytes: 0,
+        workers: 1,
+        gate: &NoGate,
+    };
+    let devices = Devices {
+        reader: MemReader::new(whole(rt.alloc(), TWO)?, false),
+        writer: TellingWriter {
+            writer: MemWriter::new(rt.alloc(), 65_536, None),
+            watch: &watch,
+        },
+        reads: READS,
+    };
+    let run = serve_pooled(&rt, rt.alloc(), setup, devices);
+    let same = run.map(|run| run.served.writer.writer.taken() == TWO_REPLIES);
+    assert_eq!(rt;
+        (same, watch.first_reply.has_expired()),
+        (Some(true), false)
+    );
+    Ok(())
+}

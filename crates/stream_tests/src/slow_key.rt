@@ -1,0 +1,128 @@
+//! Two connections of one pool, served at the same moment, that wait for one slow key.
+ghost use Rattle.std.specs.Prelude.{◌≡◌};
+ghost use Rattle.peer_fill.specs.Pools.{IsConnSeatOf, IsFillSeatOf};
+
+use crate::pooled::seed;
+use crate::runs::{READS, whole};
+use peer_conn::{End, serve_connection};
+use peer_fill::{ConnSeat, FillSeat, Gate, Opened, Pool, pop_conn, pop_fill};
+use peer_source::{DemoSource, GroupId, Source};
+use peer_view::{MemReader, MemWriter};
+use std::alloc::Global;
+use std::hint::spin_loop;
+use std::marker::Brand;
+use std::sync::Wait;
+use std::sync::ledger::{Blank, Ledger};
+use std::test::Fail;
+use std::thread::{Threads, join};
+
+const REQUEST: &[u8] = b"GET /_groupcache/echo/k HTTP/1.1\r\nHost: h\r\n\r\n";
+
+const REPLY: &[u8] =
+    b"HTTP/1.1 200 OK\r\nContent-Type: application/x-protobuf\r\nContent-Length: 3\r\n\r\n\x0A\x01k";
+
+// Takes a while before each call, in which those who wait fall asleep.
+struct Slow;
+
+impl Gate for Slow {
+    fn before_call<R: Wait>(&self, _rt: &R, _group: GroupId, _key: &[u8]) {
+        for _ in 0..1_000_000 {
+            spin_loop();
+        }
+    }
+
+    fn after_put<R: Wait>(&self, _rt: &R, _group: GroupId, _key: &[u8]) {}
+}
+
+// Whether a connection gets the reply.
+fn is_answered<S: Source, L: Ledger + Send + Sync, H: Threads + Wait + Sync>(
+    rt: &H,
+    alloc: Global,
+    pool: &Pool<S, L>,
+    seat: ConnSeat<S, L>,
+) -> bool
+    requires { IsConnSeatOf pool.now seat }
+{
+    let Ok(pieces) = whole(alloc, REQUEST) else {
+        return false;
+    };
+    let reader = MemReader::new(pieces, false);
+    let writer = MemWriter::new(alloc, 4096, None);
+    let (served, _seat) = serve_connection(rt, alloc, pool, seat, reader, writer, READS);
+    served.end == End::Clean && served.writer.taken() == REPLY
+}
+
+// Whether two connections get the reply from one worker.
+fn are_answered<S: Source, L: Ledger + Send + Sync, H: Threads + Wait + Sync>(
+    rt: &H,
+    alloc: Global,
+    pool: &Pool<S, L>,
+    fill: FillSeat<S, L>,
+    one: ConnSeat<S, L>,
+    two: ConnSeat<S, L>,
+) -> (bool, bool)
+    requires fill { IsFillSeatOf pool.now fill }
+    requires one { IsConnSeatOf pool.now one }
+    requires two { IsConnSeatOf pool.now two }
+{
+    let (_seat, answered) = join(
+        rt,
+        move ||
+            requires { IsFillSeatOf pool.now fill }
+        { pool.run_worker(rt, alloc, fill, &Slow) },
+        move || -> (bool, bool)
+            requires one { IsConnSeatOf pool.now one }
+            requires two { IsConnSeatOf pool.now two }
+        {
+            let answered = join(
+                rt,
+                move || -> bool
+                    requires { IsConnSeatOf pool.now one }
+                { is_answered(rt, alloc, pool, one) },
+                move || -> bool
+                    requires { IsConnSeatOf pool.now two }
+                { is_answered(rt, alloc, pool, two) },
+            );
+            pool.stop();
+            answered
+        },
+    );
+    answered
+}
+
+// A pool of its own, and its two connections.
+fn round<L: Ledger + Send + Sync, H: Threads + Wait + Sync>(
+    rt: &H,
+    alloc: Global,
+    blank: Blank,
+) -> Option<(bool, bool)>
+    requires name { blank.name ≡ L.name }
+    requires parts { (blank.parts ≡ L.parts) × (blank.parts ≡ 16) }
+{
+    let opened = Pool::<DemoSource, L>::open(alloc, DemoSource, 0, seed()?, 1, 2, blank);
+    let Ok(
+        Opened {
+            pool,
+            mut fills,
+            mut conns,
+        },
+    ) = opened
+    else {
+        return None;
+    };
+    let fill = pop_fill(&pool, &mut fills)?;
+    let one = pop_conn(&pool, &mut conns)?;
+    let two = pop_conn(&pool, &mut conns)?;
+    Some(are_answered(rt, alloc, &pool, fill, one, two))
+}
+
+#[test]
+fn all_who_wait_for_a_slow_key_are_answered(rt: HostRuntime) -> Result<(), Fail> {
+    let mut all = true;
+    for _ in 0..20 {
+        let answered = round::<Brand, HostRuntime>(&rt, rt.alloc(), Blank::new(16));
+        all &= answered == Some((true, true));
+    }
+    assert!(rt; all);
+    Ok(())
+}
