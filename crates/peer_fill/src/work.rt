@@ -29,10 +29,10 @@ pub(crate) enum Made<S: Source> {
     Rehit(Fill<S>),
 }
 
-// How many entries that leave a cache are let go after its lock.
-const MAX_EVICTED: usize = 64;
+// The most entries that one addition evicts.
+const MAX_EVICTED: usize = 4096;
 
-// Room for them, none where memory is refused.
+// Room for them, none where memory is refused: then they are let go under the lock.
 fn room_for_evicted(alloc: Global) -> Evicted {
     match Vec::with_capacity(alloc, MAX_EVICTED) {
         Ok(evicted) => evicted,

@@ -7,7 +7,8 @@ ghost use Rattle.std.specs.Map.{keys_of};
 ghost use Rattle.peer_source.specs.Caches.{IsAnswer, added, bytes_in, brought_to_front, empty_cache, fill_of, looked_up, put_first, value_to_keep};
 
 use crate::entries::{
-    Entries, Evicted, bring_to_front, evict, look_up, no_entries, put_in_front, room_beside,
+    Entries, Evicted, bring_to_front, evict, look_up, no_entries, put_in_front, remove_all,
+    room_beside,
 };
 use crate::fill::{Fill, Outcome};
 use crate::group::GroupId;
@@ -110,7 +111,7 @@ impl<S: Source> MainCache<S> {
         ensures err { OnErr result (self.new ≡ self.old) }
     {
         let Some(room) = room_beside(self.limit, key, value) else {
-            self.entries.clear();
+            remove_all(&mut self.entries, evicted);
             self.bytes = 0;
             return Ok(());
         };

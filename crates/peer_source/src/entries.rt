@@ -76,21 +76,26 @@ pub(crate) fn room_beside(limit: u64, key: &ByteView, value: &ByteView) -> Optio
         .checked_sub(value.len() as u64)
 }
 
+/// Entries that left a cache, as many as there is room for. One addition evicts at most 4,096.
+pub type Evicted = Vec<(ByteView, ByteView)>;
+
+// Keeps an entry that left the cache, where there is room for it.
+fn set_aside(entry: (ByteView, ByteView), evicted: &mut Evicted) {
+    if evicted.len() < evicted.capacity() {
+        let _ = evicted.push(entry);
+    }
+}
+
 // The bytes without those of an entry.
 fn bytes_without(bytes: u64, entry: (ByteView, ByteView), evicted: &mut Evicted) -> u64
     requires { bytes_of entry ≤ bytes }
     ensures { result + bytes_of entry ≡ bytes }
 {
-    let (key, value) = entry;
+    let (key, value) = &entry;
     let rest = bytes - key.len() as u64 - value.len() as u64;
-    if evicted.len() < evicted.capacity() {
-        let _ = evicted.push((key, value));
-    }
+    set_aside(entry, evicted);
     rest
 }
-
-/// Entries that left a cache, as many as there is room for.
-pub type Evicted = Vec<(ByteView, ByteView)>;
 
 // Puts an entry before the others, and says how many bytes these take.
 pub(crate) fn put_in_front(
@@ -130,4 +135,13 @@ pub(crate) fn evict(entries: &mut Entries, mut others: u64, room: u64, evicted: 
         others = bytes_without(others, entry, evicted);
     }
     others
+}
+
+// Removes all entries.
+pub(crate) fn remove_all(entries: &mut Entries, evicted: &mut Evicted)
+    ensures { entries.new ≡ lru_cache [] entries.old.cap }
+{
+    while let Some(entry) = entries.pop_lru() {
+        set_aside(entry, evicted);
+    }
 }
