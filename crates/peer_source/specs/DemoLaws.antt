@@ -10,6 +10,7 @@ use Rattle.std.specs.List.{list_all}
 use Rattle.std.specs.Char.{is_ascii_digit}
 use Rattle.peer_view.specs.Sinks.{MAX_VALUE}
 use Rattle.peer_source.specs.Answers.{Answer, Found, Failed, IsWithinLimit, found_within, too_long_text}
+use Rattle.peer_source.specs.Limits.{found_is_within}
 use Rattle.peer_source.specs.Demo.{DemoAnswers, demo_answer, echo_answer, square_answer, fill_answer, number_after, number_in}
 
 abbrev IsShort : Answer → Type 0
@@ -18,13 +19,6 @@ IsShort a = IsWithinLimit (Some a)
 short_cond : (b : Bool) (a c : Answer) → IsShort a → IsShort c → IsShort (cond b a c)
 short_cond true a c h k = h
 short_cond false a c h k = k
-
-short_found : (v : List ℕ) → IsShort (found_within v)
-short_found v =
-    (elim (leb (length v) MAX_VALUE) as (λ b. leb (length v) MAX_VALUE ≡ b → IsShort (cond b (Found v) (Failed too_long_text))) [
-      | true ↦ λ fits. leb-true (length v) MAX_VALUE fits
-      | false ↦ λ _. tt
-    ]) refl
 
 -- digits write a number below the power of ten of their count
 after_below : (n : ℕ) (text : List ℕ) → list_all is_ascii_digit text ≡ true → number_after n text < (n + 1) * 10 ^ length text
@@ -70,11 +64,11 @@ short_square text =
 short_fill : (text : List ℕ) → IsShort (fill_answer text)
 short_fill text =
     (elim (number_in 7 text) as (λ o. IsShort (elim o as (λ _. Answer) [ Some n ↦ cond (nat_le n 2000000) (found_within (replicate n 120)) (Failed (codes "not a size")) | None ↦ Failed (codes "not a size") ])) [
-      | Some n ↦ short_cond (nat_le n 2000000) (found_within (replicate n 120)) (Failed (codes "not a size")) (short_found (replicate n 120)) tt
+      | Some n ↦ short_cond (nat_le n 2000000) (found_within (replicate n 120)) (Failed (codes "not a size")) (found_is_within (replicate n 120)) tt
       | None ↦ tt
     ])
 
 pub demo_limited : (g : ℕ) (k : List ℕ) (a : Answer) → DemoAnswers g k a → IsWithinLimit (Some a)
 demo_limited g k a e =
     subst IsShort (sym e)
-    (short_cond (g == 0) _ _ (short_found k) (short_cond (g == 1) _ _ (short_square k) (short_cond (g == 2) _ _ (short_fill k) tt)))
+    (short_cond (g == 0) _ _ (found_is_within k) (short_cond (g == 1) _ _ (short_square k) (short_cond (g == 2) _ _ (short_fill k) tt)))
