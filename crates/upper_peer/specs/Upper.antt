@@ -1,7 +1,7 @@
 -- The group `upper` and its answers.
 use Rattle.std.specs.Prelude.{◌≡◌, ℕ, List, map, codes, cond, Option, Some, None, bytes_eq}
 use Rattle.std.proofs.Common.{◌<◌, arith, subst, sym, refl}
-use Rattle.core.specs.Char.{to_ascii_uppercase}
+use Rattle.std.specs.Char.{to_ascii_uppercase}
 use Rattle.peer_source.specs.Answers.{Answer, IsWithinLimit, found_within}
 use Rattle.peer_source.specs.Limits.{found_is_within}
 

@@ -9,17 +9,28 @@ use crate::source::UpperSource;
 use peer_socket::peer_server;
 use std::env;
 use std::hash::RandomState;
-use std::net::TcpListener;
+use std::net::{Net, TcpListener, TcpStream};
 use std::process::ExitCode;
+use std::random::RandomSource;
+use std::sync::Wait;
+use std::thread::Threads;
+use std::time::Clock;
 
 // Two workers, 16 connections at a time, a million for each of the 16, and 1 MiB of cache.
 const WORKERS: usize = 2;
+
 const CONNS: usize = 16;
+
 const ROUNDS: u64 = 1_000_000;
+
 const CACHE_BYTES: u64 = 1_048_576;
 
 fn main(rt: HostRuntime) -> ExitCode {
-    match serve(&rt) {
+    let served = match address_of(&rt) {
+        Some(address) => serve(&rt, address.as_str()),
+        None => None,
+    };
+    match served {
         Some(()) => ExitCode::from(0),
         None => {
             let _ = eprintln!(rt; "usage: upper_peer ADDRESS, which must be free");
@@ -28,10 +39,23 @@ fn main(rt: HostRuntime) -> ExitCode {
     }
 }
 
-// Serves the address that stands behind the program's name.
-fn serve(rt: &HostRuntime) -> Option<()> {
-    let address = env::args(rt).ok()?.nth(1)?;
-    let listener = TcpListener::bind(rt, address.as_str()).ok()?;
+// The address that stands behind the program's name.
+fn address_of(rt: &HostRuntime) -> Option<String> {
+    env::args(rt).ok()?.nth(1)
+}
+
+// Serves the address, and says how much was asked.
+fn serve<
+    H: AllocGlobal
+        + Print
+        + Net<Listener = TcpListener, Stream = TcpStream>
+        + RandomSource
+        + Threads
+        + Wait
+        + Clock
+        + Sync,
+>(rt: &H, address: &str) -> Option<()> {
+    let listener = TcpListener::bind(rt, address).ok()?;
     let seed = RandomState::new(rt).ok()?;
     let report = peer_server(
         rt,
