@@ -14,7 +14,7 @@ use crossbeam_queue::Pass;
 use peer_flight::{Ask, AskFault, Claim};
 use peer_source::{Fill, GroupId, Source};
 use peer_view::ByteView;
-use peer_wait::Waiter;
+use peer_wait::{Notice, Waiter};
 use std::alloc::{AllocError, Global};
 use std::sync::Wait;
 use std::sync::ledger::Ledger;
@@ -94,12 +94,20 @@ impl<S: Source, L: Ledger> Pool<S, L> {
         }
     }
 
+    // What tells of the claim's fill.
+    fn notice_of(&self, claim: &Claim<S>) -> &Notice {
+        match claim {
+            Claim::Ready(_) => self.signals.fill(0),
+            Claim::Pending(flight) => self.signals.fill(flight.number()),
+        }
+    }
+
     /// The fill of a claim of this pool, once it is there. It waits for ever where no worker runs.
     pub fn wait_for<'a, R: Wait>(&self, rt: &R, claim: &'a Claim<S>) -> &'a Fill<S>
         ensures { Looked claim.now None (Some result.now) (Some result.now) }
     {
         let mut note = claim.note();
-        let mut waiter = Waiter::new(&self.signals.fill);
+        let mut waiter = Waiter::new(self.notice_of(claim));
         for _ in rt.forever() {
             if let Some(fill) = claim.look(&mut note) {
                 return fill;

@@ -1,23 +1,30 @@
 //! What threads of a pool wait for. They wait by `peer_wait`, which never yields.
-use crossbeam_utils::sync::EventCount;
+use peer_wait::Notice;
 
-/// What is told to those who sleep, behind the change that it tells of.
+// Among how many notices the flights are spread. Most waits so have one of their own.
+const FLIGHT_NOTICES: usize = 64;
+
+/// What is told to those who wait, behind the change that it tells of.
 #[derive(Drop)]
 pub struct Signals {
     /// A job was pushed, or the pool was stopped.
-    pub job: EventCount,
+    pub job: Notice,
     /// A job was popped, so that the queue has room.
-    pub room: EventCount,
-    /// A fill was put.
-    pub fill: EventCount,
+    pub room: Notice,
+    flights: [Notice; FLIGHT_NOTICES],
 }
 
 impl Signals {
-    pub const fn new() -> Signals {
+    pub fn new() -> Signals {
         Signals {
-            job: EventCount::new(),
-            room: EventCount::new(),
-            fill: EventCount::new(),
+            job: Notice::new(),
+            room: Notice::new(),
+            flights: Default::default(),
         }
+    }
+
+    /// The fill of the flight with this number was put, or that of another one which shares its notice.
+    pub fn fill(&self, number: u64) -> &Notice {
+        &self.flights[(number % FLIGHT_NOTICES as u64) as usize]
     }
 }

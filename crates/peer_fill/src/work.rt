@@ -85,7 +85,10 @@ impl<S: Source, L: Ledger> Pool<S, L> {
         for _ in rt.forever() {
             let stopping = self.stopping.load(SeqCst);
             if let Some(job) = self.jobs.pop_as::<Pop, R>(rt, pass) {
-                self.signals.room.notify_one();
+                if waiter.may_have_slept() {
+                    self.wake_next(pass);
+                }
+                self.signals.room.notify_all();
                 return Some(job);
             }
             if stopping {
@@ -94,6 +97,18 @@ impl<S: Source, L: Ledger> Pool<S, L> {
             waiter.pause(rt);
         }
         unreachable!()
+    }
+
+    // A worker that was woken wakes the next one, where more jobs are left.
+    fn wake_next(&self, pass: &mut Pass<Job<S>, Hand>)
+        requires pass { IsPassOf self.now.jobs pass.old }
+        ensures pass { IsPassOf self.now.jobs pass.new }
+        ensures same { view pass.new ≡ view pass.old }
+    {
+        self.signals.job.acknowledge();
+        if !self.jobs.is_empty_as::<Pop>(pass) {
+            self.signals.job.notify_one();
+        }
     }
 
     // The fill of the value that the group's cache keeps for the key. Where memory refuses it, there is none.
@@ -134,7 +149,7 @@ impl<S: Source, L: Ledger> Pool<S, L> {
         ensures kept { IsTrue result.kept → result.note.known ≡ Some fill }
     {
         let put = right.put(fill);
-        self.signals.fill.notify_all();
+        self.signals.fill(put.flight.number()).notify_all();
         gate.after_put(rt, put.flight.group(), put.flight.key().as_slice());
         put
     }

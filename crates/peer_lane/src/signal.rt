@@ -1,7 +1,6 @@
 //! What the two ends of a lane share to wait for one another.
 use crossbeam_utils::CachePadded;
-use crossbeam_utils::sync::EventCount;
-use peer_wait::Waiter;
+use peer_wait::{Notice, Waiter};
 use std::sync::atomic::AtomicBool;
 use std::sync::atomic::Ordering::SeqCst;
 
@@ -12,7 +11,7 @@ use std::sync::atomic::Ordering::SeqCst;
 #[derive(Drop)]
 pub struct Signal {
     // Each wait writes here, so that the flags lie elsewhere.
-    changed: CachePadded<EventCount>,
+    changed: CachePadded<Notice>,
     finished: AtomicBool,
     stopped: AtomicBool,
 }
@@ -20,7 +19,7 @@ pub struct Signal {
 impl Signal {
     pub const fn new() -> Signal {
         Signal {
-            changed: CachePadded::new(EventCount::new()),
+            changed: CachePadded::new(Notice::new()),
             finished: AtomicBool::new(false),
             stopped: AtomicBool::new(false),
         }

@@ -7,11 +7,14 @@
 //! - who changes something makes the change first, and notifies then.
 //!
 //! So either the last look finds the change, or the change comes behind that look, and then the sleep was announced
-//! before the notice, which ends it.
+//! before the notice, which ends it. A notice that finds another one standing wakes nobody: an announcement ends what
+//! stands, so all who sleep then were announced before the first of the two, which wakes them.
 #![tactic(auto)]
 
+mod notice;
 mod waiter;
 
+pub use notice::Notice;
 pub use waiter::Waiter;
 
 #[cfg(test)]

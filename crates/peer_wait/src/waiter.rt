@@ -1,7 +1,8 @@
 //! One thread's wait.
 ghost use Rattle.std.specs.Prelude.{◌≡◌, ◌+◌, ◌<◌, ◌≤◌};
 
-use crossbeam_utils::sync::{EventCount, Key};
+use crate::notice::Notice;
+use crossbeam_utils::sync::Key;
 use std::hint::spin_loop;
 use std::marker::Model;
 use std::sync::Wait;
@@ -13,7 +14,7 @@ const LOOKS: u32 = 16;
 /// What a thread keeps between two looks at something that others change, as in
 ///
 /// ```text
-/// let mut waiter = Waiter::new(&changed);
+/// let mut waiter = Waiter::new(&notice);
 /// for _ in rt.forever() {
 ///     if let Some(found) = look() {
 ///         return found;
@@ -22,12 +23,13 @@ const LOOKS: u32 = 16;
 /// }
 /// ```
 ///
-/// Who makes the change calls `changed.notify_one()` or `changed.notify_all()` behind it.
+/// Who makes the change calls `notice.notify_one()` or `notice.notify_all()` behind it.
 #[derive(Drop)]
 pub struct Waiter<'a> {
-    changed: &'a EventCount,
+    notice: &'a Notice,
     looks: u32,
     announced: Option<Key<'a>>,
+    may_have_slept: bool,
 }
 
 impl<'a> Model for Waiter<'a> {
@@ -39,13 +41,14 @@ impl<'a> Model for Waiter<'a> {
 }
 
 impl<'a> Waiter<'a> {
-    pub fn new(changed: &'a EventCount) -> Waiter<'a>
+    pub fn new(notice: &'a Notice) -> Waiter<'a>
         ensures { result ≡ 0 }
     {
         Waiter {
-            changed,
+            notice,
             looks: 0,
             announced: None,
+            may_have_slept: false,
         }
     }
 
@@ -61,8 +64,16 @@ impl<'a> Waiter<'a> {
             return;
         }
         match self.announced.take() {
-            None => self.announced = Some(self.changed.prepare_wait()),
+            None => {
+                self.announced = Some(self.notice.announce());
+                self.may_have_slept = true;
+            }
             Some(key) => key.wait(rt),
         }
+    }
+
+    /// Whether it has announced a sleep, so that a notice to one may have been for it.
+    pub fn may_have_slept(&self) -> bool {
+        self.may_have_slept
     }
 }
