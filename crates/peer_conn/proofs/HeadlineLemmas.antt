@@ -10,35 +10,34 @@ use Rattle.peer_conn.specs.Headline.{WritesReplies}
 use Rattle.peer_conn.specs.Ends.{Reading, Writing, EndsAs}
 use Rattle.peer_conn.specs.declared.end.End.{End}
 use Rattle.peer_conn.specs.declared.end.End.TheVariants as end
-use Rattle.peer_conn.proofs.SendLemmas.{join-append}
+use Rattle.peer_conn.proofs.SendLemmas.{join-append, Replies-append}
 use Rattle.peer_conn.proofs.TotalLemmas.{whole, replies_of}
-use Rattle.peer_conn.proofs.WholeLemmas.{begins_with_first_law, replies_begin}
+use Rattle.peer_conn.proofs.WholeLemmas.{begins_with_first_law}
 
-module _ (numbers : List ℕ → Option ℕ) (answer : ℕ → List ℕ → Answer) (r : Reading) (w : Writing) (t o : List ℕ) (gave : Appends r.given r.given' t) (took : Appends w.taken w.taken' o) where
-  -- a front of the replies to first wishes is a front of all replies
-  of_front : (e : End) (ws : List Wish) → (e ≡ end.Clean → ⊥) → AreFirst numbers 0 t ws → AreFrontOfReplies (λ g k a. a ≡ answer g k) ws o → WritesReplies numbers answer r w e
+module _ (numbers : List ℕ → Option ℕ) (answers : ℕ → List ℕ → Answer → Type 0) (some : (g : ℕ) (k : List ℕ) → (a : Answer) × answers g k a) (r : Reading) (w : Writing) (t o : List ℕ) (gave : Appends r.given r.given' t) (took : Appends w.taken w.taken' o) where
+  -- a front of replies to first wishes is a front of replies to all wishes
+  of_front : (e : End) (ws : List Wish) → (e ≡ end.Clean → ⊥) → AreFirst numbers 0 t ws → AreFrontOfReplies answers ws o → WritesReplies numbers answers r w e
   of_front e ws other first h =
       let all = whole numbers 0 t (omega arith) in
       let more = begins_with_first_law numbers 0 t ws all.0 first all.1 in
-      let replies = replies_of answer all.0 in
-      let P : List Wish → Type 0 = λ v. Replies (λ g k a. a ≡ answer g k) v replies.0 in
-      let behind = replies_begin answer ws more.0 h.replies replies.0 h.each (subst P more.1 replies.1) in
+      let behind = replies_of answers some more.0 in
+      let P : List Wish → Type 0 = λ v. Replies answers v (h.replies ++ behind.0) in
       record {
         text = t;
         output = o;
         gave = gave;
         took = took;
-        replies = replies.0;
-        all = record { wishes = all.0; whole = all.1; each = replies.1 };
+        replies = h.replies ++ behind.0;
+        all = record { wishes = all.0; whole = all.1; each = subst P (sym more.1) (Replies-append answers ws more.0 h.replies behind.0 h.each behind.1) };
         rest = h.rest ++ join behind.0;
-        prefix = sym (append_assoc o h.rest (join behind.0)) ∙ ap (λ v. v ++ join behind.0) h.front ∙ join-append h.replies behind.0 ∙ ap join (sym behind.1);
+        prefix = sym (append_assoc o h.rest (join behind.0)) ∙ ap (λ v. v ++ join behind.0) h.front ∙ join-append h.replies behind.0;
         clean = λ is. absurd (other is);
       }
 
-  of_whole : (e : End) (ws : List Wish) → (e ≡ end.Clean → ⊥) → AreFirst numbers 0 t ws → AreReplies (λ g k a. a ≡ answer g k) ws o → WritesReplies numbers answer r w e
+  of_whole : (e : End) (ws : List Wish) → (e ≡ end.Clean → ⊥) → AreFirst numbers 0 t ws → AreReplies answers ws o → WritesReplies numbers answers r w e
   of_whole e ws other first h = of_front e ws other first (record { replies = h.replies; each = h.each; rest = []; front = append-nil o ∙ h.all })
 
-  pub writes : (reads : ℕ) (e : End) → EndsAs numbers (λ g k a. a ≡ answer g k) reads r w t o e → WritesReplies numbers answer r w e
+  pub writes : (reads : ℕ) (e : End) → EndsAs numbers answers reads r w t o e → WritesReplies numbers answers r w e
   writes reads end.Clean h = record {
     text = t;
     output = o;

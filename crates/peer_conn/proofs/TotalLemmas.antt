@@ -1,4 +1,4 @@
--- Every text has its list of wishes, and a source with one answer for each group and key its list of replies.
+-- Every text has its list of wishes, and wishes have a list of replies where each group and key has an answer.
 use Rattle.std.proofs.Common.{◌≡◌, ℕ, zero, suc, ◌+◌, ◌<◌, Bool, true, false, List, [], ◌∷◌, length, ◌⊎◌, inl, inr, refl, arith, Option}
 use Rattle.peer_head.specs.Blocks.{IsUnfinished}
 use Rattle.peer_head.specs.Looks.{LooksAs}
@@ -66,17 +66,19 @@ module _ (numbers : List ℕ → Option ℕ) where
   pub whole : (n : ℕ) (t : List ℕ) → n < MAX_REPLIES → (ws : List Wish) × IsWhole numbers n t ws
   whole n t lt = whole_below (suc (length t)) n t lt (omega arith)
 
-module _ (answer : ℕ → List ℕ → Answer) where
-  -- the reply to a wish
-  reply_of : (w : Wish) → (r : List ℕ) × IsReply (λ g k a. a ≡ answer g k) w r
+module _ (answers : ℕ → List ℕ → Answer → Type 0) (some : (g : ℕ) (k : List ℕ) → (a : Answer) × answers g k a) where
+  -- a reply to a wish
+  reply_of : (w : Wish) → (r : List ℕ) × IsReply answers w r
   reply_of w = by_body w.closing w.bare w.body
     where
-      by_body : (c b : Bool) (body : WishBody) → (r : List ℕ) × RepliesTo (λ g k a. a ≡ answer g k) c b body r
+      by_body : (c b : Bool) (body : WishBody) → (r : List ℕ) × RepliesTo answers c b body r
       by_body c b (body.Fault f) = (fault_reply c b f, refl)
-      by_body c b (body.Get g k) = (answer_reply c b (answer g.number k), (answer g.number k, refl, refl))
+      by_body c b (body.Get g k) =
+          let a = some g.number k in
+          (answer_reply c b a.0, (a.0, a.1, refl))
 
-  -- wishes have their list of replies
-  pub replies_of : (ws : List Wish) → (rs : List (List ℕ)) × Replies (λ g k a. a ≡ answer g k) ws rs
+  -- wishes have a list of replies
+  pub replies_of : (ws : List Wish) → (rs : List (List ℕ)) × Replies answers ws rs
   replies_of [] = ([], refl)
   replies_of (w ∷ ws) =
       let r = reply_of w in

@@ -8,6 +8,7 @@ ghost use Rattle.peer_fill.specs.Seats.{asks_of, conn_parts};
 ghost use Rattle.peer_lane.specs.Lanes.{tickets_put, tickets_taken, IsLane};
 ghost use Rattle.peer_conn.specs.Ends.{reading, writing};
 ghost use Rattle.peer_conn.specs.Connects.{Connects, allows};
+ghost use Rattle.peer_conn.specs.Headline.{WritesReplies};
 ghost use Rattle.peer_conn.specs.Sides.{ServesSides};
 ghost use Rattle.peer_conn.specs.Strangers.{CountsStrangers};
 
@@ -32,6 +33,40 @@ use std::thread::Threads;
 /// It needs a worker of the pool (`Pool::run_worker`) in another thread, until it returns: without one it waits for ever
 /// for the first fill.
 pub fn serve_connection<
+    S: Source,
+    L: Ledger + Send + Sync,
+    R: PeerRead + Send + Drop,
+    W: PeerWrite + Drop,
+    H: Threads + Wait + Sync,
+>(
+    rt: &H,
+    alloc: Global,
+    pool: &Pool<S, L>,
+    seat: ConnSeat<S, L>,
+    reader: R,
+    writer: W,
+    reads: u64,
+) -> (Served<R, W>, ConnSeat<S, L>)
+    requires seat { IsConnSeatOf pool.now seat }
+    requires calls { R.calls reader + reads < 2 ^ 64 }
+    requires failures { W.failures writer < 2 ^ 64 - 1 }
+    ensures seat { IsConnSeatOf pool.now result.1 }
+    ensures parts { conn_parts result.1 ≡ conn_parts seat }
+    ensures strangers { CountsStrangers (2 ^ 56) (asks_of seat).strangers (asks_of result.1).strangers }
+    ensures connects { let r = reading R.given R.calls R.ends R.failures reader result.0.reader in
+        let w = writing W.taken W.failures writer result.0.writer in
+        let asked = (asks_of seat).asked in
+        let asked' = (asks_of result.1).asked in
+        Connects (S.number_of (source_of pool.now)) (allows S.allowed) reads r w asked asked' result.0.end }
+    ensures writes_replies { let r = reading R.given R.calls R.ends R.failures reader result.0.reader in
+        let w = writing W.taken W.failures writer result.0.writer in
+        WritesReplies (S.number_of (source_of pool.now)) (allows S.allowed) r w result.0.end }
+{
+    connect(rt, alloc, pool, seat, reader, writer, reads)
+}
+
+// Serves, or gives up where memory is refused before the first read.
+fn connect<
     S: Source,
     L: Ledger + Send + Sync,
     R: PeerRead + Send + Drop,

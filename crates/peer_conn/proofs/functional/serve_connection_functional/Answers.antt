@@ -27,4 +27,4 @@ returns-clause-connects g c =
 pub returns-clause-writes_replies : goal.returns-clause-writes_replies
 returns-clause-writes_replies g c =
     let h = returns-clause-connects g c in
-    writes g.S.FunctionalSource.the_number g.S.FunctionalSource.the_answer _ _ h.text h.output h.gave h.took c.args.reads c.serve_connection.result.0.end h.ends
+    writes g.S.FunctionalSource.the_number (λ group k a. a ≡ g.S.FunctionalSource.the_answer group k) (λ group k. (g.S.FunctionalSource.the_answer group k, refl)) _ _ h.text h.output h.gave h.took c.args.reads c.serve_connection.result.0.end h.ends

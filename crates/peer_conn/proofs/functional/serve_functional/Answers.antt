@@ -1,4 +1,4 @@
-use Rattle.std.proofs.Common.{◌≡◌, ℕ, List, Option, subst}
+use Rattle.std.proofs.Common.{◌≡◌, ℕ, List, Option, refl, subst}
 use mathlib.Core.Path.{fun_ext}
 use Rattle.peer_conn.specs.Ends.{Serves, reading, writing}
 use Rattle.peer_conn.proofs.AnswerLemmas.{serves}
@@ -23,4 +23,4 @@ returns-clause-serves g c =
 pub returns-clause-writes_replies : goal.returns-clause-writes_replies
 returns-clause-writes_replies g c =
     let h = returns-clause-serves g c in
-    writes g.S.FunctionalSource.the_number g.S.FunctionalSource.the_answer _ _ h.text h.output h.gave h.took c.args.reads c.serve_serial.result.end h.ends
+    writes g.S.FunctionalSource.the_number (λ group k a. a ≡ g.S.FunctionalSource.the_answer group k) (λ group k. (g.S.FunctionalSource.the_answer group k, refl)) _ _ h.text h.output h.gave h.took c.args.reads c.serve_serial.result.end h.ends
