@@ -7,7 +7,7 @@ use Rattle.peer_conn.specs.Wishes.{AreFirst}
 use Rattle.peer_conn.specs.Replies.{Replies, AreReplies, AreFrontOfReplies, join}
 use Rattle.peer_conn.specs.Laws.{IsWhole}
 use Rattle.peer_conn.specs.Headline.{WritesReplies}
-use Rattle.peer_conn.specs.Ends.{Reading, Writing, EndsAs}
+use Rattle.peer_conn.specs.Ends.{Reading, Writing, EndsAs, Serves}
 use Rattle.peer_conn.specs.declared.end.End.{End}
 use Rattle.peer_conn.specs.declared.end.End.TheVariants as end
 use Rattle.peer_conn.proofs.SendLemmas.{join-append, Replies-append}
@@ -37,7 +37,7 @@ module _ (numbers : List ℕ → Option ℕ) (answers : ℕ → List ℕ → Ans
   of_whole : (e : End) (ws : List Wish) → (e ≡ end.Clean → ⊥) → AreFirst numbers 0 t ws → AreReplies answers ws o → WritesReplies numbers answers r w e
   of_whole e ws other first h = of_front e ws other first (record { replies = h.replies; each = h.each; rest = []; front = append-nil o ∙ h.all })
 
-  pub writes : (reads : ℕ) (e : End) → EndsAs numbers answers reads r w t o e → WritesReplies numbers answers r w e
+  writes : (reads : ℕ) (e : End) → EndsAs numbers answers reads r w t o e → WritesReplies numbers answers r w e
   writes reads end.Clean h = record {
     text = t;
     output = o;
@@ -53,9 +53,11 @@ module _ (numbers : List ℕ → Option ℕ) (answers : ℕ → List ℕ → Ans
     prefix = append-nil o ∙ h.replies.all;
     clean = λ is. refl;
   }
-  writes reads end.Cut h = of_whole end.Cut h.wishes (λ is. cc) (inl (h.rest, h.whole.opens)) h.replies
-  writes reads end.ReadFault h = of_whole end.ReadFault h.wishes (λ is. cc) (inl (h.rest, h.whole.opens)) h.replies
   writes reads end.WriteFault h = of_front end.WriteFault h.wishes (λ is. cc) h.first h.replies
   writes reads end.Memory h = of_whole end.Memory h.wishes (λ is. cc) h.first h.replies
-  writes reads end.Spent h = of_whole end.Spent h.wishes (λ is. cc) (inl (h.rest, h.whole.opens)) h.replies
   writes reads end.Worn h = of_whole end.Worn h.wishes (λ is. cc) h.first h.replies
+  writes reads e h = of_whole e h.wishes (λ is. cc) (inl (h.rest, h.whole.opens)) h.replies
+
+-- a connection writes a front of replies to all wishes, where each group and key has an answer
+pub written : (numbers : List ℕ → Option ℕ) (answers : ℕ → List ℕ → Answer → Type 0) {reads : ℕ} {r : Reading} {w : Writing} {e : End} → ((g : ℕ) (k : List ℕ) → (a : Answer) × answers g k a) → Serves numbers answers reads r w e → WritesReplies numbers answers r w e
+written numbers answers {reads} {r} {w} {e} some h = writes numbers answers some r w h.text h.output h.gave h.took reads e h.ends

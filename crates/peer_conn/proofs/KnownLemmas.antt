@@ -1,6 +1,5 @@
 -- A wish asks for a group of the source, since each number that the source gives is that of one.
 use Rattle.std.proofs.Common.{◌≡◌, ℕ, ◌<◌, Bool, true, false, List, Option, Some, None, Result, Ok, Err, refl, if◌then◌else◌}
-use Rattle.peer_head.specs.Heads.{HeadParts}
 use Rattle.peer_path.specs.Places.{PlaceParts, Refusal, place_of, Target, Escape, Outside, NoKey}
 use Rattle.peer_reply.specs.declared.fault.Fault.TheVariants as fault
 use Rattle.peer_reply.specs.declared.wish.Wish.{Wish}

@@ -13,4 +13,3 @@ pub mod TotalLemmas
 pub mod WholeLemmas
 pub mod WishLemmas
 pub mod WriterSideLemmas
-pub mod WriterStateLemmas

@@ -1,10 +1,9 @@
 -- Laws of what the reader's side of a connection did.
-use Rattle.std.proofs.Common.{◌≡◌, ◌∙◌, ℕ, ◌+◌, List, [], ◌∷◌, ◌++◌, refl, sym, ap, subst, arith, append-nil, append_assoc, Option}
+use Rattle.std.proofs.Common.{◌≡◌, ◌∙◌, ℕ, List, [], ◌∷◌, ◌++◌, refl, sym, ap, subst, arith, append-nil, append_assoc, Option}
 use Rattle.std.specs.declared.sync.ledger.Ledger as Ledger
 use Rattle.peer_source.specs.declared.source.Source as Source
 use Rattle.peer_view.specs.declared.reader.PeerRead as Read
 use Rattle.peer_fill.specs.Pools.{IsConnSeatOf}
-use Rattle.peer_fill.specs.Seats.{asks_of, conn_parts}
 use Rattle.peer_fill.specs.declared.pool.Pool.{Pool}
 use Rattle.peer_fill.specs.declared.seats.ConnSeat.{ConnSeat}
 use Rattle.peer_flight.specs.declared.table.AskFault.{AskFault}
@@ -15,7 +14,7 @@ use Rattle.peer_reply.specs.declared.wish.Wish.{Wish}
 use Rattle.peer_conn.specs.Wishes.{AreFirst}
 use Rattle.peer_conn.specs.Ends.{Reading}
 use Rattle.peer_conn.specs.Stops.{StopsAs, stop_for}
-use Rattle.peer_conn.specs.Tickets.{wish_by, wishes_by, wishes_put, asks_in, asks_in_body}
+use Rattle.peer_conn.specs.Tickets.{wish_by, wishes_by, wishes_put}
 use Rattle.peer_conn.specs.Requests.{Stops, reading_of}
 use Rattle.peer_conn.specs.ReaderSides.{PutsTickets}
 use Rattle.peer_conn.specs.declared.requests.Requests.{Requests}

@@ -18,13 +18,10 @@ use Rattle.peer_conn.proofs.WishLemmas.{Open-none, Open-extend, Open-more, Open-
 -- what a reader gave before it stopped are first wishes
 pub firsts : (numbers : List ℕ → Option ℕ) (n reads : ℕ) (r : Reading) (t : List ℕ) (ws : List Wish) (c : ReaderStop) → StopsAs numbers n reads r t ws c → AreFirst numbers n t ws
 firsts numbers n reads r t ws stop.Closed h = inr h.0
-firsts numbers n reads r t ws stop.Ended h = inl (h.0, h.1.opens)
-firsts numbers n reads r t ws stop.Cut h = inl (h.0, h.1.opens)
-firsts numbers n reads r t ws stop.ReadFault h = inl (h.0, h.1.opens)
-firsts numbers n reads r t ws stop.Spent h = inl (h.0, h.1.opens)
 firsts numbers n reads r t ws stop.Memory h = h
 firsts numbers n reads r t ws stop.Worn h = h
 firsts numbers n reads r t ws stop.Stopped h = h
+firsts numbers n reads r t ws _ h = inl (h.0, h.1.opens)
 
 module _ {R : Type 0} {G : Ghosts R} (numbers : List ℕ → Option ℕ) (a b : Requests R G) where
   -- a wish that does not close ..
@@ -96,9 +93,7 @@ module _ {R : Type 0} {G : Ghosts R} {numbers : List ℕ → Option ℕ} where
     ended c vs more stop.Cut k = (k.0, all_then vs more k.0 k.1, k.2, omega (arith, h.told, k.3), k.4 ∙ h.failed)
     ended c vs more stop.ReadFault k = (k.0, all_then vs more k.0 k.1, omega (arith, h.failed, k.2))
     ended c vs more stop.Spent k = (k.0, all_then vs more k.0 k.1, omega (arith, h.calls, k.2), k.3 ∙ h.told, k.4 ∙ h.failed)
-    ended c vs more stop.Memory k = first_then vs more k
-    ended c vs more stop.Worn k = first_then vs more k
-    ended c vs more stop.Stopped k = first_then vs more k
+    ended c vs more _ k = first_then vs more k
 
     -- two spans are one ..
     pub receives_then : {c : Requests R G} {vs : List Wish} → Receives numbers b c vs → Receives numbers a c (ws ++ vs)

@@ -1,5 +1,5 @@
 -- Laws of the count of tickets that were made good.
-use Rattle.std.proofs.Common.{◌≡◌, ◌∙◌, ℕ, ◌+◌, ◌-◌, ◌^◌, ◌<◌, ◌≤◌, List, [], ◌∷◌, ◌++◌, length, min, refl, sym, ap, subst, arith, length-append, Option, Some, None, Result, Ok}
+use Rattle.std.proofs.Common.{◌≡◌, ℕ, ◌+◌, ◌-◌, ◌^◌, ◌<◌, ◌≤◌, [], ◌∷◌, ◌++◌, min, arith, length-append, Option, Some, None, Result, Ok}
 use Rattle.peer_conn.specs.Strangers.{Stranger, CountsStrangers}
 use Rattle.peer_conn.specs.WriterSides.{MakesGood}
 

@@ -1,5 +1,5 @@
 -- Laws of what the writer's side of a connection did.
-use Rattle.std.proofs.Common.{◌≡◌, ◌∙◌, ℕ, ◌+◌, ◌-◌, ◌^◌, ◌<◌, ◌≤◌, List, [], ◌∷◌, ◌++◌, length, min, refl, sym, ap, subst, arith, append-nil, append_assoc, length-append}
+use Rattle.std.proofs.Common.{◌≡◌, ◌∙◌, ℕ, ◌+◌, List, [], ◌∷◌, ◌++◌, length, refl, sym, ap, subst, arith, append-nil, append_assoc}
 use Rattle.peer_source.specs.Answers.{Answer}
 use Rattle.peer_source.specs.declared.source.Source as Source
 use Rattle.peer_view.specs.declared.writer.PeerWrite as Write
@@ -7,7 +7,6 @@ use Rattle.peer_lane.specs.Lanes.{IsSameOut, tickets_taken, tickets_known}
 use Rattle.peer_lane.specs.declared.lane_out.LaneOut.{LaneOut}
 use Rattle.peer_lane.specs.declared.ticket.Ticket.{Ticket}
 use Rattle.peer_reply.specs.declared.wish.Wish.{Wish}
-use Rattle.peer_conn.specs.Strangers.{Stranger, CountsStrangers}
 use Rattle.peer_conn.specs.Tickets.{wish_by, wishes_by, wishes_taken}
 use Rattle.peer_conn.specs.Responses.{PutsReplies}
 use Rattle.peer_conn.specs.WriterSides.{AnswersTickets, MakesGood}

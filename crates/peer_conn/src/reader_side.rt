@@ -29,6 +29,13 @@ pub(crate) struct ReaderSide<S: Source, L: Ledger, R: PeerRead + Drop> {
     pub(crate) requests: Requests<R>,
 }
 
+/// The reader's side, once it is done, and what stopped it.
+#[derive(Drop)]
+pub(crate) struct StoppedReader<S: Source, L: Ledger, R: PeerRead + Drop> {
+    pub(crate) side: ReaderSide<S, L, R>,
+    pub(crate) stop: ReaderStop,
+}
+
 impl<S: Source, L: Ledger, R: PeerRead + Drop> ReaderSide<S, L, R> {
     ghost use Rattle.std.specs.Prelude.{◌≡◌, [], ◌∷◌, OnOk, OnErr};
     ghost use Rattle.peer_fill.specs.Pools.{source_of, IsConnSeatOf};
@@ -36,13 +43,19 @@ impl<S: Source, L: Ledger, R: PeerRead + Drop> ReaderSide<S, L, R> {
     ghost use Rattle.peer_conn.specs.ReaderSides.{PutsTickets, TakesRequests};
 
     /// Puts a ticket for each request, until one closes or no more come.
-    pub(crate) fn run<H: Wait>(&mut self, rt: &H, pool: &Pool<S, L>, signal: &Signal) -> ReaderStop
-        requires { IsConnSeatOf pool.now self.old.seat }
-        ensures { TakesRequests (S.number_of (source_of pool.now)) pool.now self.old self.new result }
+    pub(crate) fn run<H: Wait>(
+        self,
+        rt: &H,
+        pool: &Pool<S, L>,
+        signal: &Signal,
+    ) -> StoppedReader<S, L, R>
+        requires { IsConnSeatOf pool.now self.seat }
+        ensures { TakesRequests (S.number_of (source_of pool.now)) pool.now self result.side result.stop }
     {
-        let stop = self.take_requests(rt, pool, &pool.source(), signal);
+        let mut side = self;
+        let stop = side.take_requests(rt, pool, &pool.source(), signal);
         signal.finish();
-        stop
+        StoppedReader { side, stop }
     }
 
     fn take_requests<H: Wait>(
@@ -95,13 +108,9 @@ impl<S: Source, L: Ledger, R: PeerRead + Drop> ReaderSide<S, L, R> {
         ensures refused { OnErr result (PutsTickets pool.now self.old.seat self.new.seat self.old.lane self.new.lane []) }
     {
         let alloc = self.requests.alloc;
-        match ticket_of(rt, alloc, pool, &mut self.seat, wish) {
-            Ok(ticket) => {
-                self.lane.put_waiting(rt, signal, ticket);
-                Ok(())
-            }
-            Err(fault) => Err(fault),
-        }
+        let ticket = ticket_of(rt, alloc, pool, &mut self.seat, wish)?;
+        self.lane.put_waiting(rt, signal, ticket);
+        Ok(())
     }
 }
 
@@ -129,10 +138,7 @@ fn ticket_of<S: Source, L: Ledger, H: Wait>(
     } = wish;
     let body = match body {
         WishBody::Fault(fault) => Body::Fault(fault),
-        WishBody::Get(group, key) => match pool.ask(rt, alloc, seat, group, key) {
-            Ok(claim) => Body::Claim(claim),
-            Err(fault) => return Err(fault),
-        },
+        WishBody::Get(group, key) => Body::Claim(pool.ask(rt, alloc, seat, group, key)?),
     };
     Ok(Ticket {
         closing,

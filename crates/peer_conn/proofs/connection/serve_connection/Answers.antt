@@ -1,14 +1,45 @@
+use Rattle.std.proofs.Common.{◌∙◌}
 use Rattle.peer_fill.specs.Pools.{source_of}
-use Rattle.peer_conn.specs.Connects.{allows}
-use Rattle.peer_conn.proofs.HeadlineLemmas.{writes}
+use Rattle.peer_conn.proofs.EndLemmas.{connects_sides, connects_refused}
+use Rattle.peer_conn.proofs.HeadlineLemmas.{written}
 use Rattle.peer_conn.proofs.connection.serve_connection.Goals as goal
 
+pub returns-in-Err-clause-connects : goal.returns-in-Err-clause-connects
+returns-in-Err-clause-connects g c =
+    connects_refused _ _ _ g.R.PeerRead.given g.R.PeerRead.calls g.R.PeerRead.ends g.R.PeerRead.failures g.W.PeerWrite.taken g.W.PeerWrite.failures _ _ _ _ _ _ c.refused.ensures.reader (c.refused.ensures.writer ∙ c.in-Err.ensures.err) c.refused.ensures.end
+
+pub returns-in-Err-new-clause-connects : goal.returns-in-Err-new-clause-connects
+returns-in-Err-new-clause-connects g c =
+    connects_refused _ _ _ g.R.PeerRead.given g.R.PeerRead.calls g.R.PeerRead.ends g.R.PeerRead.failures g.W.PeerWrite.taken g.W.PeerWrite.failures _ _ _ _ _ _ (c.refused-in-Err-new.ensures.reader ∙ c.in-Err-new.ensures.err) (c.refused-in-Err-new.ensures.writer ∙ c.in-Ok.ensures.ok.writer) c.refused-in-Err-new.ensures.end
+
+pub returns-in-Ok-lane-clause-connects : goal.returns-in-Ok-lane-clause-connects
+returns-in-Ok-lane-clause-connects g c = connects_sides c.in-Ok-new.ensures.ok c.in-Ok.ensures.ok c.serve_sides.ensures.serves
+
+pub returns-in-Err-lane-clause-connects : goal.returns-in-Err-lane-clause-connects
+returns-in-Err-lane-clause-connects g c =
+    connects_refused _ _ _ g.R.PeerRead.given g.R.PeerRead.calls g.R.PeerRead.ends g.R.PeerRead.failures g.W.PeerWrite.taken g.W.PeerWrite.failures _ _ _ _ _ _ (c.refused-in-Err-lane.ensures.reader ∙ c.in-Ok-new.ensures.ok.reader) (c.refused-in-Err-lane.ensures.writer ∙ c.in-Ok.ensures.ok.writer) c.refused-in-Err-lane.ensures.end
+
 -- each group and key has an answer, which is allowed: so what is written is a front of replies to all wishes
-pub returns-clause-writes_replies : goal.returns-clause-writes_replies
-returns-clause-writes_replies g c =
+pub returns-in-Err-clause-writes_replies : goal.returns-in-Err-clause-writes_replies
+returns-in-Err-clause-writes_replies g c =
     let source = g.met.S.Source g.world.𝓛 g.world.𝓜 g.world.𝓡 (λ s h. h, λ h. h, λ h. h, λ h. h) in
-    let h = c.connect.ensures.connects in
-    let pool_source = source_of c.args.pool.now in
-    writes (g.S.Source.number_of pool_source) (allows g.S.Source.allowed)
-    (λ group k. let a = source.answered pool_source group k in (a.0, ∣ source.within pool_source group k a.0 a.1 ∣₁))
-    _ _ h.text h.output h.gave h.took c.args.reads c.connect.result.0.end h.ends
+    let some = source.answered (source_of c.args.pool.now) in
+    written _ _ (λ group k. ((some group k).0, ∣ source.within (source_of c.args.pool.now) group k (some group k).0 (some group k).1 ∣₁)) (returns-in-Err-clause-connects g c).serves
+
+pub returns-in-Err-new-clause-writes_replies : goal.returns-in-Err-new-clause-writes_replies
+returns-in-Err-new-clause-writes_replies g c =
+    let source = g.met.S.Source g.world.𝓛 g.world.𝓜 g.world.𝓡 (λ s h. h, λ h. h, λ h. h, λ h. h) in
+    let some = source.answered (source_of c.args.pool.now) in
+    written _ _ (λ group k. ((some group k).0, ∣ source.within (source_of c.args.pool.now) group k (some group k).0 (some group k).1 ∣₁)) (returns-in-Err-new-clause-connects g c).serves
+
+pub returns-in-Ok-lane-clause-writes_replies : goal.returns-in-Ok-lane-clause-writes_replies
+returns-in-Ok-lane-clause-writes_replies g c =
+    let source = g.met.S.Source g.world.𝓛 g.world.𝓜 g.world.𝓡 (λ s h. h, λ h. h, λ h. h, λ h. h) in
+    let some = source.answered (source_of c.args.pool.now) in
+    written _ _ (λ group k. ((some group k).0, ∣ source.within (source_of c.args.pool.now) group k (some group k).0 (some group k).1 ∣₁)) (returns-in-Ok-lane-clause-connects g c).serves
+
+pub returns-in-Err-lane-clause-writes_replies : goal.returns-in-Err-lane-clause-writes_replies
+returns-in-Err-lane-clause-writes_replies g c =
+    let source = g.met.S.Source g.world.𝓛 g.world.𝓜 g.world.𝓡 (λ s h. h, λ h. h, λ h. h, λ h. h) in
+    let some = source.answered (source_of c.args.pool.now) in
+    written _ _ (λ group k. ((some group k).0, ∣ source.within (source_of c.args.pool.now) group k (some group k).0 (some group k).1 ∣₁)) (returns-in-Err-lane-clause-connects g c).serves
