@@ -24,6 +24,7 @@ use Rattle.peer_source.specs.declared.source.Source as Source
 use Rattle.std.specs.declared.sync.ledger.Ledger as Ledger
 use Rattle.peer_fill.specs.declared.pool.Pool.{Pool}
 use Rattle.peer_fill.specs.Seats.{asks_of}
+use Rattle.peer_flight.specs.declared.table.AskFault.TheVariants as ask
 use Rattle.peer_lane.specs.Lanes.{tickets_put, tickets_taken}
 use Rattle.peer_conn.specs.Requests.{AreNewRequests, Stops}
 use Rattle.peer_conn.specs.Responses.{AreNewResponses, IsFlushed, PutsReplies}
@@ -76,6 +77,7 @@ module _ (numbers : List ℕ → Option ℕ) (answers : ℕ → List ℕ → Ans
   ends t stop.Cut state.Active h k = record { wishes = ws; replies = all_out answers f f' b b' ws k; rest = h.0; whole = h.1; inside = h.2; told = h.3; fine = (h.4, k.out.1) }
   ends t stop.ReadFault state.Active h k = record { wishes = ws; replies = all_out answers f f' b b' ws k; rest = h.0; whole = h.1; failed = h.2; wrote = k.out.1 }
   ends t stop.Spent state.Active h k = record { wishes = ws; replies = all_out answers f f' b b' ws k; rest = h.0; whole = h.1; spent = h.2; not_told = h.3; fine = (h.4, k.out.1) }
+  ends t (stop.Refused ask.Memory) state.Active h k = record { wishes = ws; replies = all_out answers f f' b b' ws k; first = h; wrote = k.out.1 }
   ends t _ state.Active h k = record { wishes = ws; replies = all_out answers f f' b b' ws k; first = h; wrote = k.out.1 }
 
   pub serves : (c : ReaderStop) (st : WriterState) → IsRead numbers reads r ws c → RepliesFrom answers state.Active ws (sending_by f f' b b' [] []) st → Serves numbers answers reads r (writing_by b b' f f') (end_for st c)
@@ -87,6 +89,7 @@ module _ (numbers : List ℕ → Option ℕ) (answers : ℕ → List ℕ → Ans
   asks t stop.Cut state.Active h = inr (h.0, h.1)
   asks t stop.ReadFault state.Active h = inr (h.0, h.1)
   asks t stop.Spent state.Active h = inr (h.0, h.1)
+  asks t (stop.Refused ask.Memory) state.Active h = h
   asks t c state.Active h = firsts numbers 0 reads r t ws c h
   asks t c state.Memory h = firsts numbers 0 reads r t ws c h
   asks t c state.WriteFault h = firsts numbers 0 reads r t ws c h
@@ -116,10 +119,10 @@ written_whole {W} {G} answers w p p' ws n empty h =
     subst (λ x. P x [] [] state.Active) n.writer (subst (λ y. P p.out.writer y [] state.Active) n.empty (subst (λ z. P p.out.writer p.out.buffered.items z state.Active) empty (subst (λ st. P p.out.writer p.out.buffered.items p'.out.buffered.items st) n.fine h.step)))
 
 -- a connection on one thread
-pub serves_exchanges : {R W : Type 0} {G : Read.Ghosts R} {H : Write.Ghosts W} (numbers : List ℕ → Option ℕ) (answers : ℕ → List ℕ → Answer → Type 0) (reads : ℕ) (r : R) (w : W) (q q' : Requests R G) (p p1 p2 : Responses W H) (c : ReaderStop) (e : End) →
+pub serves_exchanges : {R W : Type 0} {G : Read.Ghosts R} {H : Write.Ghosts W} {numbers : List ℕ → Option ℕ} {answers : ℕ → List ℕ → Answer → Type 0} {reads : ℕ} {r : R} {w : W} {q q' : Requests R G} {p p1 p2 : Responses W H} {c : ReaderStop} {e : End} →
     AreNewRequests r reads q → AreNewResponses w p → Exchanges numbers answers q q' p p1 c → IsFlushed p1 p2 → p2.out.buffered.items ≡ [] → e ≡ end_for p2.state c →
     Serves numbers answers reads (reading G.given G.calls G.ends G.failures r q'.reader) (writing H.taken H.failures w p2.out.writer) e
-serves_exchanges {R} {W} {G} {H} numbers answers reads r w q q' p p1 p2 c e new fresh h flushed empty is =
+serves_exchanges {R} {W} {G} {H} {numbers} {answers} {reads} {r} {w} {q} {q'} {p} {p1} {p2} {c} {e} new fresh h flushed empty is =
     let r2 = reading G.given G.calls G.ends G.failures r q'.reader in
     let w2 = writing H.taken H.failures w p2.out.writer in
     let all = replies_on h.replies (replies_flushed flushed) in

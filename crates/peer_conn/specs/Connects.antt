@@ -1,6 +1,7 @@
 -- What a call for a connection did, with its reader and its writer in threads of their own.
 use Rattle.std.specs.Prelude.{◌≡◌, ℕ, ◌+◌, List, Option}
 use Rattle.peer_source.specs.Answers.{Answer}
+use Rattle.peer_flight.specs.declared.table.AskFault.TheVariants as ask
 use Rattle.peer_reply.specs.declared.wish.Wish.{Wish}
 use Rattle.peer_conn.specs.Wishes.{AreFirst}
 use Rattle.peer_conn.specs.Laws.{IsWhole}
@@ -26,8 +27,8 @@ end_for state.Active stop.Ended = end.Clean
 end_for state.Active stop.Cut = end.Cut
 end_for state.Active stop.ReadFault = end.ReadFault
 end_for state.Active stop.Spent = end.Spent
-end_for state.Active stop.Memory = end.Memory
-end_for state.Active stop.Worn = end.Worn
+end_for state.Active (stop.Refused ask.Memory) = end.Memory
+end_for state.Active (stop.Refused ask.Worn) = end.Worn
 end_for state.Active stop.Stopped = end.Memory
 
 -- the wishes that were asked for: all of the text's where it was read through

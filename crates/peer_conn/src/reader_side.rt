@@ -2,12 +2,12 @@
 //!
 //! It stands on the pool of `peer_fill` and the lanes of `peer_lane`. It promises a ticket for each request that came, in
 //! order, each that has group and key after it was asked for; nothing is read behind a request that closes.
-ghost use Rattle.std.specs.Prelude.{◌≡◌, ◌+◌, IfOk, OnOk, OnErr};
+ghost use Rattle.std.specs.Prelude.{◌≡◌, ◌+◌, [], ◌∷◌, IfOk, OnOk, OnErr};
 ghost use Rattle.peer_fill.specs.Pools.{source_of, IsConnSeatOf};
 ghost use Rattle.peer_fill.specs.Seats.{asks_of, conn_parts};
 ghost use Rattle.peer_conn.specs.Known.{IsKnown};
 ghost use Rattle.peer_conn.specs.Tickets.{wish_by, asks_in_body};
-ghost use Rattle.peer_conn.specs.Stops.{stop_for};
+ghost use Rattle.peer_conn.specs.ReaderSides.{PutsTickets, TakesRequests};
 
 use crate::end::ReaderStop;
 use crate::requests::{NextRequest, Requests};
@@ -37,11 +37,6 @@ pub(crate) struct StoppedReader<S: Source, L: Ledger, R: PeerRead + Drop> {
 }
 
 impl<S: Source, L: Ledger, R: PeerRead + Drop> ReaderSide<S, L, R> {
-    ghost use Rattle.std.specs.Prelude.{◌≡◌, [], ◌∷◌, OnOk, OnErr};
-    ghost use Rattle.peer_fill.specs.Pools.{source_of, IsConnSeatOf};
-    ghost use Rattle.peer_conn.specs.Known.{IsKnown};
-    ghost use Rattle.peer_conn.specs.ReaderSides.{PutsTickets, TakesRequests};
-
     /// Puts a ticket for each request, until one closes or no more come.
     pub(crate) fn run<H: Wait>(
         self,
@@ -73,12 +68,12 @@ impl<S: Source, L: Ledger, R: PeerRead + Drop> ReaderSide<S, L, R> {
             match self.requests.next_held(names) {
                 NextRequest::Request(wish) => {
                     if let Err(fault) = self.put(rt, pool, signal, wish) {
-                        return stop_of(fault);
+                        return ReaderStop::Refused(fault);
                     }
                 }
                 NextRequest::Last(wish) => match self.put(rt, pool, signal, wish) {
                     Ok(()) => return ReaderStop::Closed,
-                    Err(fault) => return stop_of(fault),
+                    Err(fault) => return ReaderStop::Refused(fault),
                 },
                 NextRequest::Need => {
                     if signal.is_stopped() {
@@ -88,7 +83,7 @@ impl<S: Source, L: Ledger, R: PeerRead + Drop> ReaderSide<S, L, R> {
                         return stop;
                     }
                 }
-                NextRequest::NoMemory => return ReaderStop::Memory,
+                NextRequest::NoMemory => return ReaderStop::Refused(AskFault::Memory),
             }
         }
     }
@@ -145,14 +140,4 @@ fn ticket_of<S: Source, L: Ledger, H: Wait>(
         bare,
         body,
     })
-}
-
-// What stopped a reader whose ask was refused.
-fn stop_of(fault: AskFault) -> ReaderStop
-    ensures { result ≡ stop_for fault }
-{
-    match fault {
-        AskFault::Memory => ReaderStop::Memory,
-        AskFault::Worn => ReaderStop::Worn,
-    }
 }

@@ -11,6 +11,7 @@ ghost use Rattle.peer_conn.specs.Exchanges.{Exchanges};
 use crate::end::{End, ReaderStop, Served, end_of, refused};
 use crate::requests::{NextRequest, Requests};
 use crate::responses::Responses;
+use peer_flight::AskFault;
 use peer_reply::{Wish, WishBody};
 use peer_source::{Fill, FunctionalSource, Names, Source};
 use peer_view::{PeerRead, PeerWrite};
@@ -108,7 +109,7 @@ fn answer_all<S: Source, R: PeerRead, W: PeerWrite>(
     responses: &mut Responses<W>,
 ) -> ReaderStop
     ensures serves { Exchanges (S.number_of names.now) (S.answers source.now) requests.old requests.new responses.old responses.new result }
-    ensures never_worn { result ≢ ReaderStop.Worn }
+    ensures never_worn { result ≢ ReaderStop.Refused AskFault.Worn }
 {
     loop {
         match requests.next_held(names) {
@@ -131,7 +132,7 @@ fn answer_all<S: Source, R: PeerRead, W: PeerWrite>(
                     return stop;
                 }
             }
-            NextRequest::NoMemory => return ReaderStop::Memory,
+            NextRequest::NoMemory => return ReaderStop::Refused(AskFault::Memory),
         }
     }
 }

@@ -1,7 +1,7 @@
 use Rattle.std.proofs.Common.{◌∙◌}
 use Rattle.peer_fill.specs.Pools.{source_of}
 use Rattle.peer_conn.proofs.EndLemmas.{connects_sides, connects_refused}
-use Rattle.peer_conn.proofs.HeadlineLemmas.{written}
+use Rattle.peer_conn.proofs.HeadlineLemmas.{written_allowed}
 use Rattle.peer_conn.proofs.connection.serve_connection.Goals as goal
 
 pub returns-in-Err-clause-connects : goal.returns-in-Err-clause-connects
@@ -23,23 +23,19 @@ returns-in-Err-lane-clause-connects g c =
 pub returns-in-Err-clause-writes_replies : goal.returns-in-Err-clause-writes_replies
 returns-in-Err-clause-writes_replies g c =
     let source = g.met.S.Source g.world.𝓛 g.world.𝓜 g.world.𝓡 (λ s h. h, λ h. h, λ h. h, λ h. h) in
-    let some = source.answered (source_of c.args.pool.now) in
-    written _ _ (λ group k. ((some group k).0, ∣ source.within (source_of c.args.pool.now) group k (some group k).0 (some group k).1 ∣₁)) (returns-in-Err-clause-connects g c).serves
+    written_allowed (source.answered (source_of c.args.pool.now)) (source.within (source_of c.args.pool.now)) (returns-in-Err-clause-connects g c).serves
 
 pub returns-in-Err-new-clause-writes_replies : goal.returns-in-Err-new-clause-writes_replies
 returns-in-Err-new-clause-writes_replies g c =
     let source = g.met.S.Source g.world.𝓛 g.world.𝓜 g.world.𝓡 (λ s h. h, λ h. h, λ h. h, λ h. h) in
-    let some = source.answered (source_of c.args.pool.now) in
-    written _ _ (λ group k. ((some group k).0, ∣ source.within (source_of c.args.pool.now) group k (some group k).0 (some group k).1 ∣₁)) (returns-in-Err-new-clause-connects g c).serves
+    written_allowed (source.answered (source_of c.args.pool.now)) (source.within (source_of c.args.pool.now)) (returns-in-Err-new-clause-connects g c).serves
 
 pub returns-in-Ok-lane-clause-writes_replies : goal.returns-in-Ok-lane-clause-writes_replies
 returns-in-Ok-lane-clause-writes_replies g c =
     let source = g.met.S.Source g.world.𝓛 g.world.𝓜 g.world.𝓡 (λ s h. h, λ h. h, λ h. h, λ h. h) in
-    let some = source.answered (source_of c.args.pool.now) in
-    written _ _ (λ group k. ((some group k).0, ∣ source.within (source_of c.args.pool.now) group k (some group k).0 (some group k).1 ∣₁)) (returns-in-Ok-lane-clause-connects g c).serves
+    written_allowed (source.answered (source_of c.args.pool.now)) (source.within (source_of c.args.pool.now)) (returns-in-Ok-lane-clause-connects g c).serves
 
 pub returns-in-Err-lane-clause-writes_replies : goal.returns-in-Err-lane-clause-writes_replies
 returns-in-Err-lane-clause-writes_replies g c =
     let source = g.met.S.Source g.world.𝓛 g.world.𝓜 g.world.𝓡 (λ s h. h, λ h. h, λ h. h, λ h. h) in
-    let some = source.answered (source_of c.args.pool.now) in
-    written _ _ (λ group k. ((some group k).0, ∣ source.within (source_of c.args.pool.now) group k (some group k).0 (some group k).1 ∣₁)) (returns-in-Err-lane-clause-connects g c).serves
+    written_allowed (source.answered (source_of c.args.pool.now)) (source.within (source_of c.args.pool.now)) (returns-in-Err-lane-clause-connects g c).serves
