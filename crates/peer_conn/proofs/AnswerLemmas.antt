@@ -51,14 +51,5 @@ module _ (A B : ℕ → List ℕ → Answer → Type 0) (carries : (closing bare
     serves e h = record { text = h.text; output = h.output; gave = h.gave; took = h.took; calls = h.calls; ends = ends h.text h.output e h.ends }
 
     pub connects_too : (asked asked' : ℕ) (e : End) → Connects numbers A reads r w asked asked' e → Connects numbers B reads r w asked asked' e
-    connects_too asked asked' e h = record {
-      text = h.text;
-      output = h.output;
-      wishes = h.wishes;
-      gave = h.gave;
-      took = h.took;
-      calls = h.calls;
-      ends = ends h.text h.output e h.ends;
-      asks = h.asks;
-      counted = h.counted;
-    }
+    unfolding serves
+    connects_too asked asked' e h = record { serves = serves e h.serves; wishes = h.wishes; asks = h.asks; counted = h.counted }

@@ -8,7 +8,7 @@ use Rattle.peer_view.specs.declared.writer.PeerWrite as Write
 use Rattle.peer_reply.specs.declared.wish.Wish.{Wish}
 use Rattle.peer_conn.specs.Wishes.{AreFirst}
 use Rattle.peer_conn.specs.Replies.{AreReplies, AreFrontOfReplies}
-use Rattle.peer_conn.specs.Sending.{Answered, Failed}
+use Rattle.peer_conn.specs.Sending.{Sent, Broke, Answered}
 use Rattle.peer_conn.specs.Stops.{StopsAs, IsRead}
 use Rattle.peer_conn.specs.WriterStates.{RepliesFrom}
 use Rattle.peer_conn.specs.Ends.{Reading, Writing, reading, writing, EndsAs, Serves}
@@ -24,6 +24,7 @@ use Rattle.peer_source.specs.declared.source.Source as Source
 use Rattle.std.specs.declared.sync.ledger.Ledger as Ledger
 use Rattle.peer_fill.specs.declared.pool.Pool.{Pool}
 use Rattle.peer_fill.specs.Seats.{asks_of}
+use Rattle.peer_flight.specs.declared.table.AskFault.TheVariants as ask
 use Rattle.peer_lane.specs.Lanes.{tickets_put, tickets_taken}
 use Rattle.peer_conn.specs.Requests.{AreNewRequests, Stops}
 use Rattle.peer_conn.specs.Responses.{AreNewResponses, IsFlushed, PutsReplies}
@@ -49,64 +50,53 @@ abbrev pub writing_by : Option (List ℕ) → Option (List ℕ) → ℕ → ℕ 
 writing_by a a' k k' = record { taken = a; taken' = a'; failures = k; failures' = k' }
 
 module _ (answers : ℕ → List ℕ → Answer → Type 0) (f f' : ℕ) (b b' : Option (List ℕ)) where
-  -- what writing_by out, where nothing is buffered
-  pub all_out : (ws : List Wish) (h : Answered answers (sending_by f f' b b' [] []) ws) → AreReplies answers ws h.sent.0.0
-  all_out ws h = record { replies = h.replies; each = h.each; all = sym (append-nil h.sent.0.0) ∙ h.sent.0.2 }
+  -- what went out, where nothing is buffered
+  pub all_out : (ws : List Wish) (h : Answered answers (Sent (sending_by f f' b b' [] [])) ws) → AreReplies answers ws h.out.0.0
+  all_out ws h = record { replies = h.replies; each = h.each; all = sym (append-nil h.out.0.0) ∙ h.out.0.2 }
 
-  -- and what writing_by out before a write failed
-  pub front_out : (ws : List Wish) (h : Failed answers (sending_by f f' b b' [] []) ws) → AreFrontOfReplies answers ws h.broke.0.1.0
-  front_out ws h = record { replies = h.replies; each = h.each; rest = h.broke.0.0; front = h.broke.0.1.2 }
+  -- and what went out before a write failed
+  pub front_out : (ws : List Wish) (h : Answered answers (Broke (sending_by f f' b b' [] [])) ws) → AreFrontOfReplies answers ws h.out.0.1.0
+  front_out ws h = record { replies = h.replies; each = h.each; rest = h.out.0.0; front = h.out.0.1.2 }
 
 module _ (numbers : List ℕ → Option ℕ) (answers : ℕ → List ℕ → Answer → Type 0) (reads : ℕ) (r : Reading) (f f' : ℕ) (b b' : Option (List ℕ)) (ws : List Wish) where
-  -- what writing_by out
+  -- what went out
   output_of : (st : WriterState) → RepliesFrom answers state.Active ws (sending_by f f' b b' [] []) st → (o : List ℕ) × Appends b b' o
-  output_of state.Active k = (k.sent.0.0, k.sent.0.1)
-  output_of state.Memory k = (k.answered.sent.0.0, k.answered.sent.0.1)
-  output_of state.WriteFault k = (k.failed.broke.0.1.0, k.failed.broke.0.1.1)
+  output_of state.Active k = (k.out.0.0, k.out.0.1)
+  output_of state.Memory k = (k.fact.out.0.0, k.fact.out.0.1)
+  output_of state.WriteFault k = (k.fact.out.0.1.0, k.fact.out.0.1.1)
 
   front_first : (t : List ℕ) (c : ReaderStop) (front left : List Wish) → front ++ left ≡ ws → StopsAs numbers 0 reads r t ws c → AreFirst numbers 0 t front
   front_first t c front left cut h = first_of numbers front left 0 t (subst (λ v. AreFirst numbers 0 t v) (sym cut) (firsts numbers 0 reads r t ws c h))
 
   ends : (t : List ℕ) (c : ReaderStop) (st : WriterState) → StopsAs numbers 0 reads r t ws c → (k : RepliesFrom answers state.Active ws (sending_by f f' b b' [] []) st) → EndsAs numbers answers reads r (writing_by b b' f f') t (output_of st k).0 (end_for st c)
   unfolding output_of
-  ends t c state.WriteFault h k = record { wishes = k.front; replies = front_out answers f f' b b' k.front k.failed; first = front_first t c k.front k.left k.cut h; failed = omega (arith, k.failed.broke.1) }
-  ends t c state.Memory h k = record { wishes = k.front; replies = all_out answers f f' b b' k.front k.answered; first = front_first t c k.front k.left k.cut h; wrote = k.answered.sent.1 }
-  ends t stop.Closed state.Active h k = record { wishes = ws; replies = all_out answers f f' b b' ws k; whole = inl h.0; fine = (h.1, k.sent.1) }
-  ends t stop.Ended state.Active h k = record { wishes = ws; replies = all_out answers f f' b b' ws k; whole = inr (h.0, h.1, h.2, h.3); fine = (h.4, k.sent.1) }
-  ends t stop.Cut state.Active h k = record { wishes = ws; replies = all_out answers f f' b b' ws k; rest = h.0; whole = h.1; inside = h.2; told = h.3; fine = (h.4, k.sent.1) }
-  ends t stop.ReadFault state.Active h k = record { wishes = ws; replies = all_out answers f f' b b' ws k; rest = h.0; whole = h.1; failed = h.2; wrote = k.sent.1 }
-  ends t stop.Spent state.Active h k = record { wishes = ws; replies = all_out answers f f' b b' ws k; rest = h.0; whole = h.1; spent = h.2; not_told = h.3; fine = (h.4, k.sent.1) }
-  ends t stop.Memory state.Active h k = record { wishes = ws; replies = all_out answers f f' b b' ws k; first = h; wrote = k.sent.1 }
-  ends t stop.Worn state.Active h k = record { wishes = ws; replies = all_out answers f f' b b' ws k; first = h; wrote = k.sent.1 }
-  ends t stop.Stopped state.Active h k = record { wishes = ws; replies = all_out answers f f' b b' ws k; first = h; wrote = k.sent.1 }
+  ends t c state.WriteFault h k = record { wishes = k.front; replies = front_out answers f f' b b' k.front k.fact; first = front_first t c k.front k.left k.cut h; failed = omega (arith, k.fact.out.1) }
+  ends t c state.Memory h k = record { wishes = k.front; replies = all_out answers f f' b b' k.front k.fact; first = front_first t c k.front k.left k.cut h; wrote = k.fact.out.1 }
+  ends t stop.Closed state.Active h k = record { wishes = ws; replies = all_out answers f f' b b' ws k; whole = inl h.0; fine = (h.1, k.out.1) }
+  ends t stop.Ended state.Active h k = record { wishes = ws; replies = all_out answers f f' b b' ws k; whole = inr (h.0, h.1, h.2, h.3); fine = (h.4, k.out.1) }
+  ends t stop.Cut state.Active h k = record { wishes = ws; replies = all_out answers f f' b b' ws k; rest = h.0; whole = h.1; inside = h.2; told = h.3; fine = (h.4, k.out.1) }
+  ends t stop.ReadFault state.Active h k = record { wishes = ws; replies = all_out answers f f' b b' ws k; rest = h.0; whole = h.1; failed = h.2; wrote = k.out.1 }
+  ends t stop.Spent state.Active h k = record { wishes = ws; replies = all_out answers f f' b b' ws k; rest = h.0; whole = h.1; spent = h.2; not_told = h.3; fine = (h.4, k.out.1) }
+  ends t (stop.Refused ask.Memory) state.Active h k = record { wishes = ws; replies = all_out answers f f' b b' ws k; first = h; wrote = k.out.1 }
+  ends t _ state.Active h k = record { wishes = ws; replies = all_out answers f f' b b' ws k; first = h; wrote = k.out.1 }
 
   pub serves : (c : ReaderStop) (st : WriterState) → IsRead numbers reads r ws c → RepliesFrom answers state.Active ws (sending_by f f' b b' [] []) st → Serves numbers answers reads r (writing_by b b' f f') (end_for st c)
   serves c st h k = record { text = h.text; output = (output_of st k).0; gave = h.gave; took = (output_of st k).1; calls = h.calls; ends = ends h.text c st h.stops k }
 
   asks : (t : List ℕ) (c : ReaderStop) (st : WriterState) → StopsAs numbers 0 reads r t ws c → AreAsked numbers (end_for st c) t ws
-  asks t c state.WriteFault h = firsts numbers 0 reads r t ws c h
-  asks t c state.Memory h = firsts numbers 0 reads r t ws c h
   asks t stop.Closed state.Active h = inl h.0
   asks t stop.Ended state.Active h = inr (h.0, h.1)
   asks t stop.Cut state.Active h = inr (h.0, h.1)
   asks t stop.ReadFault state.Active h = inr (h.0, h.1)
   asks t stop.Spent state.Active h = inr (h.0, h.1)
-  asks t stop.Memory state.Active h = h
-  asks t stop.Worn state.Active h = h
-  asks t stop.Stopped state.Active h = h
+  asks t (stop.Refused ask.Memory) state.Active h = h
+  asks t c state.Active h = firsts numbers 0 reads r t ws c h
+  asks t c state.Memory h = firsts numbers 0 reads r t ws c h
+  asks t c state.WriteFault h = firsts numbers 0 reads r t ws c h
 
   pub connects : (a a' : ℕ) (c : ReaderStop) (st : WriterState) → a' ≡ a + asks_in ws → IsRead numbers reads r ws c → RepliesFrom answers state.Active ws (sending_by f f' b b' [] []) st → Connects numbers answers reads r (writing_by b b' f f') a a' (end_for st c)
-  connects a a' c st counted h k = record {
-    text = h.text;
-    output = (output_of st k).0;
-    wishes = ws;
-    gave = h.gave;
-    took = (output_of st k).1;
-    calls = h.calls;
-    ends = ends h.text c st h.stops k;
-    asks = asks h.text c st h.stops;
-    counted = counted;
-  }
+  unfolding serves
+  connects a a' c st counted h k = record { serves = serves c st h k; wishes = ws; asks = asks h.text c st h.stops; counted = counted }
 
 -- what requests did that were new
 pub read_whole : {R : Type 0} {G : Read.Ghosts R} (numbers : List ℕ → Option ℕ) (reads : ℕ) (r : R) (q q' : Requests R G) (ws : List Wish) (c : ReaderStop) → AreNewRequests r reads q → Stops numbers q q' ws c →
@@ -129,10 +119,10 @@ written_whole {W} {G} answers w p p' ws n empty h =
     subst (λ x. P x [] [] state.Active) n.writer (subst (λ y. P p.out.writer y [] state.Active) n.empty (subst (λ z. P p.out.writer p.out.buffered.items z state.Active) empty (subst (λ st. P p.out.writer p.out.buffered.items p'.out.buffered.items st) n.fine h.step)))
 
 -- a connection on one thread
-pub serves_exchanges : {R W : Type 0} {G : Read.Ghosts R} {H : Write.Ghosts W} (numbers : List ℕ → Option ℕ) (answers : ℕ → List ℕ → Answer → Type 0) (reads : ℕ) (r : R) (w : W) (q q' : Requests R G) (p p1 p2 : Responses W H) (c : ReaderStop) (e : End) →
+pub serves_exchanges : {R W : Type 0} {G : Read.Ghosts R} {H : Write.Ghosts W} {numbers : List ℕ → Option ℕ} {answers : ℕ → List ℕ → Answer → Type 0} {reads : ℕ} {r : R} {w : W} {q q' : Requests R G} {p p1 p2 : Responses W H} {c : ReaderStop} {e : End} →
     AreNewRequests r reads q → AreNewResponses w p → Exchanges numbers answers q q' p p1 c → IsFlushed p1 p2 → p2.out.buffered.items ≡ [] → e ≡ end_for p2.state c →
     Serves numbers answers reads (reading G.given G.calls G.ends G.failures r q'.reader) (writing H.taken H.failures w p2.out.writer) e
-serves_exchanges {R} {W} {G} {H} numbers answers reads r w q q' p p1 p2 c e new fresh h flushed empty is =
+serves_exchanges {R} {W} {G} {H} {numbers} {answers} {reads} {r} {w} {q} {q'} {p} {p1} {p2} {c} {e} new fresh h flushed empty is =
     let r2 = reading G.given G.calls G.ends G.failures r q'.reader in
     let w2 = writing H.taken H.failures w p2.out.writer in
     let all = replies_on h.replies (replies_flushed flushed) in
@@ -161,18 +151,20 @@ connects_sides {S} {L} {R} {W} {g} {k} {m} {numbers} {answers} {q} {p} {served} 
 connects_nothing : (numbers : List ℕ → Option ℕ) (answers : ℕ → List ℕ → Answer → Type 0) (reads : ℕ) (g : Option (List ℕ)) (c e f : ℕ) (b : Option (List ℕ)) (k a : ℕ) →
     Connects numbers answers reads (reading_by g g c c e e f f) (writing_by b b k k) a a end.Memory
 connects_nothing numbers answers reads g c e f b k a = record {
-  text = [];
-  output = [];
-  wishes = [];
-  gave = Appends-nil g;
-  took = Appends-nil b;
-  calls = omega arith;
-  ends = record {
-    wishes = [];
-    replies = record { replies = []; each = refl; all = refl };
-    first = inl ([], Open-none numbers 0 [] (omega arith));
-    wrote = refl;
+  serves = record {
+    text = [];
+    output = [];
+    gave = Appends-nil g;
+    took = Appends-nil b;
+    calls = omega arith;
+    ends = record {
+      wishes = [];
+      replies = record { replies = []; each = refl; all = refl };
+      first = inl ([], Open-none numbers 0 [] (omega arith));
+      wrote = refl;
+    };
   };
+  wishes = [];
   asks = inl ([], Open-none numbers 0 [] (omega arith));
   counted = omega arith;
 }

@@ -1,12 +1,10 @@
 -- A wish asks for a group of the source, since each number that the source gives is that of one.
 use Rattle.std.proofs.Common.{◌≡◌, ℕ, ◌<◌, Bool, true, false, List, Option, Some, None, Result, Ok, Err, refl, if◌then◌else◌}
-use Rattle.peer_head.specs.Heads.{HeadParts}
 use Rattle.peer_path.specs.Places.{PlaceParts, Refusal, place_of, Target, Escape, Outside, NoKey}
 use Rattle.peer_reply.specs.declared.fault.Fault.TheVariants as fault
 use Rattle.peer_reply.specs.declared.wish.Wish.{Wish}
-use Rattle.peer_reply.specs.declared.wish.WishBody.{WishBody}
 use Rattle.peer_reply.specs.declared.wish.WishBody.TheVariants as body
-use Rattle.peer_conn.specs.Wishes.{IsWish, no_head, refused, asked, in_group, is_served, target_body}
+use Rattle.peer_conn.specs.Wishes.{IsWish, no_head, refused, asked, in_group, placed_body, is_served, target_body}
 use Rattle.peer_conn.specs.Nexts.{IsNextWish, too_long, first}
 use Rattle.peer_conn.specs.Known.{IsKnown}
 
@@ -15,15 +13,7 @@ module _ (numbers : List ℕ → Option ℕ) (count : ℕ) (numbered : (name : L
   of_name name key (Some i) e = numbered name i e
   of_name name key None e = tt
 
-  of_place : (r : Result PlaceParts Refusal) → IsKnown count (elim r as (λ _. WishBody) [
-    | Ok place ↦ in_group (numbers place.group) place.group place.key
-    | Err refusal ↦ elim refusal as (λ _. WishBody) [
-      | Target ↦ body.Fault fault.Target
-      | Escape ↦ body.Fault fault.Escape
-      | Outside ↦ body.Fault fault.Outside
-      | NoKey ↦ body.Fault fault.NoKey
-    ]
-  ])
+  of_place : (r : Result PlaceParts Refusal) → IsKnown count (placed_body numbers r)
   of_place (Ok place) = of_name place.group place.key (numbers place.group) refl
   of_place (Err Target) = tt
   of_place (Err Escape) = tt

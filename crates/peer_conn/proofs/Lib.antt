@@ -2,15 +2,11 @@ pub mod AnswerLemmas
 pub mod EndLemmas
 pub mod HeadlineLemmas
 pub mod KnownLemmas
-pub mod PartLemmas
 pub mod ReaderSideLemmas
 pub mod RequestLemmas
 pub mod ResponseLemmas
 pub mod SendLemmas
-pub mod StrangerLemmas
 pub mod TicketLemmas
-pub mod TotalLemmas
 pub mod WholeLemmas
 pub mod WishLemmas
 pub mod WriterSideLemmas
-pub mod WriterStateLemmas

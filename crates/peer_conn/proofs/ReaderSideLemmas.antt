@@ -1,25 +1,21 @@
 -- Laws of what the reader's side of a connection did.
-use Rattle.std.proofs.Common.{◌≡◌, ◌∙◌, ℕ, ◌+◌, List, [], ◌∷◌, ◌++◌, refl, sym, ap, subst, arith, append-nil, append_assoc, Option}
+use Rattle.std.proofs.Common.{◌≡◌, ◌∙◌, ℕ, List, [], ◌∷◌, ◌++◌, refl, sym, ap, subst, arith, append-nil, append_assoc, Option}
 use Rattle.std.specs.declared.sync.ledger.Ledger as Ledger
 use Rattle.peer_source.specs.declared.source.Source as Source
 use Rattle.peer_view.specs.declared.reader.PeerRead as Read
 use Rattle.peer_fill.specs.Pools.{IsConnSeatOf}
-use Rattle.peer_fill.specs.Seats.{asks_of, conn_parts}
 use Rattle.peer_fill.specs.declared.pool.Pool.{Pool}
 use Rattle.peer_fill.specs.declared.seats.ConnSeat.{ConnSeat}
 use Rattle.peer_flight.specs.declared.table.AskFault.{AskFault}
-use Rattle.peer_flight.specs.declared.table.AskFault.TheVariants as ask
 use Rattle.peer_lane.specs.declared.lane_in.LaneIn.{LaneIn}
 use Rattle.peer_lane.specs.declared.ticket.Ticket.{Ticket}
 use Rattle.peer_reply.specs.declared.wish.Wish.{Wish}
-use Rattle.peer_conn.specs.Wishes.{AreFirst}
-use Rattle.peer_conn.specs.Ends.{Reading}
-use Rattle.peer_conn.specs.Stops.{StopsAs, stop_for}
-use Rattle.peer_conn.specs.Tickets.{wish_by, wishes_by, wishes_put, asks_in, asks_in_body}
+use Rattle.peer_conn.specs.Tickets.{wish_by, wishes_by, wishes_put}
 use Rattle.peer_conn.specs.Requests.{Stops, reading_of}
 use Rattle.peer_conn.specs.ReaderSides.{PutsTickets}
 use Rattle.peer_conn.specs.declared.requests.Requests.{Requests}
 use Rattle.peer_conn.specs.declared.end.ReaderStop.{ReaderStop}
+use Rattle.peer_conn.specs.declared.end.ReaderStop.TheVariants as stop
 use Rattle.peer_conn.proofs.WishLemmas.{first_of}
 use Rattle.peer_conn.proofs.RequestLemmas.{firsts}
 use Rattle.peer_conn.proofs.TicketLemmas.{wishes-append, asks_in-append, same_in}
@@ -53,14 +49,8 @@ module _ {S L : Type 0} {g : Source.Ghosts S} {h : Ledger.Ghosts L} {pool : Pool
 pub put_one : {S : Type 0} (ts ts' : List (Ticket S)) (t : Ticket S) (w : Wish) → ts' ≡ ts ++ t ∷ [] → wish_by t ≡ w → wishes_by ts' ≡ wishes_by ts ++ w ∷ []
 put_one ts ts' t w e same = ap wishes_by e ∙ wishes-append ts (t ∷ []) ∙ ap (λ v. wishes_by ts ++ v ∷ []) same
 
-refused_as : (numbers : List ℕ → Option ℕ) (n reads : ℕ) (r : Reading) (t : List ℕ) (fault : AskFault) (ws : List Wish) → AreFirst numbers n t ws → StopsAs numbers n reads r t ws (stop_for fault)
-refused_as numbers n reads r t ask.Memory ws h = h
-refused_as numbers n reads r t ask.Worn ws h = h
-
 -- the last wishes were not put
-pub unput : {R : Type 0} {G : Read.Ghosts R} {numbers : List ℕ → Option ℕ} {a b : Requests R G} {c c' : ReaderStop} (ws vs : List Wish) (fault : AskFault) → c' ≡ stop_for fault → Stops numbers a b (ws ++ vs) c → Stops numbers a b ws c'
-unput {R} {G} {numbers} {a} {b} {c} {c'} ws vs fault e h =
+pub unput : {R : Type 0} {G : Read.Ghosts R} {numbers : List ℕ → Option ℕ} {a b : Requests R G} {c : ReaderStop} (ws vs : List Wish) (fault : AskFault) → Stops numbers a b (ws ++ vs) c → Stops numbers a b ws (stop.Refused fault)
+unput {R} {G} {numbers} {a} {b} {c} ws vs fault h =
     let t = a.held.held ++ h.text in
-    let first = first_of numbers ws vs a.count t (firsts numbers a.count a.left (reading_of a b) t (ws ++ vs) c h.stops) in
-    let refused = refused_as numbers a.count a.left (reading_of a b) t fault ws first in
-    subst (Stops numbers a b ws) (sym e) (record { text = h.text; gave = h.gave; calls = h.calls; stops = refused })
+    record { text = h.text; gave = h.gave; calls = h.calls; stops = first_of numbers ws vs a.count t (firsts numbers a.count a.left (reading_of a b) t (ws ++ vs) c h.stops) }

@@ -1,67 +1,54 @@
 -- Laws of what a connection's requests did.
-use Rattle.std.proofs.Common.{◌≡◌, ℕ, ◌+◌, ◌<◌, true, false, List, [], ◌∷◌, ◌++◌, inl, inr, refl, sym, ◌∙◌, ap, subst, arith, append_assoc, append-nil, length-append, Option}
+use Rattle.std.proofs.Common.{◌≡◌, ℕ, ◌+◌, true, false, List, [], ◌∷◌, ◌++◌, inl, inr, refl, sym, ◌∙◌, ap, subst, arith, append_assoc, append-nil, length-append, Option}
 use Rattle.std.specs.Io.KnownBytes.{Appends}
 use Rattle.std.proofs.KnownBytes.{Appends-nil, Appends-trans}
 use Rattle.peer_head.specs.Blocks.{Begins}
 use Rattle.peer_view.specs.declared.reader.PeerRead.{Ghosts}
 use Rattle.peer_reply.specs.declared.wish.Wish.{Wish}
-use Rattle.peer_conn.specs.Wishes.{IsLastWish, closes_after, OpenWishes, ClosedWishes, AreFirst, AreAll, MAX_REPLIES}
-use Rattle.peer_conn.specs.Nexts.{AsksOpen, IsNextWish}
+use Rattle.peer_conn.specs.Wishes.{closes_after, OpenWishes, ClosedWishes, AreFirst, AreAll}
+use Rattle.peer_conn.specs.Nexts.{IsNextWish}
 use Rattle.peer_conn.specs.Stops.{StopsAs}
 use Rattle.peer_conn.specs.Ends.{Reading}
 use Rattle.peer_conn.specs.Requests.{Receives, Stops, reading_of}
 use Rattle.peer_conn.specs.declared.requests.Requests.{Requests}
 use Rattle.peer_conn.specs.declared.end.ReaderStop.{ReaderStop}
 use Rattle.peer_conn.specs.declared.end.ReaderStop.TheVariants as stop
-use Rattle.peer_conn.proofs.WishLemmas.{Open-none, Open-extend, Open-more, Open-append, Closed-last, Closed-append, First-append, next_closes, next_stays}
+use Rattle.peer_conn.proofs.WishLemmas.{Open-none, Open-extend, Open-one, Open-append, Closed-one, Closed-append, First-append, next_closes, next_stays}
 
 -- what a reader gave before it stopped are first wishes
 pub firsts : (numbers : List ℕ → Option ℕ) (n reads : ℕ) (r : Reading) (t : List ℕ) (ws : List Wish) (c : ReaderStop) → StopsAs numbers n reads r t ws c → AreFirst numbers n t ws
 firsts numbers n reads r t ws stop.Closed h = inr h.0
-firsts numbers n reads r t ws stop.Ended h = inl (h.0, h.1.opens)
-firsts numbers n reads r t ws stop.Cut h = inl (h.0, h.1.opens)
-firsts numbers n reads r t ws stop.ReadFault h = inl (h.0, h.1.opens)
-firsts numbers n reads r t ws stop.Spent h = inl (h.0, h.1.opens)
-firsts numbers n reads r t ws stop.Memory h = h
-firsts numbers n reads r t ws stop.Worn h = h
+firsts numbers n reads r t ws (stop.Refused fault) h = h
 firsts numbers n reads r t ws stop.Stopped h = h
+firsts numbers n reads r t ws _ h = inl (h.0, h.1.opens)
 
 module _ {R : Type 0} {G : Ghosts R} (numbers : List ℕ → Option ℕ) (a b : Requests R G) where
-  -- a wish that does not close ..
-  pub receives_one : (w : Wish) → AsksOpen numbers a.count a.held.held w b.held.held → b.reader ≡ a.reader → b.left ≡ a.left → b.count ≡ a.count + 1 → Receives numbers a b (w ∷ [])
-  receives_one w h reader left count =
-      let open_ : OpenWishes numbers a.count (a.held.held ++ []) (w ∷ []) b.held.held =
-      subst (λ t. OpenWishes numbers a.count t (w ∷ []) b.held.held) (sym (append-nil a.held.held))
-      (Open-more numbers a.count a.count a.held.held a.held.held b.held.held [] w (Open-none numbers a.count a.held.held (omega (arith, h.count))) (omega arith) h) in
+  -- the next wish, where it does not close ..
+  pub given_open : (w : Wish) → IsNextWish numbers a.held.held w → closes_after a.count w.closing ≡ false → (block : List ℕ) × Begins a.held.held block b.held.held → b.reader ≡ a.reader → b.left ≡ a.left → b.count ≡ a.count + 1 → Receives numbers a b (w ∷ [])
+  given_open w next stays begins reader left count =
+      let h = next_stays numbers a.count a.held.held w b.held.held next stays a.open begins in
       record {
         text = [];
         gave = subst (λ r. Appends (G.given a.reader) (G.given r) []) (sym reader) (Appends-nil (G.given a.reader));
-        opens = open_;
+        opens = subst (λ t. OpenWishes numbers a.count t (w ∷ []) b.held.held) (sym (append-nil a.held.held)) (Open-one numbers a.count a.held.held b.held.held w h);
         counted = count;
         calls = let e = ap G.calls reader in omega (arith, e, left);
         told = ap G.ends reader;
         failed = ap G.failures reader;
       }
 
-  -- .. and one that does
-  last_one : (w : Wish) → IsLastWish numbers a.count a.held.held w → b.reader ≡ a.reader → a.count < MAX_REPLIES → Stops numbers a b (w ∷ []) stop.Closed
-  last_one w h reader lt = record {
+  -- .. and where it does
+  pub given_last : (w : Wish) → IsNextWish numbers a.held.held w → closes_after a.count w.closing ≡ true → b.reader ≡ a.reader → Stops numbers a b (record w { closing = true } ∷ []) stop.Closed
+  given_last w next closes reader = record {
     text = [];
     gave = subst (λ r. Appends (G.given a.reader) (G.given r) []) (sym reader) (Appends-nil (G.given a.reader));
     calls = let e = ap G.calls reader in omega (arith, e);
     stops = (
-      subst (λ t. ClosedWishes numbers a.count t (w ∷ [])) (sym (append-nil a.held.held)) (Closed-last numbers a.count a.count a.held.held a.held.held [] w (Open-none numbers a.count a.held.held lt) (omega arith) h),
+      subst (λ t. ClosedWishes numbers a.count t (record w { closing = true } ∷ [])) (sym (append-nil a.held.held))
+          (Closed-one numbers a.count a.held.held (record w { closing = true }) a.open (next_closes numbers a.count a.held.held w next closes)),
       ap G.failures reader,
     );
   }
-
-  -- the next wish is the last
-  pub given_last : (w v : Wish) → v ≡ record w { closing = true } → IsNextWish numbers a.held.held w → closes_after a.count w.closing ≡ true → b.reader ≡ a.reader → Stops numbers a b (v ∷ []) stop.Closed
-  given_last w v e next closes reader = subst (λ x. Stops numbers a b (x ∷ []) stop.Closed) (sym e) (last_one (record w { closing = true }) (next_closes numbers a.count a.held.held w next closes) reader a.open)
-
-  -- the next wish does not close
-  pub given_open : (w : Wish) → IsNextWish numbers a.held.held w → closes_after a.count w.closing ≡ false → (block : List ℕ) × Begins a.held.held block b.held.held → b.reader ≡ a.reader → b.left ≡ a.left → b.count ≡ a.count + 1 → Receives numbers a b (w ∷ [])
-  given_open w next stays begins reader left count = receives_one w (next_stays numbers a.count a.held.held w b.held.held next stays a.open begins) reader left count
 
 module _ {R : Type 0} {G : Ghosts R} {numbers : List ℕ → Option ℕ} where
   -- nothing came yet
@@ -96,9 +83,7 @@ module _ {R : Type 0} {G : Ghosts R} {numbers : List ℕ → Option ℕ} where
     ended c vs more stop.Cut k = (k.0, all_then vs more k.0 k.1, k.2, omega (arith, h.told, k.3), k.4 ∙ h.failed)
     ended c vs more stop.ReadFault k = (k.0, all_then vs more k.0 k.1, omega (arith, h.failed, k.2))
     ended c vs more stop.Spent k = (k.0, all_then vs more k.0 k.1, omega (arith, h.calls, k.2), k.3 ∙ h.told, k.4 ∙ h.failed)
-    ended c vs more stop.Memory k = first_then vs more k
-    ended c vs more stop.Worn k = first_then vs more k
-    ended c vs more stop.Stopped k = first_then vs more k
+    ended c vs more _ k = first_then vs more k
 
     -- two spans are one ..
     pub receives_then : {c : Requests R G} {vs : List Wish} → Receives numbers b c vs → Receives numbers a c (ws ++ vs)

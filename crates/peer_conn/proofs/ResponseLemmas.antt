@@ -8,14 +8,13 @@ use Rattle.peer_reply.specs.declared.fault.Fault.{Fault}
 use Rattle.peer_reply.specs.declared.wish.Wish.{Wish}
 use Rattle.peer_conn.specs.Wishes.{refusal, get_wish}
 use Rattle.peer_conn.specs.Replies.{IsReply}
-use Rattle.peer_conn.specs.Sending.{Sending}
+use Rattle.peer_conn.specs.Sending.{Sending, Sent, Broke}
 use Rattle.peer_conn.specs.WriterStates.{PutsFrom, RepliesFrom, is_active}
 use Rattle.peer_conn.specs.Responses.{sending_of, PutsReply, IsFlushed, PutsReplies}
 use Rattle.peer_conn.specs.declared.responses.Responses.{Responses}
 use Rattle.peer_conn.specs.declared.end.WriterState.{WriterState}
 use Rattle.peer_conn.specs.declared.end.WriterState.TheVariants.{Active, Memory, WriteFault}
-use Rattle.peer_conn.proofs.SendLemmas.{answered_one, failed_one}
-use Rattle.peer_conn.proofs.WriterStateLemmas.{steps_none, steps_then, flush_steps, answered_nothing}
+use Rattle.peer_conn.proofs.SendLemmas.{answered_none, answered_one, steps_none, steps_then, flush_steps}
 
 -- an answer that is one of those allowed, as one of those that some source may give
 pub some_allowed : (allowed : Answer → Type 0) (answer : Option Answer) → ∥ IfSome answer allowed ∥₁ → IfSome answer (λ a. ∥ allowed a ∥₁)
@@ -25,28 +24,18 @@ some_allowed allowed (Some answer) h = h
 module _ (answers : ℕ → List ℕ → Answer → Type 0) (s : Sending) (w : Wish) where
   -- a reply of this text, as a step of the writer
   reply_steps : (r : List ℕ) (p q : WriterState) → IsReply answers w r → PutsFrom p (Some r) s q → RepliesFrom answers p (w ∷ []) s q
-  reply_steps r Active Active reply h = answered_one answers s.failures s.failures' s.taken s.taken' s.buffered s.buffered' w r reply h
-  reply_steps r Active Memory reply h = absurd h
-  reply_steps r Active WriteFault reply h =
-      record { front = w ∷ []; left = []; cut = refl; failed = failed_one answers s.failures s.failures' s.taken s.taken' s.buffered s.buffered' w r reply h }
-  reply_steps r Memory Active reply h = absurd h
+  reply_steps r Active Active reply h = answered_one answers (Sent s) w r reply h
+  reply_steps r Active WriteFault reply h = record { front = w ∷ []; left = []; cut = refl; fact = answered_one answers (Broke s) w r reply h }
   reply_steps r Memory Memory reply h = h
-  reply_steps r Memory WriteFault reply h = absurd h
-  reply_steps r WriteFault Active reply h = absurd h
-  reply_steps r WriteFault Memory reply h = absurd h
   reply_steps r WriteFault WriteFault reply h = h
+  reply_steps r _ _ reply h = absurd h
 
   -- no memory for a reply
   none_steps : (p q : WriterState) → PutsFrom p None s q → RepliesFrom answers p (w ∷ []) s q
-  none_steps Active Active h = absurd h
-  none_steps Active Memory h = record { front = []; left = w ∷ []; cut = refl; answered = answered_nothing answers s h }
-  none_steps Active WriteFault h = absurd h
-  none_steps Memory Active h = absurd h
+  none_steps Active Memory h = record { front = []; left = w ∷ []; cut = refl; fact = answered_none answers (Sent s) h }
   none_steps Memory Memory h = h
-  none_steps Memory WriteFault h = absurd h
-  none_steps WriteFault Active h = absurd h
-  none_steps WriteFault Memory h = absurd h
   none_steps WriteFault WriteFault h = h
+  none_steps _ _ h = absurd h
 
 module _ {W : Type 0} {G : Ghosts W} {answers : ℕ → List ℕ → Answer → Type 0} where
   pub replies_none : (a : Responses W G) → PutsReplies answers a a []

@@ -1,11 +1,14 @@
--- Laws of replies that are buffered and go out.
-use Rattle.std.proofs.Common.{◌≡◌, ℕ, ◌+◌, List, [], ◌∷◌, ◌++◌, Option, refl, sym, ◌∙◌, ap, subst, append_assoc, append-nil}
+-- Laws of what went behind buffered replies.
+use Rattle.std.proofs.Common.{◌≡◌, ℕ, ◌+◌, List, [], ◌∷◌, ◌++◌, refl, sym, ◌∙◌, ap, subst, append_assoc, append-nil, Option}
 use Rattle.peer_source.specs.Answers.{Answer}
 use Rattle.peer_view.specs.Moves.{Moves}
 use Rattle.peer_view.proofs.MovingLemmas.{Moves-along, Moves-more, Moves-none, Moves-trans}
 use Rattle.peer_reply.specs.declared.wish.Wish.{Wish}
 use Rattle.peer_conn.specs.Replies.{Replies, IsReply, join}
-use Rattle.peer_conn.specs.Sending.{Sending, Sent, Broke, Answered, Failed}
+use Rattle.peer_conn.specs.Sending.{Sending, Sent, Broke, Answered}
+use Rattle.peer_conn.specs.WriterStates.{Still, IsOfFirst, RepliesFrom, FlushesFrom}
+use Rattle.peer_conn.specs.declared.end.WriterState.{WriterState}
+use Rattle.peer_conn.specs.declared.end.WriterState.TheVariants.{Active, Memory, WriteFault}
 
 -- a writer and what is buffered for it, before and after
 abbrev pub sending_by : ℕ → ℕ → Option (List ℕ) → Option (List ℕ) → List ℕ → List ℕ → Sending
@@ -24,59 +27,79 @@ Moves-then a b c x p q w y z e h k =
 pub Moves-cut : (a b : Option (List ℕ)) (x p q w y : List ℕ) → p ++ q ≡ w → Moves a b (x ++ p) y → Moves a b (x ++ w) (y ++ q)
 Moves-cut a b x p q w y e h = Moves-along a b _ _ _ _ (append_assoc x p q ∙ ap (λ v. x ++ v) e) refl (Moves-more a b (x ++ p) y q h)
 
+-- nothing more was sent
+pub sent_none : (f : ℕ) (a : Option (List ℕ)) (x : List ℕ) → Sent (sending_by f f a a x x) []
+sent_none f a x = (Moves-along a a x (x ++ []) x x (sym (append-nil x)) refl (Moves-none a x), refl)
+
+-- what is true of the first of some wishes, with others before them or behind them
+first_behind : {P Q : List Wish → Type 0} (ws vs : List Wish) → ((front : List Wish) → P front → Q (ws ++ front)) → IsOfFirst P vs → IsOfFirst Q (ws ++ vs)
+first_behind ws vs leads h = record { front = ws ++ h.front; left = h.left; cut = append_assoc ws h.front h.left ∙ ap (λ v. ws ++ v) h.cut; fact = leads h.front h.fact }
+
+first_before : {P Q : List Wish → Type 0} (ws vs : List Wish) → ((front : List Wish) → P front → Q front) → IsOfFirst P ws → IsOfFirst Q (ws ++ vs)
+first_before ws vs leads h = record { front = h.front; left = h.left ++ vs; cut = sym (append_assoc h.front h.left vs) ∙ ap (λ v. v ++ vs) h.cut; fact = leads h.front h.fact }
+
 module _ (answers : ℕ → List ℕ → Answer → Type 0) where
   pub Replies-append : (ws vs : List Wish) (rs ss : List (List ℕ)) → Replies answers ws rs → Replies answers vs ss → Replies answers (ws ++ vs) (rs ++ ss)
   Replies-append [] vs rs ss h k = subst (λ x. Replies answers vs (x ++ ss)) (sym h) k
   Replies-append (w ∷ ws) vs rs ss h k = (h.0, h.1 ++ ss, ap (λ x. x ++ ss) h.2, h.3, Replies-append ws vs h.1 ss h.4 k)
 
-  -- one reply that went out
-  pub answered_one : (f f' : ℕ) (a a' : Option (List ℕ)) (x x' : List ℕ) (w : Wish) (r : List ℕ) → IsReply answers w r → Sent (sending_by f f' a a' x x') r → Answered answers (sending_by f f' a a' x x') (w ∷ [])
-  answered_one f f' a a' x x' w r reply sent = record {
-    replies = r ∷ [];
-    each = (r, [], refl, reply, refl);
-    sent = (Moves-along a a' _ _ _ _ (ap (λ v. x ++ v) (sym (append-nil r))) refl sent.0, sent.1);
+  -- no reply
+  pub answered_none : (P : List ℕ → Type 0) → P [] → Answered answers P []
+  answered_none P h = record { replies = []; each = refl; out = h }
+
+  -- one reply
+  pub answered_one : (P : List ℕ → Type 0) (w : Wish) (r : List ℕ) → IsReply answers w r → P r → Answered answers P (w ∷ [])
+  answered_one P w r reply h = record { replies = r ∷ []; each = (r, [], refl, reply, refl); out = subst P (sym (append-nil r)) h }
+
+  -- the same replies, of which more became known
+  answered_still : (P Q : List ℕ → Type 0) → ((p : List ℕ) → P p → Q p) → (ws : List Wish) → Answered answers P ws → Answered answers Q ws
+  answered_still P Q leads ws h = record { replies = h.replies; each = h.each; out = leads (join h.replies) h.out }
+
+  -- replies, and then more
+  answered_then : (P Q R : List ℕ → Type 0) → ((p q : List ℕ) → P p → Q q → R (p ++ q)) → (ws vs : List Wish) → Answered answers P ws → Answered answers Q vs → Answered answers R (ws ++ vs)
+  answered_then P Q R both ws vs h k = record {
+    replies = h.replies ++ k.replies;
+    each = Replies-append ws vs h.replies k.replies h.each k.each;
+    out = subst R (join-append h.replies k.replies) (both (join h.replies) (join k.replies) h.out k.out);
   }
 
-  -- one reply at which a write failed
-  pub failed_one : (f f' : ℕ) (a a' : Option (List ℕ)) (x x' : List ℕ) (w : Wish) (r : List ℕ) → IsReply answers w r → Broke (sending_by f f' a a' x x') r → Failed answers (sending_by f f' a a' x x') (w ∷ [])
-  failed_one f f' a a' x x' w r reply broke = record {
-    replies = r ∷ [];
-    each = (r, [], refl, reply, refl);
-    broke = ((broke.0.0, Moves-along a a' _ _ _ _ (ap (λ v. x ++ v) (sym (append-nil r))) refl broke.0.1), broke.1);
-  }
+  pub flush_steps : (s : Sending) (p q : WriterState) → FlushesFrom p s q → RepliesFrom answers p [] s q
+  flush_steps s Active Active h = answered_none (Sent s) h
+  flush_steps s Active WriteFault h = record { front = []; left = []; cut = refl; fact = answered_none (Broke s) h }
+  flush_steps s Memory Memory h = h
+  flush_steps s Memory WriteFault h = h
+  flush_steps s WriteFault WriteFault h = h
+  flush_steps s _ _ h = absurd h
 
-  pub answered_none : (f : ℕ) (a : Option (List ℕ)) (x : List ℕ) → Answered answers (sending_by f f a a x x) []
-  answered_none f a x = record { replies = []; each = refl; sent = (Moves-along a a x (x ++ []) x x (sym (append-nil x)) refl (Moves-none a x), refl) }
+  -- no step
+  pub steps_none : (f : ℕ) (a : Option (List ℕ)) (x : List ℕ) (p : WriterState) → RepliesFrom answers p [] (sending_by f f a a x x) p
+  steps_none f a x Active = answered_none (Sent (sending_by f f a a x x)) (sent_none f a x)
+  steps_none f a x Memory = sent_none f a x
+  steps_none f a x WriteFault = (refl, refl)
 
   module _ (f f1 f2 : ℕ) (a b c : Option (List ℕ)) (x y z : List ℕ) where
-    -- replies, and then more
-    pub answered_then : (ws vs : List Wish) → Answered answers (sending_by f f1 a b x y) ws → Answered answers (sending_by f1 f2 b c y z) vs → Answered answers (sending_by f f2 a c x z) (ws ++ vs)
-    answered_then ws vs h k = record {
-      replies = h.replies ++ k.replies;
-      each = Replies-append ws vs h.replies k.replies h.each k.each;
-      sent = (Moves-then a b c x (join h.replies) (join k.replies) _ y z (join-append h.replies k.replies) h.sent.0 k.sent.0, k.sent.1 ∙ h.sent.1);
-    }
+    sent_then : (p q : List ℕ) → Sent (sending_by f f1 a b x y) p → Sent (sending_by f1 f2 b c y z) q → Sent (sending_by f f2 a c x z) (p ++ q)
+    sent_then p q h k = (Moves-then a b c x p q (p ++ q) y z refl h.0 k.0, k.1 ∙ h.1)
 
-    -- replies, and then some at which a write failed
-    pub failed_then : (ws vs : List Wish) → Answered answers (sending_by f f1 a b x y) ws → Failed answers (sending_by f1 f2 b c y z) vs → Failed answers (sending_by f f2 a c x z) (ws ++ vs)
-    failed_then ws vs h k = record {
-      replies = h.replies ++ k.replies;
-      each = Replies-append ws vs h.replies k.replies h.each k.each;
-      broke = ((k.broke.0.0, Moves-then a b c x (join h.replies) (join k.replies) _ y k.broke.0.0 (join-append h.replies k.replies) h.sent.0 k.broke.0.1), k.broke.1 ∙ ap (λ v. v + 1) h.sent.1);
-    }
+    broke_then : (p q : List ℕ) → Sent (sending_by f f1 a b x y) p → Broke (sending_by f1 f2 b c y z) q → Broke (sending_by f f2 a c x z) (p ++ q)
+    broke_then p q h k = ((k.0.0, Moves-then a b c x p q (p ++ q) y k.0.0 refl h.0 k.0.1), k.1 ∙ ap (λ v. v + 1) h.1)
 
-    -- replies, and then no more
-    pub answered_still : (ws : List Wish) → Answered answers (sending_by f f1 a b x y) ws → Sent (sending_by f1 f2 b c y z) [] → Answered answers (sending_by f f2 a c x z) ws
-    answered_still ws h k = record {
-      replies = h.replies;
-      each = h.each;
-      sent = (Moves-then a b c x (join h.replies) [] _ y z (append-nil (join h.replies)) h.sent.0 k.0, k.1 ∙ h.sent.1);
-    }
+    broke_still : (p : List ℕ) → Broke (sending_by f f1 a b x y) p → Still (sending_by f1 f2 b c y z) → Broke (sending_by f f2 a c x z) p
+    broke_still p h k = ((h.0.0, subst (λ d. Moves a d (x ++ p) h.0.0) (sym k.0) h.0.1), k.1 ∙ h.1)
 
-    -- .. that fails
-    pub answered_broken : (ws : List Wish) → Answered answers (sending_by f f1 a b x y) ws → ((q : List ℕ) × Moves b c y q) × (f2 ≡ f1 + 1) → Failed answers (sending_by f f2 a c x z) ws
-    answered_broken ws h k = record {
-      replies = h.replies;
-      each = h.each;
-      broke = ((k.0.0, Moves-trans a b c _ y k.0.0 h.sent.0 k.0.1), k.1 ∙ ap (λ v. v + 1) h.sent.1);
-    }
+    -- two steps are one
+    pub steps_then : (ws vs : List Wish) (p q r : WriterState) → RepliesFrom answers p ws (sending_by f f1 a b x y) q → RepliesFrom answers q vs (sending_by f1 f2 b c y z) r → RepliesFrom answers p (ws ++ vs) (sending_by f f2 a c x z) r
+    steps_then ws vs Memory Active r h k = absurd h
+    steps_then ws vs WriteFault Active r h k = absurd h
+    steps_then ws vs WriteFault Memory r h k = absurd h
+    steps_then ws vs Active Active Active h k = answered_then _ _ _ sent_then ws vs h k
+    steps_then ws vs Active Active Memory h k = first_behind ws vs (λ front. answered_then _ _ _ sent_then ws front h) k
+    steps_then ws vs Active Active WriteFault h k = first_behind ws vs (λ front. answered_then _ _ _ broke_then ws front h) k
+    steps_then ws vs Active Memory Memory h k = first_before ws vs (answered_still _ _ (λ p g. subst (Sent (sending_by f f2 a c x z)) (append-nil p) (sent_then p [] g k))) h
+    steps_then ws vs Active Memory WriteFault h k = first_before ws vs (answered_still _ _ (λ p g. subst (Broke (sending_by f f2 a c x z)) (append-nil p) (broke_then p [] g k))) h
+    steps_then ws vs Active WriteFault WriteFault h k = first_before ws vs (answered_still _ _ (λ p g. broke_still p g k)) h
+    steps_then ws vs Memory Memory Memory h k = sent_then [] [] h k
+    steps_then ws vs Memory Memory WriteFault h k = broke_then [] [] h k
+    steps_then ws vs Memory WriteFault WriteFault h k = broke_still [] h k
+    steps_then ws vs WriteFault WriteFault WriteFault h k = (k.0 ∙ h.0, k.1 ∙ h.1)
+    steps_then ws vs _ _ _ h k = absurd k

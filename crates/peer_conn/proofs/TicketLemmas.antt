@@ -1,5 +1,5 @@
 -- Laws of tickets and of the ends of their lane.
-use Rattle.std.proofs.Common.{◌≡◌, ℕ, ◌+◌, List, [], ◌∷◌, ◌++◌, refl, ◌∙◌, ap, arith}
+use Rattle.std.proofs.Common.{◌≡◌, ◌+◌, List, [], ◌∷◌, ◌++◌, refl, ◌∙◌, ap, arith}
 use Rattle.peer_reply.specs.declared.wish.Wish.{Wish}
 use Rattle.peer_source.specs.declared.source.Source.{Ghosts}
 use Rattle.peer_lane.specs.Lanes.{IsSameIn, IsSameOut}

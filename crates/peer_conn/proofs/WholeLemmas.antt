@@ -1,5 +1,6 @@
 -- Laws of whole lists of wishes.
 use Rattle.std.proofs.Common.{◌≡◌, ℕ, ◌+◌, ◌<◌, Bool, true, false, List, [], ◌∷◌, ◌++◌, length, ◌⊎◌, inl, inr, refl, sym, ◌∙◌, ap, subst, arith, append_assoc, append-nil, length-append, Option, None, Some}
+use Rattle.std.proofs.lemmas.Bool.{true≢false}
 use Rattle.peer_head.specs.Blocks.{IsTooLong, IsUnfinished}
 use Rattle.peer_head.specs.Heads.{HeadParts}
 use Rattle.peer_head.specs.Faults.{head_fault, is_bare}
@@ -75,10 +76,7 @@ module _ (numbers : List ℕ → Option ℕ) where
       not_last n x.closing lt k.2 (ap (λ y. closes_after n y.closing) (sym same.0) ∙ e)
     where
       not_last : (n : ℕ) (closing : Bool) → n + 1 < MAX_REPLIES → closing ≡ false → closes_after n closing ≡ true → ⊥
-      not_last n true lt open_wish e = absurd (true_false open_wish)
-        where
-          true_false : true ≡ false → ⊥
-          true_false q = cc
+      not_last n true lt open_wish e = absurd (true≢false open_wish)
       not_last n false lt open_wish e = grind (arith, e)
 
   -- a text has one wish that closes

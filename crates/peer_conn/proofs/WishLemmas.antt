@@ -1,5 +1,6 @@
 -- Laws of the wishes of a text.
 use Rattle.std.proofs.Common.{◌≡◌, ℕ, ◌+◌, ◌<◌, Bool, true, false, List, [], ◌∷◌, ◌++◌, length, ◌⊎◌, inl, inr, refl, sym, ◌∙◌, ap, subst, arith, append_assoc, length-append, Option}
+use Rattle.std.proofs.lemmas.Bool.{true≢false}
 use Rattle.peer_head.specs.Blocks.{Begins, HasBlock}
 use Rattle.peer_head.specs.Heads.{HeadParts}
 use Rattle.peer_head.specs.Looks.{ShowsHead, IsFault, too_long as TooLong, no_head as NoHead, of_head}
@@ -45,9 +46,8 @@ module _ (numbers : List ℕ → Option ℕ) where
   pub Open-append : (n m : ℕ) (t u v : List ℕ) (ws vs : List Wish) → OpenWishes numbers n t ws u → m ≡ n + length ws → OpenWishes numbers m u vs v → OpenWishes numbers n t (ws ++ vs) v
   Open-append n m t u v ws vs h e k = record { asks = AsksInTurn-append ws vs t u v h.asks k.asks; count = omega (arith, length-append ws vs, k.count) }
 
-  pub Open-more : (n m : ℕ) (t u v : List ℕ) (ws : List Wish) (w : Wish) → OpenWishes numbers n t ws u → m ≡ n + length ws → AsksOpen numbers m u w v → OpenWishes numbers n t (ws ++ w ∷ []) v
-  Open-more n m t u v ws w h e k =
-      record { asks = AsksInTurn-append ws (w ∷ []) t u v h.asks (v, k.asks, k.stays_open, refl); count = omega (arith, length-append ws (w ∷ []), k.count) }
+  pub Open-one : (n : ℕ) (t u : List ℕ) (w : Wish) → AsksOpen numbers n t w u → OpenWishes numbers n t (w ∷ []) u
+  Open-one n t u w h = record { asks = (u, h.asks, h.stays_open, refl); count = omega (arith, h.count) }
 
   pub Closed-append : (n m : ℕ) (t u : List ℕ) (ws vs : List Wish) → OpenWishes numbers n t ws u → m ≡ n + length ws → ClosedWishes numbers m u vs → ClosedWishes numbers n t (ws ++ vs)
   Closed-append n m t u ws vs h e k =
@@ -61,8 +61,8 @@ module _ (numbers : List ℕ → Option ℕ) where
         all = ap (λ v. ws ++ v) k.all ∙ sym (append_assoc ws k.front (k.last ∷ []));
       }
 
-  pub Closed-last : (n m : ℕ) (t u : List ℕ) (ws : List Wish) (w : Wish) → OpenWishes numbers n t ws u → m ≡ n + length ws → IsLastWish numbers m u w → ClosedWishes numbers n t (ws ++ w ∷ [])
-  Closed-last n m t u ws w h e k = record { front = ws; last = w; at = u; opens = h; closes = subst (λ c. IsLastWish numbers c u w) e k; all = refl }
+  pub Closed-one : (n : ℕ) (t : List ℕ) (w : Wish) → n < MAX_REPLIES → IsLastWish numbers n t w → ClosedWishes numbers n t (w ∷ [])
+  Closed-one n t w lt h = let same : n ≡ n + length {A = Wish} [] = omega arith in record { front = []; last = w; at = t; opens = Open-none n t lt; closes = subst (λ c. IsLastWish numbers c t w) same h; all = refl }
 
   -- the first wishes of what is left follow those before
   pub First-append : (n m : ℕ) (t u : List ℕ) (ws vs : List Wish) → OpenWishes numbers n t ws u → m ≡ n + length ws → AreFirst numbers m u vs → AreFirst numbers n t (ws ++ vs)
@@ -83,17 +83,11 @@ module _ (numbers : List ℕ → Option ℕ) where
 
   -- .. and where it does not
   pub next_block : (n : ℕ) (t : List ℕ) (w : Wish) → IsNextWish numbers t w → closes_after n w.closing ≡ false → HasBlock t
-  next_block n t w (too_long h) e = absurd (true_false e)
-    where
-      true_false : true ≡ false → ⊥
-      true_false p = cc
+  next_block n t w (too_long h) e = absurd (true≢false e)
   next_block n t w (first v rest asks) e = (asks.block, (rest, asks.begins))
 
   pub next_stays : (n : ℕ) (t : List ℕ) (w : Wish) (u : List ℕ) → IsNextWish numbers t w → closes_after n w.closing ≡ false → n < MAX_REPLIES → (block : List ℕ) × Begins t block u → AsksOpen numbers n t w u
-  next_stays n t w u (too_long h) e lt b = absurd (true_false e)
-    where
-      true_false : true ≡ false → ⊥
-      true_false p = cc
+  next_stays n t w u (too_long h) e lt b = absurd (true≢false e)
   next_stays n t w u (first v rest asks) e lt b =
       let same = begins_once_law t asks.block b.0 rest u asks.begins b.1 in
       record { asks = subst (λ x. Asks numbers t v x) same.1 asks; stays_open = stays_open n v.closing e; count = one_more n v.closing lt e }

@@ -1,5 +1,5 @@
--- Laws of what the writer's side of a connection did.
-use Rattle.std.proofs.Common.{◌≡◌, ◌∙◌, ℕ, ◌+◌, ◌-◌, ◌^◌, ◌<◌, ◌≤◌, List, [], ◌∷◌, ◌++◌, length, min, refl, sym, ap, subst, arith, append-nil, append_assoc, length-append}
+-- Laws of what the writer's side of a connection did, and of the tickets that it made good.
+use Rattle.std.proofs.Common.{◌≡◌, ◌∙◌, ℕ, ◌+◌, ◌^◌, ◌<◌, List, [], ◌∷◌, ◌++◌, length, min, refl, sym, ap, subst, arith, append-nil, append_assoc, length-append}
 use Rattle.peer_source.specs.Answers.{Answer}
 use Rattle.peer_source.specs.declared.source.Source as Source
 use Rattle.peer_view.specs.declared.writer.PeerWrite as Write
@@ -7,14 +7,26 @@ use Rattle.peer_lane.specs.Lanes.{IsSameOut, tickets_taken, tickets_known}
 use Rattle.peer_lane.specs.declared.lane_out.LaneOut.{LaneOut}
 use Rattle.peer_lane.specs.declared.ticket.Ticket.{Ticket}
 use Rattle.peer_reply.specs.declared.wish.Wish.{Wish}
-use Rattle.peer_conn.specs.Strangers.{Stranger, CountsStrangers}
 use Rattle.peer_conn.specs.Tickets.{wish_by, wishes_by, wishes_taken}
 use Rattle.peer_conn.specs.Responses.{PutsReplies}
+use Rattle.peer_conn.specs.Strangers.{CountsStrangers}
 use Rattle.peer_conn.specs.WriterSides.{AnswersTickets, MakesGood}
 use Rattle.peer_conn.specs.declared.writer_side.WriterSide.{WriterSide}
 use Rattle.peer_conn.proofs.TicketLemmas.{same_out, wishes-append}
-use Rattle.peer_conn.proofs.StrangerLemmas.{none_good, strangers_then}
 use Rattle.peer_conn.proofs.ResponseLemmas.{replies_none, replies_on, replies_then}
+
+pub none_good : {n : ℕ} → n < 2 ^ 64 → MakesGood n n
+none_good {n} h = record { made_good = []; counted = omega (arith, h) }
+
+pub strangers_then : {most a b c : ℕ} → CountsStrangers most a b → CountsStrangers most b c → CountsStrangers most a c
+strangers_then {most} {a} {b} {c} h k = record {
+  made_good = h.made_good ++ k.made_good;
+  counted = omega (arith, h.counted, k.counted, length-append h.made_good k.made_good);
+}
+
+-- what a seat counts of the tickets that a writer made good, which began with none
+pub seat_counts : {n n' a b c : ℕ} → n ≡ 0 → MakesGood n n' → b ≡ a → c ≡ min (b + n') (2 ^ 56) → CountsStrangers (2 ^ 56) a c
+seat_counts {n} {n'} {a} {b} {c} none h same e = record { made_good = h.made_good; counted = omega (arith, none, h.counted, same, e) }
 
 module _ {S W : Type 0} {g : Source.Ghosts S} {k : Write.Ghosts W} {answers : ℕ → List ℕ → Answer → Type 0} where
   pub tickets_none : {a : WriterSide S W g k} → AnswersTickets answers a a

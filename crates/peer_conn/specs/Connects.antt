@@ -1,12 +1,12 @@
 -- What a call for a connection did, with its reader and its writer in threads of their own.
-use Rattle.std.specs.Prelude.{◌≡◌, ℕ, ◌+◌, ◌≤◌, List, Option}
-use Rattle.std.specs.Io.KnownBytes.{Appends}
+use Rattle.std.specs.Prelude.{◌≡◌, ℕ, ◌+◌, List, Option}
 use Rattle.peer_source.specs.Answers.{Answer}
+use Rattle.peer_flight.specs.declared.table.AskFault.TheVariants as ask
 use Rattle.peer_reply.specs.declared.wish.Wish.{Wish}
 use Rattle.peer_conn.specs.Wishes.{AreFirst}
 use Rattle.peer_conn.specs.Laws.{IsWhole}
 use Rattle.peer_conn.specs.Tickets.{asks_in}
-use Rattle.peer_conn.specs.Ends.{Reading, Writing, EndsAs}
+use Rattle.peer_conn.specs.Ends.{Reading, Writing, Serves}
 use Rattle.peer_conn.specs.declared.end.End.{End}
 use Rattle.peer_conn.specs.declared.end.End.TheVariants as end
 use Rattle.peer_conn.specs.declared.end.ReaderStop.{ReaderStop}
@@ -27,8 +27,8 @@ end_for state.Active stop.Ended = end.Clean
 end_for state.Active stop.Cut = end.Cut
 end_for state.Active stop.ReadFault = end.ReadFault
 end_for state.Active stop.Spent = end.Spent
-end_for state.Active stop.Memory = end.Memory
-end_for state.Active stop.Worn = end.Worn
+end_for state.Active (stop.Refused ask.Memory) = end.Memory
+end_for state.Active (stop.Refused ask.Worn) = end.Worn
 end_for state.Active stop.Stopped = end.Memory
 
 -- the wishes that were asked for: all of the text's where it was read through
@@ -38,14 +38,9 @@ AreAsked numbers end.Memory t ws = AreFirst numbers 0 t ws
 AreAsked numbers end.Worn t ws = AreFirst numbers 0 t ws
 AreAsked numbers _ t ws = IsWhole numbers 0 t ws
 
--- at most `reads` reads, which gave the text, and writes, which took the output; a seat asked for those of its wishes that have group and key
+-- what a call for a connection did; and a seat asked for those of the text's wishes that have group and key
 pub record Connects (numbers : List ℕ → Option ℕ) (answers : ℕ → List ℕ → Answer → Type 0) (reads : ℕ) (r : Reading) (w : Writing) (asked asked' : ℕ) (end : End) : Type 0 where
-  pub text : List ℕ
-  pub output : List ℕ
+  pub serves : Serves numbers answers reads r w end
   pub wishes : List Wish
-  pub gave : Appends r.given r.given' text
-  pub took : Appends w.taken w.taken' output
-  pub calls : r.calls' ≤ r.calls + reads
-  pub ends : EndsAs numbers answers reads r w text output end
-  pub asks : AreAsked numbers end text wishes
+  pub asks : AreAsked numbers end serves.text wishes
   pub counted : asked' ≡ asked + asks_in wishes

@@ -1,6 +1,7 @@
 -- What a connection's requests did between two moments: the bytes that came, and the wishes that were given.
 use Rattle.std.specs.Prelude.{◌≡◌, ℕ, ◌+◌, ◌≤◌, List, [], ◌∷◌, ◌++◌, length, Option, Result, Ok, Err}
 use Rattle.std.specs.Io.KnownBytes.{Appends}
+use Rattle.peer_flight.specs.declared.table.AskFault.TheVariants as ask
 use Rattle.peer_head.specs.Blocks.{IsUnfinished}
 use Rattle.peer_view.specs.declared.reader.PeerRead.{Ghosts}
 use Rattle.peer_reply.specs.declared.wish.Wish.{Wish}
@@ -46,7 +47,7 @@ module _ {R : Type 0} {G : Ghosts R} where
   GivesNext numbers old new (given.Request w) = Receives numbers old new (w ∷ [])
   GivesNext numbers old new (given.Last w) = Stops numbers old new (w ∷ []) stop.Closed
   GivesNext numbers old new given.Need = IsUnfinished new.held.held × Receives numbers old new []
-  GivesNext numbers old new given.NoMemory = Stops numbers old new [] stop.Memory
+  GivesNext numbers old new given.NoMemory = Stops numbers old new [] (stop.Refused ask.Memory)
 
   -- bytes came, or no more
   abbrev pub Reads : (List ℕ → Option ℕ) → Requests R G → Requests R G → Result Unit ReaderStop → Type 0

@@ -5,8 +5,6 @@ use Rattle.peer_head.specs.Pairs.{ArePairs}
 use Rattle.peer_reply.specs.declared.wish.Wish.{Wish}
 use Rattle.peer_conn.specs.Wishes.{ClosedWishes, AreFirst, AreAll}
 use Rattle.peer_conn.specs.Ends.{Reading}
-use Rattle.peer_flight.specs.declared.table.AskFault.{AskFault}
-use Rattle.peer_flight.specs.declared.table.AskFault.TheVariants as ask
 use Rattle.peer_conn.specs.declared.end.ReaderStop.{ReaderStop}
 use Rattle.peer_conn.specs.declared.end.ReaderStop.TheVariants as stop
 
@@ -17,8 +15,7 @@ StopsAs numbers n reads r t ws stop.Ended = (rest : List ℕ) × AreAll numbers 
 StopsAs numbers n reads r t ws stop.Cut = (rest : List ℕ) × AreAll numbers n t ws rest × (¬ (ArePairs rest)) × (r.ends < r.ends') × (r.failures' ≡ r.failures)
 StopsAs numbers n reads r t ws stop.ReadFault = (rest : List ℕ) × AreAll numbers n t ws rest × (r.failures < r.failures')
 StopsAs numbers n reads r t ws stop.Spent = (rest : List ℕ) × AreAll numbers n t ws rest × (r.calls' ≡ r.calls + reads) × (r.ends' ≡ r.ends) × (r.failures' ≡ r.failures)
-StopsAs numbers n reads r t ws stop.Memory = AreFirst numbers n t ws
-StopsAs numbers n reads r t ws stop.Worn = AreFirst numbers n t ws
+StopsAs numbers n reads r t ws (stop.Refused fault) = AreFirst numbers n t ws
 StopsAs numbers n reads r t ws stop.Stopped = AreFirst numbers n t ws
 
 -- what stopped an end of reads
@@ -35,8 +32,3 @@ pub record IsRead (numbers : List ℕ → Option ℕ) (reads : ℕ) (r : Reading
   pub gave : Appends r.given r.given' text
   pub calls : r.calls' ≤ r.calls + reads
   pub stops : StopsAs numbers 0 reads r text ws stop
-
--- what stops a reader whose ask was refused
-abbrev pub stop_for : AskFault → ReaderStop
-stop_for ask.Memory = stop.Memory
-stop_for ask.Worn = stop.Worn

@@ -1,11 +1,11 @@
 -- What a block asks for, the wishes of a text, and when they end (RFC 9112, sections 9.3 and 9.3.2).
-use Rattle.std.specs.Prelude.{◌≡◌, ℕ, ◌+◌, ◌<◌, ◌⊎◌, ◌==◌, Bool, true, false, ◌||◌, List, [], ◌∷◌, ◌++◌, length, codes, bytes_eq, Option, Some, None, Ok, Err, if◌then◌else◌}
+use Rattle.std.specs.Prelude.{◌≡◌, ℕ, ◌+◌, ◌<◌, ◌⊎◌, ◌==◌, Bool, true, false, ◌||◌, List, [], ◌∷◌, ◌++◌, length, codes, bytes_eq, Option, Some, None, Result, Ok, Err, if◌then◌else◌}
 use Rattle.peer_head.specs.Blocks.{Begins, IsTooLong, IsUnfinished}
 use Rattle.peer_head.specs.Heads.{HeadParts, IsHead, HasNoHead}
 use Rattle.peer_head.specs.Faults.{head_fault, is_closing, is_bare}
 use Rattle.peer_head.specs.declared.fault.HeadFault.{HeadFault}
 use Rattle.peer_head.specs.declared.fault.HeadFault.TheVariants as head
-use Rattle.peer_path.specs.Places.{place_of, Target, Escape, Outside, NoKey}
+use Rattle.peer_path.specs.Places.{PlaceParts, Refusal, place_of, Target, Escape, Outside, NoKey}
 use Rattle.peer_source.specs.declared.group.GroupId.{GroupId}
 use Rattle.peer_reply.specs.declared.fault.Fault.{Fault}
 use Rattle.peer_reply.specs.declared.fault.Fault.TheVariants as fault
@@ -39,17 +39,17 @@ abbrev pub in_group : Option ℕ → List ℕ → List ℕ → WishBody
 in_group (Some number) name key = body.Get (record { number = number }) key
 in_group None name key = body.Fault (fault.NoGroup name)
 
--- what a target asks for; `numbers` gives the number of the group of a name
+-- what a place asks for, or the refusal of one; `numbers` gives the number of the group of a name
+abbrev pub placed_body : (List ℕ → Option ℕ) → Result PlaceParts Refusal → WishBody
+placed_body numbers (Ok place) = in_group (numbers place.group) place.group place.key
+placed_body numbers (Err Target) = body.Fault fault.Target
+placed_body numbers (Err Escape) = body.Fault fault.Escape
+placed_body numbers (Err Outside) = body.Fault fault.Outside
+placed_body numbers (Err NoKey) = body.Fault fault.NoKey
+
+-- what a target asks for
 abbrev pub target_body : (List ℕ → Option ℕ) → List ℕ → WishBody
-target_body numbers target = elim (place_of target) as (λ _. WishBody) [
-  | Ok place ↦ in_group (numbers place.group) place.group place.key
-  | Err refusal ↦ elim refusal as (λ _. WishBody) [
-    | Target ↦ body.Fault fault.Target
-    | Escape ↦ body.Fault fault.Escape
-    | Outside ↦ body.Fault fault.Outside
-    | NoKey ↦ body.Fault fault.NoKey
-  ]
-]
+target_body numbers target = placed_body numbers (place_of target)
 
 -- GET and HEAD are served (RFC 9110, sections 9.3.1 and 9.3.2)
 abbrev pub is_served : List ℕ → Bool

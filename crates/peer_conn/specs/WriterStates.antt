@@ -2,7 +2,7 @@
 use Rattle.std.specs.Prelude.{◌≡◌, ℕ, Bool, true, false, List, [], ◌++◌, Option, Some, None}
 use Rattle.peer_source.specs.Answers.{Answer}
 use Rattle.peer_reply.specs.declared.wish.Wish.{Wish}
-use Rattle.peer_conn.specs.Sending.{Sending, Sent, Broke, Answered, Failed}
+use Rattle.peer_conn.specs.Sending.{Sending, Sent, Broke, Answered}
 use Rattle.peer_conn.specs.declared.end.WriterState.{WriterState}
 use Rattle.peer_conn.specs.declared.end.WriterState.TheVariants as state
 
@@ -39,25 +39,18 @@ PutsFrom state.WriteFault r s state.Active = ⊥
 PutsFrom state.WriteFault r s state.Memory = ⊥
 PutsFrom state.WriteFault r s state.WriteFault = Still s
 
--- the first of the wishes were answered, and then no more
-pub record AnsweredFirst (answers : ℕ → List ℕ → Answer → Type 0) (s : Sending) (ws : List Wish) : Type 0 where
+-- this is true of the first of the wishes
+pub record IsOfFirst (Fact : List Wish → Type 0) (ws : List Wish) : Type 0 where
   pub front : List Wish
   pub left : List Wish
   pub cut : front ++ left ≡ ws
-  pub answered : Answered answers s front
-
--- a write failed while the first of the wishes were answered
-pub record FailedFirst (answers : ℕ → List ℕ → Answer → Type 0) (s : Sending) (ws : List Wish) : Type 0 where
-  pub front : List Wish
-  pub left : List Wish
-  pub cut : front ++ left ≡ ws
-  pub failed : Failed answers s front
+  pub fact : Fact front
 
 -- from one state to another, with the tickets of these wishes taken
 abbrev pub RepliesFrom : (ℕ → List ℕ → Answer → Type 0) → WriterState → List Wish → Sending → WriterState → Type 0
-RepliesFrom answers state.Active ws s state.Active = Answered answers s ws
-RepliesFrom answers state.Active ws s state.Memory = AnsweredFirst answers s ws
-RepliesFrom answers state.Active ws s state.WriteFault = FailedFirst answers s ws
+RepliesFrom answers state.Active ws s state.Active = Answered answers (Sent s) ws
+RepliesFrom answers state.Active ws s state.Memory = IsOfFirst (Answered answers (Sent s)) ws
+RepliesFrom answers state.Active ws s state.WriteFault = IsOfFirst (Answered answers (Broke s)) ws
 RepliesFrom answers state.Memory ws s state.Active = ⊥
 RepliesFrom answers state.Memory ws s state.Memory = Sent s []
 RepliesFrom answers state.Memory ws s state.WriteFault = Broke s []

@@ -8,18 +8,19 @@ ghost use Rattle.peer_fill.specs.Seats.{asks_of, conn_parts};
 ghost use Rattle.peer_lane.specs.Lanes.{tickets_put, tickets_taken, IsLane};
 ghost use Rattle.peer_conn.specs.Ends.{reading, writing};
 ghost use Rattle.peer_conn.specs.Connects.{Connects, allows};
+ghost use Rattle.peer_conn.specs.Headline.{WritesReplies};
 ghost use Rattle.peer_conn.specs.Sides.{ServesSides};
 ghost use Rattle.peer_conn.specs.Strangers.{CountsStrangers};
 
 use crate::end::{Served, end_of, refused};
-use crate::reader_side::ReaderSide;
+use crate::reader_side::{ReaderSide, StoppedReader};
 use crate::requests::Requests;
 use crate::responses::Responses;
-use crate::threads::{StoppedReader, run_sides};
+use crate::threads::run_sides;
 use crate::writer_side::WriterSide;
 use peer_fill::{ConnSeat, Pool};
 use peer_lane::{Signal, lane};
-use peer_source::Source;
+use peer_source::{FunctionalSource, Source};
 use peer_view::{PeerRead, PeerWrite};
 use std::alloc::Global;
 use std::sync::Wait;
@@ -54,9 +55,10 @@ pub fn serve_connection<
     ensures strangers { CountsStrangers (2 ^ 56) (asks_of seat).strangers (asks_of result.1).strangers }
     ensures connects { let r = reading R.given R.calls R.ends R.failures reader result.0.reader in
         let w = writing W.taken W.failures writer result.0.writer in
-        let asked = (asks_of seat).asked in
-        let asked' = (asks_of result.1).asked in
-        Connects (S.number_of (source_of pool.now)) (allows S.allowed) reads r w asked asked' result.0.end }
+        Connects (S.number_of (source_of pool.now)) (allows S.allowed) reads r w (asks_of seat).asked (asks_of result.1).asked result.0.end }
+    ensures writes_replies { let r = reading R.given R.calls R.ends R.failures reader result.0.reader in
+        let w = writing W.taken W.failures writer result.0.writer in
+        WritesReplies (S.number_of (source_of pool.now)) (allows S.allowed) r w result.0.end }
 {
     let responses = match Responses::new(alloc, writer) {
         Ok(responses) => responses,
@@ -83,6 +85,39 @@ pub fn serve_connection<
         }
         Err(_) => (refused(requests.reader, responses.out.writer), seat),
     }
+}
+
+/// `serve_connection`, whose replies are those of the one answer for each group and key: what is written is a prefix of
+/// the replies to what was read, whatever other connections, workers and schedules do.
+pub fn serve_connection_functional<
+    S: FunctionalSource,
+    L: Ledger + Send + Sync,
+    R: PeerRead + Send + Drop,
+    W: PeerWrite + Drop,
+    H: Threads + Wait + Sync,
+>(
+    rt: &H,
+    alloc: Global,
+    pool: &Pool<S, L>,
+    seat: ConnSeat<S, L>,
+    reader: R,
+    writer: W,
+    reads: u64,
+) -> (Served<R, W>, ConnSeat<S, L>)
+    requires seat { IsConnSeatOf pool.now seat }
+    requires calls { R.calls reader + reads < 2 ^ 64 }
+    requires failures { W.failures writer < 2 ^ 64 - 1 }
+    ensures seat { IsConnSeatOf pool.now result.1 }
+    ensures parts { conn_parts result.1 ≡ conn_parts seat }
+    ensures strangers { CountsStrangers (2 ^ 56) (asks_of seat).strangers (asks_of result.1).strangers }
+    ensures connects { let r = reading R.given R.calls R.ends R.failures reader result.0.reader in
+        let w = writing W.taken W.failures writer result.0.writer in
+        Connects S.the_number (λ g k a. a ≡ S.the_answer g k) reads r w (asks_of seat).asked (asks_of result.1).asked result.0.end }
+    ensures writes_replies { let r = reading R.given R.calls R.ends R.failures reader result.0.reader in
+        let w = writing W.taken W.failures writer result.0.writer in
+        WritesReplies S.the_number (λ g k a. a ≡ S.the_answer g k) r w result.0.end }
+{
+    serve_connection(rt, alloc, pool, seat, reader, writer, reads)
 }
 
 // Serves, where nothing was read, put or written yet.

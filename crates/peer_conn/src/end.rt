@@ -1,8 +1,10 @@
 //! How a connection ends.
 //!
-//! It stands on nothing. It promises one end for what stopped the reader and how the writer stands.
+//! It stands on the faults of asks of `peer_flight`. It promises one end for what stopped the reader and how the writer stands.
 ghost use Rattle.std.specs.Prelude.{◌≡◌};
 ghost use Rattle.peer_conn.specs.Connects.{end_for};
+
+use peer_flight::AskFault;
 
 /// Why a connection ended. Where several causes apply, `WriteFault` comes first, then `Memory`, then `Worn`, and then
 /// what stopped the reader.
@@ -33,7 +35,7 @@ pub struct Served<R, W> {
 }
 
 /// What stopped the reader.
-#[derive(Clone, Copy, Debug)]
+#[derive(Drop, Debug)]
 pub(crate) enum ReaderStop {
     /// A reply closes.
     Closed,
@@ -44,8 +46,8 @@ pub(crate) enum ReaderStop {
     ReadFault,
     /// All reads were made.
     Spent,
-    Memory,
-    Worn,
+    /// An ask was refused, or memory for a key.
+    Refused(AskFault),
     /// The writer needs no more.
     Stopped,
 }
@@ -65,8 +67,9 @@ pub(crate) fn end_of(state: WriterState, stop: ReaderStop) -> End
     match (state, stop) {
         (WriterState::WriteFault, _) => End::WriteFault,
         (WriterState::Memory, _)
-        | (WriterState::Active, ReaderStop::Memory | ReaderStop::Stopped) => End::Memory,
-        (WriterState::Active, ReaderStop::Worn) => End::Worn,
+        | (WriterState::Active, ReaderStop::Refused(AskFault::Memory) | ReaderStop::Stopped) =>
+            End::Memory,
+        (WriterState::Active, ReaderStop::Refused(AskFault::Worn)) => End::Worn,
         (WriterState::Active, ReaderStop::Closed | ReaderStop::Ended) => End::Clean,
         (WriterState::Active, ReaderStop::Cut) => End::Cut,
         (WriterState::Active, ReaderStop::ReadFault) => End::ReadFault,

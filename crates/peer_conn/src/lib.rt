@@ -8,21 +8,17 @@
 
 mod connection;
 mod end;
-mod functional;
 pub mod laws;
 mod reader_side;
 mod requests;
 mod responses;
 mod serial;
 mod threads;
-mod told;
 mod wish;
 mod write_buffer;
 mod writer_side;
 
-pub use connection::serve_connection;
+pub use connection::{serve_connection, serve_connection_functional};
 pub use end::{End, Served};
-pub use functional::{serve_connection_functional, serve_functional};
-pub use serial::serve_serial;
-pub use told::serve_told;
+pub use serial::{serve_functional, serve_serial, serve_told};
 pub use wish::wish_of;

@@ -2,12 +2,12 @@
 //!
 //! It stands on the pool of `peer_fill` and the lanes of `peer_lane`. It promises a ticket for each request that came, in
 //! order, each that has group and key after it was asked for; nothing is read behind a request that closes.
-ghost use Rattle.std.specs.Prelude.{◌≡◌, ◌+◌, IfOk, OnOk, OnErr};
+ghost use Rattle.std.specs.Prelude.{◌≡◌, ◌+◌, [], ◌∷◌, IfOk, OnOk, OnErr};
 ghost use Rattle.peer_fill.specs.Pools.{source_of, IsConnSeatOf};
 ghost use Rattle.peer_fill.specs.Seats.{asks_of, conn_parts};
 ghost use Rattle.peer_conn.specs.Known.{IsKnown};
 ghost use Rattle.peer_conn.specs.Tickets.{wish_by, asks_in_body};
-ghost use Rattle.peer_conn.specs.Stops.{stop_for};
+ghost use Rattle.peer_conn.specs.ReaderSides.{PutsTickets, TakesRequests};
 
 use crate::end::ReaderStop;
 use crate::requests::{NextRequest, Requests};
@@ -29,20 +29,28 @@ pub(crate) struct ReaderSide<S: Source, L: Ledger, R: PeerRead + Drop> {
     pub(crate) requests: Requests<R>,
 }
 
-impl<S: Source, L: Ledger, R: PeerRead + Drop> ReaderSide<S, L, R> {
-    ghost use Rattle.std.specs.Prelude.{◌≡◌, [], ◌∷◌, OnOk, OnErr};
-    ghost use Rattle.peer_fill.specs.Pools.{source_of, IsConnSeatOf};
-    ghost use Rattle.peer_conn.specs.Known.{IsKnown};
-    ghost use Rattle.peer_conn.specs.ReaderSides.{PutsTickets, TakesRequests};
+/// The reader's side, once it is done, and what stopped it.
+#[derive(Drop)]
+pub(crate) struct StoppedReader<S: Source, L: Ledger, R: PeerRead + Drop> {
+    pub(crate) side: ReaderSide<S, L, R>,
+    pub(crate) stop: ReaderStop,
+}
 
+impl<S: Source, L: Ledger, R: PeerRead + Drop> ReaderSide<S, L, R> {
     /// Puts a ticket for each request, until one closes or no more come.
-    pub(crate) fn run<H: Wait>(&mut self, rt: &H, pool: &Pool<S, L>, signal: &Signal) -> ReaderStop
-        requires { IsConnSeatOf pool.now self.old.seat }
-        ensures { TakesRequests (S.number_of (source_of pool.now)) pool.now self.old self.new result }
+    pub(crate) fn run<H: Wait>(
+        self,
+        rt: &H,
+        pool: &Pool<S, L>,
+        signal: &Signal,
+    ) -> StoppedReader<S, L, R>
+        requires { IsConnSeatOf pool.now self.seat }
+        ensures { TakesRequests (S.number_of (source_of pool.now)) pool.now self result.side result.stop }
     {
-        let stop = self.take_requests(rt, pool, &pool.source(), signal);
+        let mut side = self;
+        let stop = side.take_requests(rt, pool, &pool.source(), signal);
         signal.finish();
-        stop
+        StoppedReader { side, stop }
     }
 
     fn take_requests<H: Wait>(
@@ -60,12 +68,12 @@ impl<S: Source, L: Ledger, R: PeerRead + Drop> ReaderSide<S, L, R> {
             match self.requests.next_held(names) {
                 NextRequest::Request(wish) => {
                     if let Err(fault) = self.put(rt, pool, signal, wish) {
-                        return stop_of(fault);
+                        return ReaderStop::Refused(fault);
                     }
                 }
                 NextRequest::Last(wish) => match self.put(rt, pool, signal, wish) {
                     Ok(()) => return ReaderStop::Closed,
-                    Err(fault) => return stop_of(fault),
+                    Err(fault) => return ReaderStop::Refused(fault),
                 },
                 NextRequest::Need => {
                     if signal.is_stopped() {
@@ -75,7 +83,7 @@ impl<S: Source, L: Ledger, R: PeerRead + Drop> ReaderSide<S, L, R> {
                         return stop;
                     }
                 }
-                NextRequest::NoMemory => return ReaderStop::Memory,
+                NextRequest::NoMemory => return ReaderStop::Refused(AskFault::Memory),
             }
         }
     }
@@ -95,13 +103,9 @@ impl<S: Source, L: Ledger, R: PeerRead + Drop> ReaderSide<S, L, R> {
         ensures refused { OnErr result (PutsTickets pool.now self.old.seat self.new.seat self.old.lane self.new.lane []) }
     {
         let alloc = self.requests.alloc;
-        match ticket_of(rt, alloc, pool, &mut self.seat, wish) {
-            Ok(ticket) => {
-                self.lane.put_waiting(rt, signal, ticket);
-                Ok(())
-            }
-            Err(fault) => Err(fault),
-        }
+        let ticket = ticket_of(rt, alloc, pool, &mut self.seat, wish)?;
+        self.lane.put_waiting(rt, signal, ticket);
+        Ok(())
     }
 }
 
@@ -129,24 +133,11 @@ fn ticket_of<S: Source, L: Ledger, H: Wait>(
     } = wish;
     let body = match body {
         WishBody::Fault(fault) => Body::Fault(fault),
-        WishBody::Get(group, key) => match pool.ask(rt, alloc, seat, group, key) {
-            Ok(claim) => Body::Claim(claim),
-            Err(fault) => return Err(fault),
-        },
+        WishBody::Get(group, key) => Body::Claim(pool.ask(rt, alloc, seat, group, key)?),
     };
     Ok(Ticket {
         closing,
         bare,
         body,
     })
-}
-
-// What stopped a reader whose ask was refused.
-fn stop_of(fault: AskFault) -> ReaderStop
-    ensures { result ≡ stop_for fault }
-{
-    match fault {
-        AskFault::Memory => ReaderStop::Memory,
-        AskFault::Worn => ReaderStop::Worn,
-    }
 }

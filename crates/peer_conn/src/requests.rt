@@ -6,7 +6,7 @@ ghost use Rattle.std.specs.Prelude.{◌≡◌, ℕ, ◌+◌, ◌^◌, ◌<◌};
 ghost use Rattle.peer_conn.specs.Wishes.{MAX_REPLIES};
 
 use crate::end::ReaderStop;
-use crate::wish::{closes_after, closing, next_wish};
+use crate::wish::{closes_after, next_wish};
 use peer_head::{FieldPlaces, HeadBuf};
 use peer_reply::Wish;
 use peer_source::{Names, Source};
@@ -79,7 +79,10 @@ impl<R: PeerRead> Requests<R> {
             return NextRequest::Need;
         };
         if closes_after(self.count, next.wish.closing) {
-            return NextRequest::Last(closing(next.wish));
+            return NextRequest::Last(Wish {
+                closing: true,
+                ..next.wish
+            });
         }
         self.held.drop_front(next.len);
         self.count += 1;

@@ -2,16 +2,18 @@
 //!
 //! It stands on the requests and the responses of a connection, and on the sources of `peer_source`. It promises that
 //! what is written is the replies to what was read, as the end says.
-ghost use Rattle.std.specs.Prelude.{◌≡◌, ◌≢◌, ℕ, ◌+◌, ◌-◌, ◌^◌, ◌<◌, [], ◌∷◌};
-ghost use Rattle.peer_conn.specs.Ends.{Serves, reading, writing};
+ghost use Rattle.std.specs.Prelude.{◌≡◌, ◌≢◌, ℕ, ◌+◌, ◌-◌, ◌^◌, ◌<◌, List, [], ◌∷◌, Some};
+ghost use Rattle.peer_conn.specs.Ends.{EndsAs, Serves, reading, writing};
+ghost use Rattle.peer_conn.specs.Headline.{WritesReplies};
 ghost use Rattle.peer_conn.specs.Responses.{PutsReplies};
 ghost use Rattle.peer_conn.specs.Exchanges.{Exchanges};
 
 use crate::end::{End, ReaderStop, Served, end_of, refused};
 use crate::requests::{NextRequest, Requests};
 use crate::responses::Responses;
+use peer_flight::AskFault;
 use peer_reply::{Wish, WishBody};
-use peer_source::{Fill, Names, Source};
+use peer_source::{Fill, FunctionalSource, Names, Source};
 use peer_view::{PeerRead, PeerWrite};
 use std::alloc::Global;
 
@@ -56,6 +58,48 @@ pub fn serve_serial<S: Source, R: PeerRead, W: PeerWrite>(
     }
 }
 
+/// `serve_serial`, whose replies are those of the one answer for each group and key.
+pub fn serve_functional<S: FunctionalSource, R: PeerRead, W: PeerWrite>(
+    alloc: Global,
+    source: &S,
+    reader: R,
+    writer: W,
+    reads: u64,
+) -> Served<R, W>
+    requires calls { R.calls reader + reads < 2 ^ 64 }
+    requires failures { W.failures writer < 2 ^ 64 - 1 }
+    ensures serves { let r = reading R.given R.calls R.ends R.failures reader result.reader in
+        let w = writing W.taken W.failures writer result.writer in
+        Serves S.the_number (λ g k a. a ≡ S.the_answer g k) reads r w result.end }
+    ensures writes_replies { let r = reading R.given R.calls R.ends R.failures reader result.reader in
+        let w = writing W.taken W.failures writer result.writer in
+        WritesReplies S.the_number (λ g k a. a ≡ S.the_answer g k) r w result.end }
+    ensures never_worn { result.end ≢ End.Worn }
+{
+    serve_serial(alloc, source, reader, writer, reads)
+}
+
+/// `serve_serial`, where the reader and the writer tell their bytes, none before the call: its end is that of the very
+/// bytes that came and went.
+pub fn serve_told<S: Source, R: PeerRead, W: PeerWrite>(
+    alloc: Global,
+    source: &S,
+    reader: R,
+    writer: W,
+    reads: u64,
+) -> Served<R, W>
+    requires calls { R.calls reader + reads < 2 ^ 64 }
+    requires failures { W.failures writer < 2 ^ 64 - 1 }
+    requires tells { R.given reader ≡ Some [] }
+    requires holds { W.taken writer ≡ Some [] }
+    ensures { let r = reading R.given R.calls R.ends R.failures reader result.reader in
+        let w = writing W.taken W.failures writer result.writer in
+        let Ends : List ℕ → List ℕ → Type 0 = λ t o. EndsAs (S.number_of source.now) (S.answers source.now) reads r w t o result.end in
+        (t : List ℕ) × (o : List ℕ) × (R.given result.reader ≡ Some t) × (W.taken result.writer ≡ Some o) × Ends t o }
+{
+    serve_serial(alloc, source, reader, writer, reads)
+}
+
 // Answers every request, until one closes or no more come.
 fn answer_all<S: Source, R: PeerRead, W: PeerWrite>(
     alloc: Global,
@@ -65,7 +109,7 @@ fn answer_all<S: Source, R: PeerRead, W: PeerWrite>(
     responses: &mut Responses<W>,
 ) -> ReaderStop
     ensures serves { Exchanges (S.number_of names.now) (S.answers source.now) requests.old requests.new responses.old responses.new result }
-    ensures never_worn { result ≢ ReaderStop.Worn }
+    ensures never_worn { result ≢ ReaderStop.Refused AskFault.Worn }
 {
     loop {
         match requests.next_held(names) {
@@ -88,7 +132,7 @@ fn answer_all<S: Source, R: PeerRead, W: PeerWrite>(
                     return stop;
                 }
             }
-            NextRequest::NoMemory => return ReaderStop::Memory,
+            NextRequest::NoMemory => return ReaderStop::Refused(AskFault::Memory),
         }
     }
 }

@@ -6,8 +6,7 @@ ghost use Rattle.peer_conn.specs.Connects.{allows};
 ghost use Rattle.peer_conn.specs.ReaderSides.{TakesRequests};
 ghost use Rattle.peer_conn.specs.WriterSides.{AnswersTickets};
 
-use crate::end::ReaderStop;
-use crate::reader_side::ReaderSide;
+use crate::reader_side::{ReaderSide, StoppedReader};
 use crate::writer_side::WriterSide;
 use peer_fill::Pool;
 use peer_lane::Signal;
@@ -18,13 +17,6 @@ use std::sync::Wait;
 use std::sync::ledger::Ledger;
 use std::thread;
 use std::thread::{Promise, Threads};
-
-/// The reader's side, once it is done, and what stopped it.
-#[derive(Drop)]
-pub(crate) struct StoppedReader<S: Source, L: Ledger, R: PeerRead + Drop> {
-    pub(crate) side: ReaderSide<S, L, R>,
-    pub(crate) stop: ReaderStop,
-}
 
 // The promise of the reader's thread.
 #[derive(Drop)]
@@ -72,47 +64,18 @@ pub(crate) fn run_sides<
             let job = move || -> StoppedReader<S, L, R>
                 requires { IsConnSeatOf pool.now reader.seat }
                 ensures { TakesRequests (S.number_of (source_of pool.entry.now)) pool.entry.now reader result.side result.stop }
-            { run_reader(rt, pool, signal, reader) };
+            { reader.run(rt, pool, signal) };
             match scope.spawn_with(promise, job) {
                 Ok(child) => {
-                    let written = run_writer(rt, pool, signal, writer);
+                    let written = writer.run(rt, pool, signal);
                     (child.join(rt), written)
                 }
                 Err(refused) => {
                     signal.stop();
                     let read = (refused.value)();
-                    (read, run_writer(rt, pool, signal, writer))
+                    (read, writer.run(rt, pool, signal))
                 }
             }
         },
     )
-}
-
-// The reader's side, in its thread.
-fn run_reader<S: Source, L: Ledger, R: PeerRead + Drop, H: Wait>(
-    rt: &H,
-    pool: &Pool<S, L>,
-    signal: &Signal,
-    side: ReaderSide<S, L, R>,
-) -> StoppedReader<S, L, R>
-    requires { IsConnSeatOf pool.now side.seat }
-    ensures { TakesRequests (S.number_of (source_of pool.now)) pool.now side result.side result.stop }
-{
-    let mut side = side;
-    let stop = side.run(rt, pool, signal);
-    StoppedReader { side, stop }
-}
-
-// The writer's side, in its thread.
-fn run_writer<S: Source, L: Ledger, W: PeerWrite + Drop, H: Wait>(
-    rt: &H,
-    pool: &Pool<S, L>,
-    signal: &Signal,
-    side: WriterSide<S, W>,
-) -> WriterSide<S, W>
-    ensures { AnswersTickets (allows S.allowed) side result }
-{
-    let mut side = side;
-    side.run(rt, pool, signal);
-    side
 }

@@ -3,9 +3,8 @@
 //! It stands on the heads of `peer_head`, the places of `peer_path` and the names of `peer_source`. It promises the wish
 //! of a head: its first fault, or the group and the key that it asks for.
 ghost use Rattle.std.specs.Prelude.{true, ◌≡◌, ℕ, ◌<◌, List, IfOk};
-ghost use Rattle.peer_head.specs.Looks.{LooksAs};
 ghost use Rattle.peer_conn.specs.Wishes.{head_wish, head_body, target_body, in_group, fault_of, is_served, MAX_REPLIES, closes_after};
-ghost use Rattle.peer_conn.specs.Nexts.{IsNext, IsNextOf};
+ghost use Rattle.peer_conn.specs.Nexts.{IsNextOf};
 
 use peer_head::{FieldPlaces, HeadBuf, HeadFault, HeadView, Look};
 use peer_path::{PathFault, locate};
@@ -98,25 +97,6 @@ fn fault_of(fault: HeadFault) -> Fault
     }
 }
 
-// What a look at a text asks for, none where the text is unfinished.
-fn seen_wish<S: Source>(
-    alloc: Global,
-    names: &Names<'_, S>,
-    look: Look<'_>,
-) -> Result<Option<Wish>, AllocError>
-    ensures { IfOk result (λ next. (text : List ℕ) → LooksAs text look.entry → IsNext (S.number_of names.now) text next) }
-{
-    match look {
-        Look::Need => Ok(None),
-        Look::Fault(fault, bare) => Ok(Some(Wish {
-            body: WishBody::Fault(fault_of(fault)),
-            closing: true,
-            bare,
-        })),
-        Look::Head(head) => Ok(Some(wish_of(alloc, names, &head)?)),
-    }
-}
-
 /// A wish, and how many of the bytes held its block takes with the pairs before it.
 #[derive(Drop)]
 pub(crate) struct Next {
@@ -134,9 +114,20 @@ pub(crate) fn next_wish<S: Source>(
     ensures { IfOk result (λ next. IsNextOf (S.number_of names.now) held.now.held next) }
 {
     let (look, len) = held.look(places);
-    match seen_wish(alloc, names, look)? {
-        Some(wish) => Ok(Some(Next { wish, len })),
-        None => Ok(None),
+    match look {
+        Look::Need => Ok(None),
+        Look::Fault(fault, bare) => {
+            let wish = Wish {
+                body: WishBody::Fault(fault_of(fault)),
+                closing: true,
+                bare,
+            };
+            Ok(Some(Next { wish, len }))
+        }
+        Look::Head(head) => {
+            let wish = wish_of(alloc, names, &head)?;
+            Ok(Some(Next { wish, len }))
+        }
     }
 }
 
@@ -149,16 +140,4 @@ pub(crate) fn closes_after(count: u64, closing: bool) -> bool
     ensures { result ≡ closes_after count closing }
 {
     closing || count + 1 == MAX_REPLIES
-}
-
-/// The wish, whose reply closes.
-pub(crate) fn closing(wish: Wish) -> Wish
-    ensures { result ≡ record wish { closing = true } }
-{
-    let Wish { body, bare, .. } = wish;
-    Wish {
-        body,
-        closing: true,
-        bare,
-    }
 }

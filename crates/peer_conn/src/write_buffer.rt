@@ -35,9 +35,7 @@ impl<W> WriteBuffer<W> {
             Err(_) => Err(writer),
         }
     }
-}
 
-impl<W> WriteBuffer<W> {
     /// Forgets what is buffered.
     pub(crate) fn clear(&mut self)
         ensures writer { self.new.writer ≡ self.old.writer }
@@ -110,9 +108,8 @@ impl<W: PeerWrite> WriteBuffer<W> {
             (W.taken self.new.writer) (self.old.buffered.items ++ joined parts.now) self.new.buffered.items }
     {
         for i in 0..parts.len() {
-            match self.put(part_at(parts, i)) {
-                Ok(()) => {}
-                Err(fault) => return Err(fault),
+            if let Err(fault) = self.put(part_at(parts, i)) {
+                return Err(fault);
             }
         }
         Ok(())

@@ -1,6 +1,6 @@
 use Rattle.std.proofs.Common.{◌∙◌, ap, refl}
 use Rattle.peer_conn.proofs.EndLemmas.{answers_all}
-use Rattle.peer_conn.proofs.StrangerLemmas.{strangers_then, seat_counts}
+use Rattle.peer_conn.proofs.WriterSideLemmas.{strangers_then, seat_counts}
 use Rattle.peer_conn.proofs.connection.serve_sides.Goals as goal
 
 pub returns-clause-strangers : goal.returns-clause-strangers

@@ -17,7 +17,7 @@ returns-in-Err g c =
     let i = c.loop-wish.invariant in
     let put = c.in-Err.ensures in
     let stops = stops_same put.requests (stops_then i.1 (halts c.in-Request.ensures.gives)) in
-    record { wishes = i.0; stops = unput i.0 (c.in-Request.wish ∷ []) c.in-Err.fault c.stop_of.ensures stops; puts = puts_on i.2 put.refused }
+    record { wishes = i.0; stops = unput i.0 (c.in-Request.wish ∷ []) c.in-Err.fault stops; puts = puts_on i.2 put.refused }
 
 pub returns-in-Ok : goal.returns-in-Ok
 returns-in-Ok g c =
@@ -30,7 +30,7 @@ returns-in-Err-put g c =
     let i = c.loop-wish.invariant in
     let put = c.in-Err-put.ensures in
     let stops = stops_same put.requests (stops_then i.1 c.in-Last.ensures.gives) in
-    record { wishes = i.0; stops = unput i.0 (c.in-Last.wish ∷ []) c.in-Err-put.fault c.stop_of-in-Err-put.ensures stops; puts = puts_on i.2 put.refused }
+    record { wishes = i.0; stops = unput i.0 (c.in-Last.wish ∷ []) c.in-Err-put.fault stops; puts = puts_on i.2 put.refused }
 
 pub returns-then-is_stopped : goal.returns-then-is_stopped
 returns-then-is_stopped g c =

@@ -13,6 +13,6 @@ pub loop-i-preserved : goal.loop-i-preserved
 loop-i-preserved g c =
     let so_far = c.loop-i.invariant in
     record {
-      moved = Moves-then _ _ _ _ _ _ _ _ _ c.part_at.ensures.behind so_far.moved c.in-Ok.ensures.0;
-      fine = c.in-Ok.ensures.1 ∙ so_far.fine;
+      moved = Moves-then _ _ _ _ _ _ _ _ _ c.part_at.ensures.behind so_far.moved c.in_default.ensures.0;
+      fine = c.in_default.ensures.1 ∙ so_far.fine;
     }

@@ -1,8 +1,7 @@
 use Rattle.std.proofs.Common.{◌∙◌, sym, ap, arith, [], ◌∷◌, ◌++◌, append-nil}
-use Rattle.peer_conn.specs.Tickets.{wish_by, wishes_by, wishes_taken}
+use Rattle.peer_conn.specs.Tickets.{wish_by, wishes_by}
 use Rattle.peer_conn.proofs.ResponseLemmas.{replies_none, replies_on, replies_then, replies_flushed}
-use Rattle.peer_conn.proofs.StrangerLemmas.{none_good, strangers_then}
-use Rattle.peer_conn.proofs.WriterSideLemmas.{drains_more, none_left}
+use Rattle.peer_conn.proofs.WriterSideLemmas.{none_good, strangers_then, drains_more, none_left}
 use Rattle.peer_conn.proofs.writer_side.WriterSide.write_left.Goals as goal
 
 pub loop-init : goal.loop-init

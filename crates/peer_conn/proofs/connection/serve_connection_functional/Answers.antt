@@ -6,8 +6,8 @@ use Rattle.peer_conn.specs.Connects.{allows}
 use Rattle.peer_conn.specs.Connects.{Connects}
 use Rattle.peer_conn.specs.Ends.{reading, writing}
 use Rattle.peer_conn.proofs.AnswerLemmas.{connects_too, merely_its_reply}
-use Rattle.peer_conn.proofs.HeadlineLemmas.{writes}
-use Rattle.peer_conn.proofs.functional.serve_connection_functional.Goals as goal
+use Rattle.peer_conn.proofs.HeadlineLemmas.{written}
+use Rattle.peer_conn.proofs.connection.serve_connection_functional.Goals as goal
 
 -- an allowed answer is the one answer; the source's names are those of its type
 pub returns-clause-connects : goal.returns-clause-connects
@@ -25,6 +25,4 @@ returns-clause-connects g c =
 
 -- and so what is written is a front of the replies of that one answer
 pub returns-clause-writes_replies : goal.returns-clause-writes_replies
-returns-clause-writes_replies g c =
-    let h = returns-clause-connects g c in
-    writes g.S.FunctionalSource.the_number g.S.FunctionalSource.the_answer _ _ h.text h.output h.gave h.took c.args.reads c.serve_connection.result.0.end h.ends
+returns-clause-writes_replies g c = written _ _ (λ group k. (g.S.FunctionalSource.the_answer group k, refl)) (returns-clause-connects g c).serves

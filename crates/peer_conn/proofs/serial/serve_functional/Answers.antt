@@ -1,9 +1,9 @@
-use Rattle.std.proofs.Common.{◌≡◌, ℕ, List, Option, subst}
+use Rattle.std.proofs.Common.{◌≡◌, ℕ, List, Option, refl, subst}
 use mathlib.Core.Path.{fun_ext}
 use Rattle.peer_conn.specs.Ends.{Serves, reading, writing}
 use Rattle.peer_conn.proofs.AnswerLemmas.{serves}
-use Rattle.peer_conn.proofs.HeadlineLemmas.{writes}
-use Rattle.peer_conn.proofs.functional.serve_functional.Goals as goal
+use Rattle.peer_conn.proofs.HeadlineLemmas.{written}
+use Rattle.peer_conn.proofs.serial.serve_functional.Goals as goal
 
 -- the source's answers are allowed, and so the one answer; its names are those of its type
 pub returns-clause-serves : goal.returns-clause-serves
@@ -21,6 +21,4 @@ returns-clause-serves g c =
 
 -- and so what is written is a front of the replies of that one answer
 pub returns-clause-writes_replies : goal.returns-clause-writes_replies
-returns-clause-writes_replies g c =
-    let h = returns-clause-serves g c in
-    writes g.S.FunctionalSource.the_number g.S.FunctionalSource.the_answer _ _ h.text h.output h.gave h.took c.args.reads c.serve_serial.result.end h.ends
+returns-clause-writes_replies g c = written _ _ (λ group k. (g.S.FunctionalSource.the_answer group k, refl)) (returns-clause-serves g c)
