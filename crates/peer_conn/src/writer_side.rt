@@ -3,7 +3,8 @@
 //! It stands on the claims of `peer_flight`, the fills of `peer_fill` and the lanes of `peer_lane`. It promises a reply
 //! for each ticket that it took, in order, as far as the writer goes; and that a fill of another group or key than was
 //! asked for is not written.
-ghost use Rattle.std.specs.Prelude.{◌≡◌, ℕ, ◌<◌, ◌^◌};
+ghost use Rattle.std.specs.Prelude.{◌≡◌, ℕ, ◌<◌, ◌^◌, IfSome, None, Some};
+ghost use Rattle.peer_flight.specs.Claims.{Looked};
 
 use crate::responses::Responses;
 use peer_fill::Pool;
@@ -12,8 +13,27 @@ use peer_lane::{Body, LaneIn, LaneOut, Signal, Ticket, beside};
 use peer_source::{Fill, Source};
 use peer_view::PeerWrite;
 use std::alloc::Global;
+use std::hint::spin_loop;
 use std::sync::Wait;
 use std::sync::ledger::Ledger;
+
+// How often a fill is looked for before what is buffered is written: about as long as a worker needs for a small fill,
+// so that the replies to small fills go out together.
+const LOOKS: u32 = 64;
+
+// The fill of a claim, where it comes within a few looks.
+fn look_briefly<S: Source>(claim: &Claim<S>) -> Option<&Fill<S>>
+    ensures { IfSome result (λ fill. Looked claim.now None (Some fill.now) (Some fill.now)) }
+{
+    let mut note = claim.note();
+    for _ in 0..LOOKS {
+        if let Some(fill) = claim.look(&mut note) {
+            return Some(fill);
+        }
+        spin_loop();
+    }
+    None
+}
 
 /// What the writer works with. One that puts no more replies still takes tickets, so that no `put` waits for ever.
 #[derive(Drop)]
@@ -126,8 +146,7 @@ impl<S: Source, W: PeerWrite + Drop> WriterSide<S, W> {
         if !self.responses.is_active() {
             return;
         }
-        let mut note = claim.note();
-        if let Some(fill) = claim.look(&mut note) {
+        if let Some(fill) = look_briefly(claim) {
             return self.put_filled(pool, claim, fill, closing, bare);
         }
         self.responses.flush();
