@@ -9,7 +9,7 @@ const FLIGHT_NOTICES: usize = 64;
 pub struct Signals {
     /// A job was pushed, or the pool was stopped.
     pub job: Notice,
-    /// A job was popped, so that the queue has room.
+    /// The queue has room again.
     pub room: Notice,
     flights: [Notice; FLIGHT_NOTICES],
 }

@@ -29,6 +29,10 @@ pub(crate) enum Made<S: Source> {
     Rehit(Fill<S>),
 }
 
+// Who waits for room in the queue is told each time that a worker has made so many fills, and where the queue is empty: a
+// notice for each job would wake a reader for the place of one job.
+const JOBS_PER_NOTICE: u64 = 32;
+
 // The most entries that one addition evicts.
 const MAX_EVICTED: usize = 4096;
 
@@ -88,9 +92,9 @@ impl<S: Source, L: Ledger> Pool<S, L> {
                 if waiter.may_have_slept() {
                     self.wake_next(pass);
                 }
-                self.signals.room.notify_all();
                 return Some(job);
             }
+            self.signals.room.notify_all();
             if stopping {
                 return None;
             }
@@ -189,6 +193,9 @@ impl<S: Source, L: Ledger> Pool<S, L> {
             gate.before_call(rt, group, key.as_slice());
             let made = self.make(rt, alloc, group, key, &mut evicted);
             fills.count(&made);
+            if (fills.calls + fills.rehits) % JOBS_PER_NOTICE == 0 {
+                self.signals.room.notify_all();
+            }
             let put = self.put(rt, right, made.into_fill(), gate);
             self.land(rt, put);
         }
