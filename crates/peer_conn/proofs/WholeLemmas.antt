@@ -19,10 +19,7 @@ use Rattle.peer_conn.proofs.WishLemmas.{Open-extend}
 
 module _ (numbers : List ℕ → Option ℕ) where
   some_none : (f : HeadFault) (p q : HeadParts) → p ≡ q → head_fault p ≡ Some f → head_fault q ≡ None → ⊥
-  some_none f p q e a b = differ f (sym a ∙ ap head_fault e ∙ b)
-    where
-      differ : (f : HeadFault) → Some f ≡ None → ⊥
-      differ f h = cc
+  some_none f p q e a b = let differ : Some f ≡ None = sym a ∙ ap head_fault e ∙ b in cc
 
   same_some : (f g : HeadFault) → Some f ≡ Some g → f ≡ g
   same_some f g e = cc

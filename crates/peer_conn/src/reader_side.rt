@@ -38,22 +38,7 @@ pub(crate) struct StoppedReader<S: Source, L: Ledger, R: PeerRead + Drop> {
 
 impl<S: Source, L: Ledger, R: PeerRead + Drop> ReaderSide<S, L, R> {
     /// Puts a ticket for each request, until one closes or no more come.
-    pub(crate) fn run<H: Wait>(
-        self,
-        rt: &H,
-        pool: &Pool<S, L>,
-        signal: &Signal,
-    ) -> StoppedReader<S, L, R>
-        requires { IsConnSeatOf pool.now self.seat }
-        ensures { TakesRequests (S.number_of (source_of pool.now)) pool.now self result.side result.stop }
-    {
-        let mut side = self;
-        let stop = side.take_requests(rt, pool, &pool.source(), signal);
-        signal.finish();
-        StoppedReader { side, stop }
-    }
-
-    fn take_requests<H: Wait>(
+    pub(crate) fn take_requests<H: Wait>(
         &mut self,
         rt: &H,
         pool: &Pool<S, L>,

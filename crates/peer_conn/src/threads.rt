@@ -64,7 +64,12 @@ pub(crate) fn run_sides<
             let job = move || -> StoppedReader<S, L, R>
                 requires { IsConnSeatOf pool.now reader.seat }
                 ensures { TakesRequests (S.number_of (source_of pool.entry.now)) pool.entry.now reader result.side result.stop }
-            { reader.run(rt, pool, signal) };
+            {
+                let mut side = reader;
+                let stop = side.take_requests(rt, pool, &pool.source(), signal);
+                signal.finish();
+                StoppedReader { side, stop }
+            };
             match scope.spawn_with(promise, job) {
                 Ok(child) => {
                     let written = writer.run(rt, pool, signal);
