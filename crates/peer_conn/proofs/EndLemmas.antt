@@ -1,5 +1,5 @@
 -- How a connection ends, by what stopped its requests and how its responses stand.
-use Rattle.std.proofs.Common.{◌≡◌, ◌∙◌, ℕ, ◌+◌, List, [], ◌++◌, inl, inr, refl, sym, ap, subst, arith, append-nil, Option}
+use Rattle.std.proofs.Common.{◌≡◌, ◌∙◌, ℕ, ◌+◌, List, [], ◌++◌, inl, inr, sym, ap, subst, arith, append-nil, Option}
 use Rattle.std.proofs.KnownBytes.{Appends-nil}
 use Rattle.std.specs.Io.KnownBytes.{Appends}
 use Rattle.peer_source.specs.Answers.{Answer}

@@ -57,6 +57,7 @@ pub(crate) fn run_sides<
             ensures read { TakesRequests (S.number_of (source_of pool.entry.now)) pool.entry.now reader result.0.side result.0.stop }
             ensures wrote { AnswersTickets (allows S.allowed) writer result.1 }
         {
+            let mut writer = writer;
             let promise = ReaderPromise {
                 pool,
                 side: Snapshot::of(&reader),
@@ -72,13 +73,14 @@ pub(crate) fn run_sides<
             };
             match scope.spawn_with(promise, job) {
                 Ok(child) => {
-                    let written = writer.run(rt, pool, signal);
-                    (child.join(rt), written)
+                    writer.run(rt, pool, signal);
+                    (child.join(rt), writer)
                 }
                 Err(refused) => {
                     signal.stop();
                     let read = (refused.value)();
-                    (read, writer.run(rt, pool, signal))
+                    writer.run(rt, pool, signal);
+                    (read, writer)
                 }
             }
         },
