@@ -58,7 +58,8 @@ pub fn serve_connection<
     ensures strangers { CountsStrangers (2 ^ 56) (asks_of seat).strangers (asks_of result.1).strangers }
     ensures connects { let r = reading R.given R.calls R.ends R.failures reader result.0.reader in
         let w = writing W.taken W.failures writer result.0.writer in
-        Connects (S.number_of (source_of pool.now)) (allows S.allowed) reads r w (asks_of seat).asked (asks_of result.1).asked result.0.end }
+        Connects (S.number_of (source_of pool.now)) (allows S.allowed) reads r w (asks_of seat).asked
+        (asks_of result.1).asked result.0.end }
     ensures writes_replies { let r = reading R.given R.calls R.ends R.failures reader result.0.reader in
         let w = writing W.taken W.failures writer result.0.writer in
         WritesReplies (S.number_of (source_of pool.now)) (allows S.allowed) r w result.0.end }
