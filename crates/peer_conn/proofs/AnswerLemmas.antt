@@ -43,9 +43,8 @@ module _ (A B : ℕ → List ℕ → Answer → Type 0) (carries : (closing bare
     ends t o end.Cut h = record { wishes = h.wishes; replies = whole h.wishes o h.replies; rest = h.rest; whole = h.whole; inside = h.inside; told = h.told; fine = h.fine }
     ends t o end.ReadFault h = record { wishes = h.wishes; replies = whole h.wishes o h.replies; rest = h.rest; whole = h.whole; failed = h.failed; wrote = h.wrote }
     ends t o end.WriteFault h = record { wishes = h.wishes; replies = front h.wishes o h.replies; first = h.first; failed = h.failed }
-    ends t o end.Memory h = record { wishes = h.wishes; replies = whole h.wishes o h.replies; first = h.first; wrote = h.wrote }
     ends t o end.Spent h = record { wishes = h.wishes; replies = whole h.wishes o h.replies; rest = h.rest; whole = h.whole; spent = h.spent; not_told = h.not_told; fine = h.fine }
-    ends t o end.Worn h = record { wishes = h.wishes; replies = whole h.wishes o h.replies; first = h.first; wrote = h.wrote }
+    ends t o _ h = record { wishes = h.wishes; replies = whole h.wishes o h.replies; first = h.first; wrote = h.wrote }
 
     pub serves : (e : End) → Serves numbers A reads r w e → Serves numbers B reads r w e
     serves e h = record { text = h.text; output = h.output; gave = h.gave; took = h.took; calls = h.calls; ends = ends h.text h.output e h.ends }

@@ -1,5 +1,5 @@
 -- How a connection ends, by what stopped its requests and how its responses stand.
-use Rattle.std.proofs.Common.{◌≡◌, ◌∙◌, ℕ, ◌+◌, List, [], ◌++◌, inl, inr, refl, sym, ap, subst, arith, append-nil, Option}
+use Rattle.std.proofs.Common.{◌≡◌, ◌∙◌, ℕ, ◌+◌, List, [], ◌++◌, inl, inr, sym, ap, subst, arith, append-nil, Option}
 use Rattle.std.proofs.KnownBytes.{Appends-nil}
 use Rattle.std.specs.Io.KnownBytes.{Appends}
 use Rattle.peer_source.specs.Answers.{Answer}
@@ -38,14 +38,11 @@ use Rattle.peer_conn.specs.declared.end.ReaderStop.TheVariants as stop
 use Rattle.peer_conn.specs.declared.end.WriterState.{WriterState}
 use Rattle.peer_conn.specs.declared.end.WriterState.TheVariants as state
 use Rattle.peer_conn.proofs.WishLemmas.{Open-none, first_of}
-use Rattle.peer_conn.proofs.SendLemmas.{sending_by}
+use Rattle.peer_conn.proofs.SendLemmas.{sending_by, sent_none, answered_none}
 use Rattle.peer_conn.proofs.RequestLemmas.{firsts}
 use Rattle.peer_conn.proofs.ResponseLemmas.{replies_on, replies_then, replies_flushed}
 
--- a reader and a writer, before and after
-abbrev pub reading_by : Option (List ℕ) → Option (List ℕ) → ℕ → ℕ → ℕ → ℕ → ℕ → ℕ → Reading
-reading_by g g' c c' e e' f f' = record { given = g; given' = g'; calls = c; calls' = c'; ends = e; ends' = e'; failures = f; failures' = f' }
-
+-- a writer, before and after
 abbrev pub writing_by : Option (List ℕ) → Option (List ℕ) → ℕ → ℕ → Writing
 writing_by a a' k k' = record { taken = a; taken' = a'; failures = k; failures' = k' }
 
@@ -148,30 +145,11 @@ connects_sides {S} {L} {R} {W} {g} {k} {m} {numbers} {answers} {q} {p} {served} 
     subst (λ x. P x served.writer served.end) (sym h.gave) (subst (λ y. P h.requests.reader y served.end) (sym h.took) (subst (λ e. P h.requests.reader h.responses.out.writer e) (sym h.end) all))
 
 -- where memory was refused before the first read
-connects_nothing : (numbers : List ℕ → Option ℕ) (answers : ℕ → List ℕ → Answer → Type 0) (reads : ℕ) (g : Option (List ℕ)) (c e f : ℕ) (b : Option (List ℕ)) (k a : ℕ) →
-    Connects numbers answers reads (reading_by g g c c e e f f) (writing_by b b k k) a a end.Memory
-connects_nothing numbers answers reads g c e f b k a = record {
-  serves = record {
-    text = [];
-    output = [];
-    gave = Appends-nil g;
-    took = Appends-nil b;
-    calls = omega arith;
-    ends = record {
-      wishes = [];
-      replies = record { replies = []; each = refl; all = refl };
-      first = inl ([], Open-none numbers 0 [] (omega arith));
-      wrote = refl;
-    };
-  };
-  wishes = [];
-  asks = inl ([], Open-none numbers 0 [] (omega arith));
-  counted = omega arith;
-}
-
 module _ (numbers : List ℕ → Option ℕ) (answers : ℕ → List ℕ → Answer → Type 0) (reads : ℕ) {R W : Type 0} (given : R → Option (List ℕ)) (calls ends failures : R → ℕ) (taken : W → Option (List ℕ)) (fails : W → ℕ) where
   pub connects_refused : (r r' : R) (w w' : W) (a : ℕ) (e : End) → r' ≡ r → w' ≡ w → e ≡ end.Memory → Connects numbers answers reads (reading given calls ends failures r r') (writing taken fails w w') a a e
   connects_refused r r' w w' a e same_reader same_writer is =
       let Q : R → W → End → Type 0 = λ x y z. Connects numbers answers reads (reading given calls ends failures r x) (writing taken fails w y) a a z in
+      let nothing : IsRead numbers reads (reading given calls ends failures r r) [] (stop.Refused ask.Memory) =
+      record { text = []; gave = Appends-nil (given r); calls = omega arith; stops = inl ([], Open-none numbers 0 [] (omega arith)) } in
       subst (λ x. Q x w' e) (sym same_reader) (subst (λ y. Q r y e) (sym same_writer) (subst (Q r w) (sym is)
-      (connects_nothing numbers answers reads (given r) (calls r) (ends r) (failures r) (taken w) (fails w) a)))
+      (connects numbers answers reads (reading given calls ends failures r r) (fails w) (fails w) (taken w) (taken w) [] a a (stop.Refused ask.Memory) state.Active (omega arith) nothing (answered_none answers (Sent (sending_by (fails w) (fails w) (taken w) (taken w) [] [])) (sent_none (fails w) (taken w) [])))))

@@ -6,7 +6,6 @@ pub mod ReaderSideLemmas
 pub mod RequestLemmas
 pub mod ResponseLemmas
 pub mod SendLemmas
-pub mod TicketLemmas
 pub mod WholeLemmas
 pub mod WishLemmas
 pub mod WriterSideLemmas

@@ -1,24 +1,33 @@
 -- Laws of what the reader's side of a connection did.
-use Rattle.std.proofs.Common.{◌≡◌, ◌∙◌, ℕ, List, [], ◌∷◌, ◌++◌, refl, sym, ap, subst, arith, append-nil, append_assoc, Option}
+use Rattle.std.proofs.Common.{◌≡◌, ◌∙◌, ℕ, ◌+◌, List, [], ◌∷◌, ◌++◌, refl, sym, ap, subst, arith, append-nil, append_assoc, Option}
 use Rattle.std.specs.declared.sync.ledger.Ledger as Ledger
 use Rattle.peer_source.specs.declared.source.Source as Source
 use Rattle.peer_view.specs.declared.reader.PeerRead as Read
 use Rattle.peer_fill.specs.Pools.{IsConnSeatOf}
+use Rattle.peer_fill.specs.Seats.{asks_of, conn_parts}
 use Rattle.peer_fill.specs.declared.pool.Pool.{Pool}
 use Rattle.peer_fill.specs.declared.seats.ConnSeat.{ConnSeat}
 use Rattle.peer_flight.specs.declared.table.AskFault.{AskFault}
+use Rattle.peer_lane.specs.Lanes.{IsSameIn, tickets_put}
 use Rattle.peer_lane.specs.declared.lane_in.LaneIn.{LaneIn}
+use Rattle.peer_lane.specs.declared.ticket.Body.{Body}
 use Rattle.peer_lane.specs.declared.ticket.Ticket.{Ticket}
 use Rattle.peer_reply.specs.declared.wish.Wish.{Wish}
-use Rattle.peer_conn.specs.Tickets.{wish_by, wishes_by, wishes_put}
+use Rattle.peer_reply.specs.declared.wish.WishBody.{WishBody}
+use Rattle.peer_conn.specs.Tickets.{body_by, wishes_by, wishes_put, asks_in, asks_in_body}
 use Rattle.peer_conn.specs.Requests.{Stops, reading_of}
 use Rattle.peer_conn.specs.ReaderSides.{PutsTickets}
+use Rattle.peer_conn.specs.declared.reader_side.ReaderSide.{ReaderSide}
 use Rattle.peer_conn.specs.declared.requests.Requests.{Requests}
 use Rattle.peer_conn.specs.declared.end.ReaderStop.{ReaderStop}
 use Rattle.peer_conn.specs.declared.end.ReaderStop.TheVariants as stop
 use Rattle.peer_conn.proofs.WishLemmas.{first_of}
 use Rattle.peer_conn.proofs.RequestLemmas.{firsts}
-use Rattle.peer_conn.proofs.TicketLemmas.{wishes-append, asks_in-append, same_in}
+use Rattle.peer_conn.proofs.WriterSideLemmas.{wishes-append}
+
+asks_in-append : (ws vs : List Wish) → asks_in (ws ++ vs) ≡ asks_in ws + asks_in vs
+asks_in-append [] vs = omega arith
+asks_in-append (w ∷ ws) vs = let h = asks_in-append ws vs in omega arith
 
 module _ {S L : Type 0} {g : Source.Ghosts S} {h : Ledger.Ghosts L} {pool : Pool S L g h} where
   pub puts_none : {seat : ConnSeat S L g} {lane : LaneIn S g} → IsConnSeatOf pool seat → PutsTickets pool seat seat lane lane []
@@ -36,7 +45,7 @@ module _ {S L : Type 0} {g : Source.Ghosts S} {h : Ledger.Ghosts L} {pool : Pool
     of_pool = k.of_pool;
     parts = k.parts ∙ h.parts;
     strangers = k.strangers ∙ h.strangers;
-    same = same_in x y z h.same k.same;
+    same = ((k.same.0.0 ∙ h.same.0.0, k.same.0.1 ∙ h.same.0.1, k.same.0.2 ∙ h.same.0.2, k.same.0.3 ∙ h.same.0.3), k.same.1 ∙ h.same.1);
     put = k.put ∙ ap (λ v. v ++ vs) h.put ∙ append_assoc (wishes_put x) ws vs;
     asked = omega (arith, h.asked, k.asked, asks_in-append ws vs);
   }
@@ -45,9 +54,21 @@ module _ {S L : Type 0} {g : Source.Ghosts S} {h : Ledger.Ghosts L} {pool : Pool
   pub puts_on : {a b c : ConnSeat S L g} {x y z : LaneIn S g} {ws : List Wish} → PutsTickets pool a b x y ws → PutsTickets pool b c y z [] → PutsTickets pool a c x z ws
   puts_on {a} {b} {c} {x} {y} {z} {ws} h k = subst (PutsTickets pool a c x z) (append-nil ws) (puts_then h k)
 
--- the wishes of one ticket more
-pub put_one : {S : Type 0} (ts ts' : List (Ticket S)) (t : Ticket S) (w : Wish) → ts' ≡ ts ++ t ∷ [] → wish_by t ≡ w → wishes_by ts' ≡ wishes_by ts ++ w ∷ []
-put_one ts ts' t w e same = ap wishes_by e ∙ wishes-append ts (t ∷ []) ∙ ap (λ v. wishes_by ts ++ v ∷ []) same
+  -- one ticket more, behind an ask for its wish where that has group and key
+  pub puts_one : {R : Type 0} {k : Read.Ghosts R} {a m : ReaderSide S L R g k} {seat : ConnSeat S L g} {lane : LaneIn S g} (w : Wish) (body : Body S) → m ≡ record a { seat = seat } → IsConnSeatOf pool seat → conn_parts seat ≡ conn_parts a.seat → (asks_of seat).strangers ≡ (asks_of a.seat).strangers →
+      (asks_of seat).asked ≡ (asks_of a.seat).asked + asks_in_body w.body → IsSameIn m.lane lane → tickets_put lane ≡ tickets_put m.lane ++ record { closing = w.closing; bare = w.bare; body = body } ∷ [] → body_by body ≡ w.body → PutsTickets pool a.seat m.seat a.lane lane (w ∷ [])
+  puts_one {R} {k} {a} {m} {seat} {lane} w body is own parts strangers asked same put answers =
+      let t : Ticket S = record { closing = w.closing; bare = w.bare; body = body } in
+      let P : ReaderSide S L R g k → Type 0 = λ s. IsSameIn s.lane lane → tickets_put lane ≡ tickets_put s.lane ++ t ∷ [] → PutsTickets pool a.seat s.seat a.lane lane (w ∷ []) in
+      let wish : WishBody → Wish = λ b. record w { body = b } in
+      subst P (sym is) (λ same put. record {
+        of_pool = own;
+        parts = parts;
+        strangers = strangers;
+        same = same;
+        put = ap wishes_by put ∙ wishes-append (tickets_put a.lane) (t ∷ []) ∙ ap (λ b. wishes_put a.lane ++ wish b ∷ []) answers;
+        asked = omega (arith, asked);
+      }) same put
 
 -- the last wishes were not put
 pub unput : {R : Type 0} {G : Read.Ghosts R} {numbers : List ℕ → Option ℕ} {a b : Requests R G} {c : ReaderStop} (ws vs : List Wish) (fault : AskFault) → Stops numbers a b (ws ++ vs) c → Stops numbers a b ws (stop.Refused fault)

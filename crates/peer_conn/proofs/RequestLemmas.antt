@@ -74,16 +74,13 @@ module _ {R : Type 0} {G : Ghosts R} {numbers : List ℕ → Option ℕ} where
       unfinished = k.unfinished;
     }
 
-    first_then : (vs : List Wish) (more : List ℕ) → AreFirst numbers b.count (b.held.held ++ more) vs → AreFirst numbers a.count (a.held.held ++ (h.text ++ more)) (ws ++ vs)
-    first_then vs more k = First-append numbers a.count b.count (a.held.held ++ (h.text ++ more)) (b.held.held ++ more) ws vs (longer more) h.counted k
-
     ended : (c : Requests R G) (vs : List Wish) (more : List ℕ) (stop : ReaderStop) → StopsAs numbers b.count b.left (reading_of b c) (b.held.held ++ more) vs stop → StopsAs numbers a.count a.left (reading_of a c) (a.held.held ++ (h.text ++ more)) (ws ++ vs) stop
     ended c vs more stop.Closed k = (Closed-append numbers a.count b.count (a.held.held ++ (h.text ++ more)) (b.held.held ++ more) ws vs (longer more) h.counted k.0, k.1 ∙ h.failed)
     ended c vs more stop.Ended k = (k.0, all_then vs more k.0 k.1, k.2, omega (arith, h.told, k.3), k.4 ∙ h.failed)
     ended c vs more stop.Cut k = (k.0, all_then vs more k.0 k.1, k.2, omega (arith, h.told, k.3), k.4 ∙ h.failed)
     ended c vs more stop.ReadFault k = (k.0, all_then vs more k.0 k.1, omega (arith, h.failed, k.2))
     ended c vs more stop.Spent k = (k.0, all_then vs more k.0 k.1, omega (arith, h.calls, k.2), k.3 ∙ h.told, k.4 ∙ h.failed)
-    ended c vs more _ k = first_then vs more k
+    ended c vs more _ k = First-append numbers a.count b.count (a.held.held ++ (h.text ++ more)) (b.held.held ++ more) ws vs (longer more) h.counted k
 
     -- two spans are one ..
     pub receives_then : {c : Requests R G} {vs : List Wish} → Receives numbers b c vs → Receives numbers a c (ws ++ vs)

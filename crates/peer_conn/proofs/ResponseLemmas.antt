@@ -58,10 +58,6 @@ module _ {W : Type 0} {G : Ghosts W} {answers : ℕ → List ℕ → Answer → 
     replies_fault fault closing bare h =
         record { step = reply_steps answers (sending_of a b) (refusal fault closing bare) (fault_reply closing bare fault) a.state b.state refl h.puts }
 
-    -- no memory for a reply
-    pub replies_refused : (w : Wish) → PutsReply a b None → PutsReplies answers a b (w ∷ [])
-    replies_refused w h = record { step = none_steps answers (sending_of a b) w a.state b.state h.puts }
-
     pub replies_fill : (group : GroupId) (key : List ℕ) (closing bare : Bool) (answer : Option Answer) → IfSome answer (answers group.number key) → PutsReply a b (option_map (answer_reply closing bare) answer) → PutsReplies answers a b (get_wish group key closing bare ∷ [])
     replies_fill group key closing bare None given h = record { step = none_steps answers (sending_of a b) (get_wish group key closing bare) a.state b.state h.puts }
     replies_fill group key closing bare (Some answer) given h =

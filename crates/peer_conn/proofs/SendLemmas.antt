@@ -19,8 +19,8 @@ join-append [] ss = refl
 join-append (r ∷ rs) ss = append_assoc r (join rs) (join ss) ∙ ap (λ v. r ++ v) (join-append rs ss)
 
 -- bytes behind buffered ones, and then more
-pub Moves-then : (a b c : Option (List ℕ)) (x p q w y z : List ℕ) → p ++ q ≡ w → Moves a b (x ++ p) y → Moves b c (y ++ q) z → Moves a c (x ++ w) z
-Moves-then a b c x p q w y z e h k =
+pub Moves-then : (a b c : Option (List ℕ)) {w : List ℕ} (x p q y z : List ℕ) → p ++ q ≡ w → Moves a b (x ++ p) y → Moves b c (y ++ q) z → Moves a c (x ++ w) z
+Moves-then a b c {w} x p q y z e h k =
     Moves-trans a b c (x ++ w) (y ++ q) z (Moves-along a b _ _ _ _ (append_assoc x p q ∙ ap (λ v. x ++ v) e) refl (Moves-more a b (x ++ p) y q h)) k
 
 -- bytes behind buffered ones, and then no more of those that follow
@@ -79,10 +79,10 @@ module _ (answers : ℕ → List ℕ → Answer → Type 0) where
 
   module _ (f f1 f2 : ℕ) (a b c : Option (List ℕ)) (x y z : List ℕ) where
     sent_then : (p q : List ℕ) → Sent (sending_by f f1 a b x y) p → Sent (sending_by f1 f2 b c y z) q → Sent (sending_by f f2 a c x z) (p ++ q)
-    sent_then p q h k = (Moves-then a b c x p q (p ++ q) y z refl h.0 k.0, k.1 ∙ h.1)
+    sent_then p q h k = (Moves-then a b c x p q y z refl h.0 k.0, k.1 ∙ h.1)
 
     broke_then : (p q : List ℕ) → Sent (sending_by f f1 a b x y) p → Broke (sending_by f1 f2 b c y z) q → Broke (sending_by f f2 a c x z) (p ++ q)
-    broke_then p q h k = ((k.0.0, Moves-then a b c x p q (p ++ q) y k.0.0 refl h.0 k.0.1), k.1 ∙ ap (λ v. v + 1) h.1)
+    broke_then p q h k = ((k.0.0, Moves-then a b c x p q y k.0.0 refl h.0 k.0.1), k.1 ∙ ap (λ v. v + 1) h.1)
 
     broke_still : (p : List ℕ) → Broke (sending_by f f1 a b x y) p → Still (sending_by f1 f2 b c y z) → Broke (sending_by f f2 a c x z) p
     broke_still p h k = ((h.0.0, subst (λ d. Moves a d (x ++ p) h.0.0) (sym k.0) h.0.1), k.1 ∙ h.1)

@@ -1,7 +1,7 @@
 -- Laws of whole lists of wishes.
 use Rattle.std.proofs.Common.{◌≡◌, ℕ, ◌+◌, ◌<◌, Bool, true, false, List, [], ◌∷◌, ◌++◌, length, ◌⊎◌, inl, inr, refl, sym, ◌∙◌, ap, subst, arith, append_assoc, append-nil, length-append, Option, None, Some}
 use Rattle.std.proofs.lemmas.Bool.{true≢false}
-use Rattle.peer_head.specs.Blocks.{IsTooLong, IsUnfinished}
+use Rattle.peer_head.specs.Blocks.{IsUnfinished}
 use Rattle.peer_head.specs.Heads.{HeadParts}
 use Rattle.peer_head.specs.Faults.{head_fault, is_bare}
 use Rattle.peer_head.specs.declared.fault.HeadFault.{HeadFault}
@@ -19,10 +19,7 @@ use Rattle.peer_conn.proofs.WishLemmas.{Open-extend}
 
 module _ (numbers : List ℕ → Option ℕ) where
   some_none : (f : HeadFault) (p q : HeadParts) → p ≡ q → head_fault p ≡ Some f → head_fault q ≡ None → ⊥
-  some_none f p q e a b = differ f (sym a ∙ ap head_fault e ∙ b)
-    where
-      differ : (f : HeadFault) → Some f ≡ None → ⊥
-      differ f h = cc
+  some_none f p q e a b = let differ : Some f ≡ None = sym a ∙ ap head_fault e ∙ b in cc
 
   same_some : (f g : HeadFault) → Some f ≡ Some g → f ≡ g
   same_some f g e = cc
@@ -60,12 +57,9 @@ module _ (numbers : List ℕ → Option ℕ) where
         | inr d ↦ inr (d.0, ap (λ y. y ∷ ws) same.0 ∙ ap (λ y. x ∷ y) d.1, d.2)
       ]
 
-  long_short : (t : List ℕ) → IsTooLong t → IsUnfinished t → ⊥
-  long_short t h k = omega (arith, h.long, k.short)
-
   -- where a wish closes, the text is not unfinished ..
   pub last_unfinished : (n : ℕ) (t : List ℕ) (w : Wish) → IsLastWish numbers n t w → IsUnfinished t → ⊥
-  last_unfinished n t w (too_long h) k = long_short t h k
+  last_unfinished n t w (too_long h) k = omega (arith, h.long, k.short)
   last_unfinished n t w (closes v rest asks e) k = k.none asks.block rest asks.begins
 
   -- .. and no wish follows that stays open

@@ -12,8 +12,15 @@ use Rattle.peer_conn.specs.Responses.{PutsReplies}
 use Rattle.peer_conn.specs.Strangers.{CountsStrangers}
 use Rattle.peer_conn.specs.WriterSides.{AnswersTickets, MakesGood}
 use Rattle.peer_conn.specs.declared.writer_side.WriterSide.{WriterSide}
-use Rattle.peer_conn.proofs.TicketLemmas.{same_out, wishes-append}
 use Rattle.peer_conn.proofs.ResponseLemmas.{replies_none, replies_on, replies_then}
+
+pub wishes-append : {S : Type 0} (ts us : List (Ticket S)) → wishes_by (ts ++ us) ≡ wishes_by ts ++ wishes_by us
+wishes-append [] us = refl
+wishes-append (t ∷ ts) us = ap (λ v. wish_by t ∷ v) (wishes-append ts us)
+
+-- the end of a lane stays that end
+same_out : {S : Type 0} {G : Source.Ghosts S} (a b c : LaneOut S G) → IsSameOut a b → IsSameOut b c → IsSameOut a c
+same_out a b c h k = ((k.0.0 ∙ h.0.0, k.0.1 ∙ h.0.1, k.0.2 ∙ h.0.2, k.0.3 ∙ h.0.3), k.1 ∙ h.1)
 
 pub none_good : {n : ℕ} → n < 2 ^ 64 → MakesGood n n
 none_good {n} h = record { made_good = []; counted = omega (arith, h) }

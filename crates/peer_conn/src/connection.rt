@@ -1,8 +1,8 @@
 //! A connection whose reader and writer run in threads of their own.
 //!
-//! It stands on the sides of a connection, their threads, and the lane between them. It promises that what is written is
-//! the replies to what was read, as the end says, and what the seat counted.
-ghost use Rattle.std.specs.Prelude.{◌≡◌, ◌≢◌, ℕ, ◌+◌, ◌-◌, ◌^◌, ◌<◌, []};
+//! It stands on the sides of a connection and the lane between them. It promises that what is written is the replies to
+//! what was read, as the end says, and what the seat counted.
+ghost use Rattle.std.specs.Prelude.{◌≡◌, ℕ, ◌+◌, ◌-◌, ◌^◌, ◌<◌, []};
 ghost use Rattle.peer_fill.specs.Pools.{source_of, IsConnSeatOf};
 ghost use Rattle.peer_fill.specs.Seats.{asks_of, conn_parts};
 ghost use Rattle.peer_lane.specs.Lanes.{tickets_put, tickets_taken, IsLane};
@@ -10,22 +10,25 @@ ghost use Rattle.peer_conn.specs.Ends.{reading, writing};
 ghost use Rattle.peer_conn.specs.Connects.{Connects, allows};
 ghost use Rattle.peer_conn.specs.Headline.{WritesReplies};
 ghost use Rattle.peer_conn.specs.Sides.{ServesSides};
+ghost use Rattle.peer_conn.specs.ReaderSides.{TakesRequests};
+ghost use Rattle.peer_conn.specs.WriterSides.{AnswersTickets};
 ghost use Rattle.peer_conn.specs.Strangers.{CountsStrangers};
 
 use crate::end::{Served, end_of, refused};
 use crate::reader_side::{ReaderSide, StoppedReader};
 use crate::requests::Requests;
 use crate::responses::Responses;
-use crate::threads::run_sides;
 use crate::writer_side::WriterSide;
 use peer_fill::{ConnSeat, Pool};
 use peer_lane::{Signal, lane};
 use peer_source::{FunctionalSource, Source};
 use peer_view::{PeerRead, PeerWrite};
 use std::alloc::Global;
+use std::snapshot::Snapshot;
 use std::sync::Wait;
 use std::sync::ledger::Ledger;
-use std::thread::Threads;
+use std::thread;
+use std::thread::{Promise, Threads};
 
 /// Serves one connection with at most `reads` reads. One thread reads and asks the pool ahead, and another writes, so
 /// that fills for one connection are had beside one another.
@@ -55,7 +58,8 @@ pub fn serve_connection<
     ensures strangers { CountsStrangers (2 ^ 56) (asks_of seat).strangers (asks_of result.1).strangers }
     ensures connects { let r = reading R.given R.calls R.ends R.failures reader result.0.reader in
         let w = writing W.taken W.failures writer result.0.writer in
-        Connects (S.number_of (source_of pool.now)) (allows S.allowed) reads r w (asks_of seat).asked (asks_of result.1).asked result.0.end }
+        Connects (S.number_of (source_of pool.now)) (allows S.allowed) reads r w (asks_of seat).asked
+        (asks_of result.1).asked result.0.end }
     ensures writes_replies { let r = reading R.given R.calls R.ends R.failures reader result.0.reader in
         let w = writing W.taken W.failures writer result.0.writer in
         WritesReplies (S.number_of (source_of pool.now)) (allows S.allowed) r w result.0.end }
@@ -160,4 +164,73 @@ fn serve_sides<
         writer: responses.out.writer,
     };
     (served, seat)
+}
+
+// The promise of the reader's thread.
+#[derive(Drop)]
+struct ReaderPromise<'a, S: Source, L: Ledger, R: PeerRead + Drop> {
+    pool: &'a Pool<S, L>,
+    side: Snapshot<ReaderSide<S, L, R>>,
+}
+
+impl<'a, S: Source, L: Ledger, R: PeerRead + Drop> Promise<StoppedReader<S, L, R>>
+    for ReaderPromise<'a, S, L, R> {
+    ghost kept_by = { λ p r. TakesRequests (S.number_of (source_of p.pool.now)) p.pool.now p.side.value r.side r.stop };
+}
+
+// Reads in a thread of its own and writes in this one. Where no thread can be had, the reader is stopped before its first
+// read.
+fn run_sides<
+    S: Source,
+    L: Ledger + Send + Sync,
+    R: PeerRead + Send + Drop,
+    W: PeerWrite + Drop,
+    H: Threads + Wait + Sync,
+>(
+    rt: &H,
+    pool: &Pool<S, L>,
+    signal: &Signal,
+    reader: ReaderSide<S, L, R>,
+    writer: WriterSide<S, W>,
+) -> (StoppedReader<S, L, R>, WriterSide<S, W>)
+    requires { IsConnSeatOf pool.now reader.seat }
+    ensures read { TakesRequests (S.number_of (source_of pool.now)) pool.now reader result.0.side result.0.stop }
+    ensures wrote { AnswersTickets (allows S.allowed) writer result.1 }
+{
+    thread::scope(
+        thread::scope_env(),
+        rt,
+        move |scope| -> (StoppedReader<S, L, R>, WriterSide<S, W>)
+            requires { IsConnSeatOf pool.now reader.seat }
+            ensures read { TakesRequests (S.number_of (source_of pool.entry.now)) pool.entry.now reader result.0.side result.0.stop }
+            ensures wrote { AnswersTickets (allows S.allowed) writer result.1 }
+        {
+            let mut writer = writer;
+            let promise = ReaderPromise {
+                pool,
+                side: Snapshot::of(&reader),
+            };
+            let job = move || -> StoppedReader<S, L, R>
+                requires { IsConnSeatOf pool.now reader.seat }
+                ensures { TakesRequests (S.number_of (source_of pool.entry.now)) pool.entry.now reader result.side result.stop }
+            {
+                let mut side = reader;
+                let stop = side.take_requests(rt, pool, &pool.source(), signal);
+                signal.finish();
+                StoppedReader { side, stop }
+            };
+            match scope.spawn_with(promise, job) {
+                Ok(child) => {
+                    writer.run(rt, pool, signal);
+                    (child.join(rt), writer)
+                }
+                Err(refused) => {
+                    signal.stop();
+                    let read = (refused.value)();
+                    writer.run(rt, pool, signal);
+                    (read, writer)
+                }
+            }
+        },
+    )
 }

@@ -13,7 +13,6 @@ mod reader_side;
 mod requests;
 mod responses;
 mod serial;
-mod threads;
 mod wish;
 mod write_buffer;
 mod writer_side;

@@ -2,11 +2,9 @@
 //!
 //! It stands on the pool of `peer_fill` and the lanes of `peer_lane`. It promises a ticket for each request that came, in
 //! order, each that has group and key after it was asked for; nothing is read behind a request that closes.
-ghost use Rattle.std.specs.Prelude.{◌≡◌, ◌+◌, [], ◌∷◌, IfOk, OnOk, OnErr};
+ghost use Rattle.std.specs.Prelude.{◌≡◌, [], ◌∷◌, OnOk, OnErr};
 ghost use Rattle.peer_fill.specs.Pools.{source_of, IsConnSeatOf};
-ghost use Rattle.peer_fill.specs.Seats.{asks_of, conn_parts};
 ghost use Rattle.peer_conn.specs.Known.{IsKnown};
-ghost use Rattle.peer_conn.specs.Tickets.{wish_by, asks_in_body};
 ghost use Rattle.peer_conn.specs.ReaderSides.{PutsTickets, TakesRequests};
 
 use crate::end::ReaderStop;
@@ -38,22 +36,7 @@ pub(crate) struct StoppedReader<S: Source, L: Ledger, R: PeerRead + Drop> {
 
 impl<S: Source, L: Ledger, R: PeerRead + Drop> ReaderSide<S, L, R> {
     /// Puts a ticket for each request, until one closes or no more come.
-    pub(crate) fn run<H: Wait>(
-        self,
-        rt: &H,
-        pool: &Pool<S, L>,
-        signal: &Signal,
-    ) -> StoppedReader<S, L, R>
-        requires { IsConnSeatOf pool.now self.seat }
-        ensures { TakesRequests (S.number_of (source_of pool.now)) pool.now self result.side result.stop }
-    {
-        let mut side = self;
-        let stop = side.take_requests(rt, pool, &pool.source(), signal);
-        signal.finish();
-        StoppedReader { side, stop }
-    }
-
-    fn take_requests<H: Wait>(
+    pub(crate) fn take_requests<H: Wait>(
         &mut self,
         rt: &H,
         pool: &Pool<S, L>,
@@ -88,7 +71,7 @@ impl<S: Source, L: Ledger, R: PeerRead + Drop> ReaderSide<S, L, R> {
         }
     }
 
-    // Puts the ticket of a wish, and waits while the lane is full.
+    // Asks for a wish that has group and key, puts its ticket, and waits while the lane is full.
     fn put<H: Wait>(
         &mut self,
         rt: &H,
@@ -102,42 +85,24 @@ impl<S: Source, L: Ledger, R: PeerRead + Drop> ReaderSide<S, L, R> {
         ensures put { OnOk result (PutsTickets pool.now self.old.seat self.new.seat self.old.lane self.new.lane (wish ∷ [])) }
         ensures refused { OnErr result (PutsTickets pool.now self.old.seat self.new.seat self.old.lane self.new.lane []) }
     {
+        let Wish {
+            body,
+            closing,
+            bare,
+        } = wish;
         let alloc = self.requests.alloc;
-        let ticket = ticket_of(rt, alloc, pool, &mut self.seat, wish)?;
+        let body = match body {
+            WishBody::Fault(fault) => Body::Fault(fault),
+            WishBody::Get(group, key) => {
+                Body::Claim(pool.ask(rt, alloc, &mut self.seat, group, key)?)
+            }
+        };
+        let ticket = Ticket {
+            closing,
+            bare,
+            body,
+        };
         self.lane.put_waiting(rt, signal, ticket);
         Ok(())
     }
-}
-
-// The ticket of a wish. What has group and key is asked for.
-fn ticket_of<S: Source, L: Ledger, H: Wait>(
-    rt: &H,
-    alloc: Global,
-    pool: &Pool<S, L>,
-    seat: &mut ConnSeat<S, L>,
-    wish: Wish,
-) -> Result<Ticket<S>, AskFault>
-    requires seat { IsConnSeatOf pool.now seat.old }
-    requires known { IsKnown (S.count (source_of pool.now)) wish.body }
-    ensures seat { IsConnSeatOf pool.now seat.new }
-    ensures parts { conn_parts seat.new ≡ conn_parts seat.old }
-    ensures strangers { (asks_of seat.new).strangers ≡ (asks_of seat.old).strangers }
-    ensures wish { IfOk result (λ t. wish_by t ≡ wish) }
-    ensures asked { OnOk result ((asks_of seat.new).asked ≡ (asks_of seat.old).asked + asks_in_body wish.body) }
-    ensures refused { OnErr result ((asks_of seat.new).asked ≡ (asks_of seat.old).asked) }
-{
-    let Wish {
-        body,
-        closing,
-        bare,
-    } = wish;
-    let body = match body {
-        WishBody::Fault(fault) => Body::Fault(fault),
-        WishBody::Get(group, key) => Body::Claim(pool.ask(rt, alloc, seat, group, key)?),
-    };
-    Ok(Ticket {
-        closing,
-        bare,
-        body,
-    })
 }

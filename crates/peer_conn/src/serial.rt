@@ -43,13 +43,8 @@ pub fn serve_serial<S: Source, R: PeerRead, W: PeerWrite>(
         Ok(requests) => requests,
         Err(reader) => return refused(reader, responses.out.writer),
     };
-    let stop = answer_all(
-        alloc,
-        source,
-        &Names::of(source),
-        &mut requests,
-        &mut responses,
-    );
+    let names = Names::of(source);
+    let stop = answer_all(alloc, source, &names, &mut requests, &mut responses);
     responses.flush();
     Served {
         reader: requests.reader,

@@ -55,21 +55,15 @@ impl<S: Source, W: PeerWrite + Drop> WriterSide<S, W> {
     ghost use Rattle.peer_conn.specs.WriterSides.{AnswersTickets, AnswersLeft, MakesGood};
 
     /// Takes tickets until no more are put, and puts their replies.
-    pub(crate) fn run<L: Ledger, H: Wait>(
-        self,
-        rt: &H,
-        pool: &Pool<S, L>,
-        signal: &Signal,
-    ) -> WriterSide<S, W>
-        ensures { AnswersTickets (allows S.allowed) self result }
+    pub(crate) fn run<L: Ledger, H: Wait>(&mut self, rt: &H, pool: &Pool<S, L>, signal: &Signal)
+        ensures { AnswersTickets (allows S.allowed) self.old self.new }
     {
-        let mut side = self;
         for _ in rt.forever() {
-            let Some(ticket) = side.next_ticket(rt, signal) else {
-                return side;
+            let Some(ticket) = self.next_ticket(rt, signal) else {
+                return;
             };
-            side.put(rt, pool, ticket);
-            side.tell(signal);
+            self.put(rt, pool, ticket);
+            self.tell(signal);
         }
         unreachable!()
     }

@@ -1,15 +1,19 @@
-use Rattle.std.proofs.Common.{arith}
-use Rattle.peer_conn.proofs.ReaderSideLemmas.{put_one}
+use Rattle.std.proofs.Common.{refl, arith, sym, ◌∙◌, ap}
+use Rattle.peer_reply.specs.declared.wish.WishBody.TheVariants as wish
+use Rattle.peer_flight.specs.SingleFlight.{Place}
+use Rattle.peer_reply.specs.declared.wish.WishBody.{WishBody}
+use Rattle.peer_conn.specs.Tickets.{body_by, asks_in_body}
+use Rattle.peer_conn.proofs.ReaderSideLemmas.{puts_one}
 use Rattle.peer_conn.proofs.reader_side.ReaderSide.put.Goals as goal
+use Rattle.peer_conn.proofs.reader_side.ReaderSide.put.Goals.{in-Fault, in-Get+in_ok-ask-in-Get}
 
 pub returns-clause-put : goal.returns-clause-put
 returns-clause-put g c =
-    let t = c.in_ok-ticket.ensures in
-    record {
-      of_pool = t.seat;
-      parts = t.parts;
-      strangers = t.strangers;
-      same = c.put_waiting.ensures.lane;
-      put = put_one _ _ c.in_ok-ticket.ticket c.args.wish c.put_waiting.ensures.put t.wish;
-      asked = omega (arith, t.asked);
-    }
+    let lane = c.put_waiting.ensures in
+    elim c.match-body.branch [
+      | in-Fault w ↦ puts_one c.args.wish c.match-body.body w.self-is c.requires.seat refl refl (let n = ap asks_in_body w.in-Fault.is in omega (arith, n)) lane.lane lane.put (ap body_by w.body-is ∙ sym w.in-Fault.is)
+      | in-Get+in_ok-ask-in-Get w ↦
+          let asked = w.in_ok-ask-in-Get.ensures in
+          let wish_at : Place → WishBody = λ p. wish.Get (record { number = p.group }) p.key in
+          puts_one c.args.wish c.match-body.body w.self-is asked.seat asked.parts asked.counted.strangers (let n = ap asks_in_body w.in-Get.is in omega (arith, n, asked.counted.asked)) lane.lane lane.put (ap body_by w.body-is ∙ ap wish_at asked.place ∙ sym w.in-Get.is)
+    ]
