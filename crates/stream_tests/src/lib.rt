@@ -47,6 +47,8 @@ mod sources;
 #[cfg(test)]
 mod steps;
 #[cfg(test)]
+mod tables;
+#[cfg(test)]
 mod texts;
 #[cfg(test)]
 mod threads;

@@ -2,7 +2,7 @@
 ghost use Rattle.std.specs.Prelude.{◌≤◌, ◌<◌, length};
 
 use crate::demos::{demo, is_served, over_pieces};
-use peer_conn::{End, Served, serve_serial};
+use peer_conn::{End, Served, serve_serial, serve_told};
 use peer_source::DemoSource;
 use peer_view::{MemReader, MemWriter};
 use std::alloc::{AllocError, Global};
@@ -49,7 +49,7 @@ pub fn served(
     fails: bool,
     reads: u64,
 ) -> Served<MemReader, MemWriter> {
-    serve_serial(
+    serve_told(
         alloc,
         &DemoSource,
         MemReader::new(pieces, fails),

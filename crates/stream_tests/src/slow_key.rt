@@ -4,9 +4,9 @@ ghost use Rattle.peer_fill.specs.Pools.{IsConnSeatOf, IsFillSeatOf};
 
 use crate::pooled::seed;
 use crate::runs::{READS, whole};
-use peer_conn::{End, serve_connection};
+use peer_conn::{End, serve_connection_functional};
 use peer_fill::{ConnSeat, FillSeat, Gate, Opened, Pool, pop_conn, pop_fill};
-use peer_source::{DemoSource, GroupId, Source};
+use peer_source::{DemoSource, FunctionalSource, GroupId};
 use peer_view::{MemReader, MemWriter};
 use std::alloc::Global;
 use std::hint::spin_loop;
@@ -35,7 +35,7 @@ impl Gate for Slow {
 }
 
 // Whether a connection gets the reply.
-fn is_answered<S: Source, L: Ledger + Send + Sync, H: Threads + Wait + Sync>(
+fn is_answered<S: FunctionalSource, L: Ledger + Send + Sync, H: Threads + Wait + Sync>(
     rt: &H,
     alloc: Global,
     pool: &Pool<S, L>,
@@ -48,12 +48,12 @@ fn is_answered<S: Source, L: Ledger + Send + Sync, H: Threads + Wait + Sync>(
     };
     let reader = MemReader::new(pieces, false);
     let writer = MemWriter::new(alloc, 4096, None);
-    let (served, _seat) = serve_connection(rt, alloc, pool, seat, reader, writer, READS);
+    let (served, _seat) = serve_connection_functional(rt, alloc, pool, seat, reader, writer, READS);
     served.end == End::Clean && served.writer.taken() == REPLY
 }
 
 // Whether two connections get the reply from one worker.
-fn are_answered<S: Source, L: Ledger + Send + Sync, H: Threads + Wait + Sync>(
+fn are_answered<S: FunctionalSource, L: Ledger + Send + Sync, H: Threads + Wait + Sync>(
     rt: &H,
     alloc: Global,
     pool: &Pool<S, L>,

@@ -2,11 +2,13 @@
 
 use crate::demos::{demo, is_served, over_pieces, over_pieces_into};
 use crate::ends::{THREE, THREE_REPLIES};
-use crate::pooled::{Devices, Pooled, serve_pooled};
+use crate::pooled::{Devices, Pooled, Setup, serve_pooled};
 use crate::runs::{READS, by_bytes, whole};
+use crate::steps::Step;
 use crate::texts::{Then, joined, request, value_reply};
 use peer_conn::End;
-use peer_fill::Report;
+use peer_fill::{Gate, Report};
+use peer_source::{DemoSource, GroupId};
 use peer_view::{MemReader, MemWriter};
 use std::alloc::{AllocError, Global};
 use std::sync::Wait;
@@ -175,16 +177,57 @@ fn a_failed_write_stops_the_reader(rt: HostRuntime) -> Result<(), Fail> {
     Ok(())
 }
 
-// A writer that met a fault goes on taking tickets: else the reader would wait for ever.
-#[test]
-fn tickets_are_taken_behind_a_failed_write(rt: HostRuntime) -> Result<(), Fail> {
-    let mut text = Vec::new(rt.alloc());
-    for _ in 0..500 {
+// Holds the call for a long value back until the key `last` is called for.
+#[derive(Drop)]
+struct Holding {
+    full: Step,
+}
+
+impl Gate for Holding {
+    fn before_call<R: Wait>(&self, _rt: &R, _group: GroupId, key: &[u8]) {
+        if key == b"9000".as_slice() {
+            self.full.wait();
+        }
+        if key == b"last".as_slice() {
+            self.full.tell();
+        }
+    }
+
+    fn after_put<R: Wait>(&self, _rt: &R, _group: GroupId, _key: &[u8]) {}
+}
+
+// GET of a value that is too long to be buffered, then of 64 keys, then of `last`, then of 434 more.
+fn beyond_a_lane(alloc: Global) -> Result<Vec<u8>, AllocError> {
+    let mut text = request(alloc, "/_groupcache/fill/9000")?;
+    for _ in 0..64 {
         text.extend_from_slice(REQUEST)?;
     }
-    let run = over_pieces_into(&rt, rt.alloc(), demo(1, 0), whole(rt.alloc(), &text)?, 10);
+    text.extend_from_slice(&request(alloc, "/_groupcache/echo/last")?)?;
+    for _ in 0..434 {
+        text.extend_from_slice(REQUEST)?;
+    }
+    Ok(text)
+}
+
+// A writer that met a fault goes on taking tickets: else the reader would wait for ever. When the first reply is
+// written, the lane is full and the reader has a ticket more.
+#[test]
+fn tickets_are_taken_behind_a_failed_write(rt: HostRuntime) -> Result<(), Fail> {
+    let gate = Holding { full: Step::new() };
+    let setup = Setup {
+        source: DemoSource,
+        cache_bytes: 0,
+        workers: 2,
+        gate: &gate,
+    };
+    let devices = Devices {
+        reader: MemReader::new(whole(rt.alloc(), &beyond_a_lane(rt.alloc())?)?, false),
+        writer: MemWriter::new(rt.alloc(), 4096, Some(10)),
+        reads: READS,
+    };
+    let run = serve_pooled(&rt, rt.alloc(), setup, devices);
     assert_eq!(rt; is_served(&run, b"HTTP/1.1 2", End::WriteFault), [true; 2]);
-    assert_eq!(rt; counts(run).map(|(asked, _)| asked), Some(500));
+    assert!(rt; !gate.full.has_expired());
     Ok(())
 }
 
