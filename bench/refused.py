@@ -84,6 +84,7 @@ CALLS_WITHOUT = ["without_views", "without_sinks", "without_devices", "without_s
 THREE = b"".join(b"GET /_groupcache/echo/%c HTTP/1.1\r\nHost: h\r\n\r\n" % key for key in b"abc")
 REPLIES = [b"HTTP/1.1 200 OK\r\nContent-Type: application/x-protobuf\r\nContent-Length: 3\r\n\r\n\n\x01%c" % key for key in b"abc"]
 wrong = []
+started = []
 
 
 class Page:
@@ -284,6 +285,7 @@ class Server:
         self.port = free_port()
         words = [program, f"127.0.0.1:{self.port}", str(workers), str(conns), str(rounds)]
         self.process = subprocess.Popen(words, env=tools.environment, stdout=subprocess.PIPE, stderr=subprocess.PIPE, preexec_fn=limit)
+        started.append(self.process)
         self.first = self.process.stdout.readline()
 
     def ended(self):
@@ -467,13 +469,17 @@ def main():
     with tempfile.TemporaryDirectory() as folder:
         os.chmod(folder, 0o755)
         tools = Tools(folder)
-        refused_calls(tools, only)
-        without_memory(tools, only)
-        one_by_itself(tools, only)
-        refused_pipe(tools, only)
-        refused_threads(tools, folder, only)
-        if load:
-            under_load(tools, load)
+        try:
+            refused_calls(tools, only)
+            without_memory(tools, only)
+            one_by_itself(tools, only)
+            refused_pipe(tools, only)
+            refused_threads(tools, folder, only)
+            if load:
+                under_load(tools, load)
+        finally:
+            for process in started:
+                process.kill()
     print(f"{len(wrong)} wrong")
     sys.exit(1 if wrong else 0)
 
