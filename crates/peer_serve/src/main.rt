@@ -45,8 +45,8 @@ const CACHE_BYTES: u64 = 1_048_576;
 fn main(rt: HostRuntime) -> ExitCode {
     let words = words_of(&rt);
     let mode = match &words {
-        Some(words) => read_args(words),
-        None => None,
+        Ok(words) => read_args(words),
+        Err(_) => None,
     };
     let (status, line) = match mode {
         Some(Mode::Pipe) => through_pipes(&rt),
@@ -68,7 +68,10 @@ fn main(rt: HostRuntime) -> ExitCode {
                 serve(&rt, DemoSource, address, workers, conns, rounds)
             }
         }
-        None => USAGE,
+        None => match &words {
+            Ok(_) => USAGE,
+            Err(exit) => *exit,
+        },
     };
     if !line.is_empty() {
         let _ = eprintln!(rt; "{line}");
@@ -76,15 +79,21 @@ fn main(rt: HostRuntime) -> ExitCode {
     ExitCode::from(status)
 }
 
-// The words behind the program's name, or none where they cannot be had: that is a wrong call.
-fn words_of(rt: &HostRuntime) -> Option<Vec<String>> {
-    let mut args = env::args(rt).ok()?;
+// The words behind the program's name, or the status and the line of a program that cannot have them.
+fn words_of(rt: &HostRuntime) -> Result<Vec<String>, (u8, &'static str)> {
+    let mut args = match env::args(rt) {
+        Ok(args) => args,
+        Err(error) if error.kind() == io::ErrorKind::OutOfMemory => return Err(OUT_OF_MEMORY),
+        Err(_) => return Err(USAGE),
+    };
     let _name = args.next();
     let mut words = Vec::new(rt.alloc());
     for word in args {
-        words.push(word).ok()?;
+        if words.push(word).is_err() {
+            return Err(OUT_OF_MEMORY);
+        }
     }
-    Some(words)
+    Ok(words)
 }
 
 // Serves standard input and output.

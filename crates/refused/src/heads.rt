@@ -1,0 +1,172 @@
+//! Heads, their targets, lanes and tables: calls that take their memory at once.
+
+ghost use Rattle.std.specs.Prelude.{◌≡◌, IfSome};
+
+use crate::seen::Seen;
+use crate::sources::ECHO;
+use crate::window;
+use peer_conn::wish_of;
+use peer_head::{FieldPlaces, HeadBuf, Look};
+use peer_lane::{beside, lane};
+use peer_path::{PathFault, locate};
+use peer_reply::{Fault, Wish, WishBody};
+use peer_source::{DemoSource, GetFault, GroupId, Names, Source};
+use peer_table::{TableFault, TableSource};
+use peer_view::{AllocSink, MemReader, PeerRead};
+use std::alloc::{AllocError, Global};
+
+/// `HeadBuf::new`.
+pub fn head_buf(alloc: Global) -> Option<Seen> {
+    window::begin(alloc);
+    let held = HeadBuf::new(alloc);
+    window::end(alloc);
+    Some(match held {
+        Ok(held) => Seen::Answered.only_if(held.rest().is_empty(), "it holds bytes"),
+        Err(AllocError) => Seen::Refused,
+    })
+}
+
+/// `locate` of a target with an escape. A fault that has no need of memory is told, whatever is refused.
+pub fn locate_escaped(alloc: Global) -> Option<Seen> {
+    window::begin(alloc);
+    let located = locate(alloc, b"/_groupcache/echo/%61b");
+    let bad = locate(alloc, b"/_groupcache/echo/%6");
+    window::end(alloc);
+    let seen = match located {
+        Ok(place) => {
+            let same = place.group() == b"echo".as_slice() && place.key() == b"ab".as_slice();
+            Seen::Answered.only_if(same, "another place")
+        }
+        Err(PathFault::Memory) => Seen::Refused,
+        Err(_) => Seen::Wrong("a fault that is none"),
+    };
+    let told = match bad {
+        Err(PathFault::Escape) => true,
+        _ => false,
+    };
+    Some(seen.only_if(told, "a bad escape was not told"))
+}
+
+/// A reader of one piece.
+pub fn reader_of(alloc: Global, text: &[u8]) -> Option<MemReader>
+    ensures { IfSome result (λ reader. reader.calls ≡ 0) }
+{
+    let mut pieces = Vec::new(alloc);
+    pieces.push(text.to_vec(alloc).ok()?).ok()?;
+    Some(MemReader::new(pieces, false))
+}
+
+// A buffer that holds what a reader gives at once.
+fn held_of(alloc: Global, text: &[u8]) -> Option<HeadBuf> {
+    let mut held = HeadBuf::new(alloc).ok()?;
+    let mut reader = reader_of(alloc, text)?;
+    let n = reader.read(held.room()).ok()?;
+    held.filled(n);
+    Some(held)
+}
+
+// The wish of a head, with growths counted.
+fn wish(alloc: Global, text: &[u8]) -> Option<Result<Wish, AllocError>> {
+    let held = held_of(alloc, text)?;
+    let mut places = FieldPlaces::new();
+    let (look, _) = held.look(&mut places);
+    match look {
+        Look::Head(head) => {
+            window::begin(alloc);
+            let wish = wish_of(alloc, &Names::of(&DemoSource), &head);
+            window::end(alloc);
+            Some(wish)
+        }
+        _ => None,
+    }
+}
+
+// Whether a wish asks for the key `a` of `echo`.
+fn asks_for_a(wish: Wish) -> bool {
+    let Wish { body, .. } = wish;
+    match body {
+        WishBody::Get(group, key) => group == ECHO && key.eq_bytes(b"a"),
+        WishBody::Fault(_fault) => false,
+    }
+}
+
+/// `wish_of` a head with an escape.
+pub fn wish_escaped(alloc: Global) -> Option<Seen> {
+    let wish = wish(
+        alloc,
+        b"GET /_groupcache/echo/%61 HTTP/1.1\r\nHost: h\r\n\r\n",
+    )?;
+    Some(match wish {
+        Ok(wish) => Seen::Answered.only_if(asks_for_a(wish), "another wish"),
+        Err(AllocError) => Seen::Refused,
+    })
+}
+
+// Whether a fault says that there is no group of this name.
+fn lacks_group(fault: &Fault, name: &[u8]) -> bool {
+    match fault {
+        Fault::NoGroup(told) => told.eq_bytes(name),
+        _ => false,
+    }
+}
+
+// Whether a wish names a group that is none.
+fn names_no_group(wish: Wish) -> bool {
+    let Wish { body, .. } = wish;
+    match body {
+        WishBody::Get(_group, _key) => false,
+        WishBody::Fault(fault) => lacks_group(&fault, b"nope"),
+    }
+}
+
+/// `wish_of` a head with the name of no group, whose fault keeps the name.
+pub fn wish_no_group(alloc: Global) -> Option<Seen> {
+    let wish = wish(
+        alloc,
+        b"GET /_groupcache/nope/a HTTP/1.1\r\nHost: h\r\n\r\n",
+    )?;
+    Some(match wish {
+        Ok(wish) => Seen::Answered.only_if(names_no_group(wish), "another wish"),
+        Err(AllocError) => Seen::Refused,
+    })
+}
+
+/// `lane`.
+pub fn lane_new(alloc: Global) -> Option<Seen> {
+    window::begin(alloc);
+    let made = lane::<DemoSource>(alloc);
+    window::end(alloc);
+    Some(match made {
+        Ok((mut put, mut taken)) => {
+            Seen::Answered.only_if(beside(&mut put, &mut taken) == 0, "tickets are in it")
+        }
+        Err(AllocError) => Seen::Refused,
+    })
+}
+
+// What a table answers for a group and a key.
+fn answers(alloc: Global, table: &TableSource, group: GroupId, key: &[u8], value: &[u8]) -> bool {
+    let mut sink = AllocSink::new();
+    match table.get(alloc, group, key, &mut sink) {
+        Ok(()) => sink.into_view().eq_bytes(value),
+        Err(GetFault::Text(_) | GetFault::TooLong | GetFault::Memory) => false,
+    }
+}
+
+/// `TableSource::read_from`.
+pub fn read_table(alloc: Global) -> Option<Seen> {
+    let mut reader = reader_of(alloc, b"g\ta\t1\ng\tb\t2\nh\ta\t3\n")?;
+    window::begin(alloc);
+    let read = TableSource::read_from(alloc, &mut reader, 10);
+    window::end(alloc);
+    Some(match read {
+        Ok(table) => {
+            let same = answers(alloc, &table, GroupId { number: 0 }, b"a", b"1")
+                && answers(alloc, &table, GroupId { number: 0 }, b"b", b"2")
+                && answers(alloc, &table, GroupId { number: 1 }, b"a", b"3");
+            Seen::Answered.only_if(same, "another table")
+        }
+        Err(TableFault::Memory) => Seen::Refused,
+        Err(_) => Seen::Wrong("a fault that is none"),
+    })
+}

@@ -1,0 +1,208 @@
+//! Fills of the source for demonstrations, and caches of them.
+
+use crate::seen::Seen;
+use crate::window;
+use peer_source::{DemoSource, Fill, GroupId, MainCache, Outcome};
+use peer_view::ByteView;
+use std::alloc::{AllocError, Global};
+use std::hash::RandomState;
+use std::io;
+use std::random::RandomSource;
+
+/// The group whose values are the keys.
+pub const ECHO: GroupId = GroupId { number: 0 };
+
+/// The group of squares.
+pub const SQUARE: GroupId = GroupId { number: 1 };
+
+/// The group of so many letters.
+pub const FILL: GroupId = GroupId { number: 2 };
+
+// Gives zeros, so that each run has the same seed.
+struct Zeros;
+
+impl RandomSource for Zeros {
+    fn fill_bytes(&self, buf: &mut [u8]) -> io::Result<()> {
+        buf.fill(0);
+        Ok(())
+    }
+}
+
+/// The seed of caches.
+pub fn seed() -> Option<RandomState> {
+    RandomState::new(&Zeros).ok()
+}
+
+/// A fill, where memory is there.
+pub fn fill_of(alloc: Global, group: GroupId, key: &[u8]) -> Option<Fill<DemoSource>> {
+    let key = ByteView::copy_of(alloc, key).ok()?;
+    let fill = Fill::run(alloc, &DemoSource, group, key);
+    match fill.outcome() {
+        Outcome::NoMemory => return None,
+        Outcome::Found(_) | Outcome::Failed(_) => {}
+    }
+    Some(fill)
+}
+
+/// Whether a fill found this value.
+pub fn finds(fill: &Fill<DemoSource>, value: &[u8]) -> bool {
+    match fill.outcome() {
+        Outcome::Found(found) => found.eq_bytes(value),
+        _ => false,
+    }
+}
+
+/// `Fill::run`, where this value or the text of this error is wanted.
+pub fn run(alloc: Global, group: GroupId, key: &[u8], wanted: &[u8]) -> Option<Seen> {
+    let view = ByteView::copy_of(alloc, key).ok()?;
+    window::begin(alloc);
+    let fill = Fill::run(alloc, &DemoSource, group, view);
+    window::end(alloc);
+    let seen = match fill.outcome() {
+        Outcome::Found(found) => Seen::Answered.only_if(found.eq_bytes(wanted), "another value"),
+        Outcome::Failed(text) => Seen::Answered.only_if(text.eq_bytes(wanted), "another error"),
+        Outcome::NoMemory => Seen::Refused,
+    };
+    let placed = fill.group() == group && fill.key().eq_bytes(key);
+    Some(seen.only_if(placed, "a fill of another group or key"))
+}
+
+/// `Fill::share`.
+pub fn share(alloc: Global) -> Option<Seen> {
+    let fill = fill_of(alloc, ECHO, b"k")?;
+    window::begin(alloc);
+    let shared = fill.share();
+    window::end(alloc);
+    let seen = match shared {
+        Ok(shared) => Seen::Answered.only_if(finds(&shared, b"k"), "another value"),
+        Err(AllocError) => Seen::Refused,
+    };
+    Some(seen.only_if(finds(&fill, b"k"), "the fill changed"))
+}
+
+/// `MainCache::new`.
+pub fn cache_new(alloc: Global) -> Option<Seen> {
+    let seed = seed()?;
+    window::begin(alloc);
+    let cache = MainCache::<DemoSource>::new(alloc, ECHO, 4, seed);
+    window::end(alloc);
+    Some(match cache {
+        Ok(cache) => Seen::Answered.only_if(cache.len() == 0 && cache.bytes() == 0, "not empty"),
+        Err(AllocError) => Seen::Refused,
+    })
+}
+
+/// A cache of `echo` with room for two keys of one letter, to which these were added.
+pub fn cache_with(alloc: Global, letters: &[u8]) -> Option<MainCache<DemoSource>> {
+    let mut cache = MainCache::new(alloc, ECHO, 4, seed()?).ok()?;
+    for letter in letters {
+        keep(alloc, &mut cache, *letter)?;
+    }
+    Some(cache)
+}
+
+// Adds a letter, where memory is there.
+fn keep(alloc: Global, cache: &mut MainCache<DemoSource>, letter: u8) -> Option<()> {
+    let fill = fill_of(alloc, ECHO, &[letter])?;
+    cache.add(&fill, &mut Vec::new(alloc)).ok()
+}
+
+// Whether a cache keeps this letter and not the other.
+fn keeps(alloc: Global, cache: &mut MainCache<DemoSource>, one: u8, other: u8) -> Option<bool> {
+    let there = ByteView::copy_of(alloc, &[one]).ok()?;
+    let gone = ByteView::copy_of(alloc, &[other]).ok()?;
+    let found = match cache.get(&there).ok()? {
+        Some(fill) => finds(&fill, &[one]),
+        None => false,
+    };
+    Some(found && cache.get(&gone).ok()?.is_none() && cache.len() == 2 && cache.bytes() == 4)
+}
+
+/// `MainCache::get`. The entry comes to the front only where its fill is given: else it is the next to go.
+pub fn cache_get(alloc: Global) -> Option<Seen> {
+    let mut cache = cache_with(alloc, b"ab")?;
+    let key = ByteView::copy_of(alloc, b"a").ok()?;
+    window::begin(alloc);
+    let got = cache.get(&key);
+    window::end(alloc);
+    keep(alloc, &mut cache, b'c')?;
+    Some(match got {
+        Ok(Some(fill)) => Seen::Answered
+            .only_if(finds(&fill, b"a"), "another value")
+            .only_if(keeps(alloc, &mut cache, b'a', b'b')?, "it is not in front"),
+        Ok(None) => Seen::Wrong("the value was not there"),
+        Err(AllocError) => Seen::Refused.only_if(
+            keeps(alloc, &mut cache, b'b', b'a')?,
+            "the order changed",
+        ),
+    })
+}
+
+/// `MainCache::add`, where another entry has to go.
+pub fn cache_add(alloc: Global) -> Option<Seen> {
+    let mut cache = cache_with(alloc, b"ab")?;
+    let fill = fill_of(alloc, ECHO, b"c")?;
+    let mut evicted = Vec::with_capacity(alloc, 4).ok()?;
+    window::begin(alloc);
+    let added = cache.add(&fill, &mut evicted);
+    window::end(alloc);
+    Some(match added {
+        Ok(()) => Seen::Answered.only_if(
+            keeps(alloc, &mut cache, b'c', b'a')?,
+            "not what was added",
+        ),
+        Err(AllocError) => Seen::Refused.only_if(
+            keeps(alloc, &mut cache, b'a', b'c')?,
+            "the cache changed",
+        ),
+    })
+}
+
+// How many entries are added to one cache.
+const MANY: u8 = 100;
+
+// Adds many letters to a cache, with growths counted, and says how many were refused, or none where an add that was
+// refused changed what is counted, or another did not.
+fn add_many(
+    cache: &mut MainCache<DemoSource>,
+    fills: &[Fill<DemoSource>],
+    evicted: &mut Vec<(ByteView, ByteView)>,
+) -> Option<u64> {
+    let mut refused: u64 = 0;
+    for fill in fills {
+        let (count, bytes) = (cache.len(), cache.bytes());
+        let right = match cache.add(fill, evicted) {
+            Ok(()) => (count.wrapping_add(1), bytes.wrapping_add(2)),
+            Err(AllocError) => {
+                refused = refused.wrapping_add(1);
+                (count, bytes)
+            }
+        };
+        if (cache.len(), cache.bytes()) != right {
+            return None;
+        }
+    }
+    Some(refused)
+}
+
+/// `MainCache::add`, so often that the map of the keys grows.
+pub fn cache_grows(alloc: Global) -> Option<Seen> {
+    let mut cache = MainCache::new(alloc, ECHO, 1000, seed()?).ok()?;
+    let mut fills = Vec::new(alloc);
+    for letter in 0..MANY {
+        fills.push(fill_of(alloc, ECHO, &[letter])?).ok()?;
+    }
+    let mut evicted = Vec::with_capacity(alloc, 4).ok()?;
+    window::begin(alloc);
+    let refused = add_many(&mut cache, &fills, &mut evicted);
+    window::end(alloc);
+    let whole = cache.len() as u64;
+    Some(match refused {
+        Some(0) => Seen::Answered.only_if(whole == u64::from(MANY), "entries are missing"),
+        Some(refused) => Seen::Refused.only_if(
+            whole.wrapping_add(refused) == u64::from(MANY),
+            "entries are missing",
+        ),
+        None => Seen::Wrong("the counts do not fit"),
+    })
+}

@@ -1,0 +1,318 @@
+//! Calls that promise to take no memory. Each is made with all growths refused.
+ghost use Rattle.std.specs.Prelude.{◌≡◌};
+
+use crate::connections::{FIRST_REPLY, THREE};
+use crate::heads::reader_of;
+use crate::pools::{CACHE_BYTES, adds_up};
+use crate::seen::Seen;
+use crate::sources::{ECHO, cache_with, fill_of, finds, seed};
+use crate::window;
+use bytes::Bytes;
+use peer_fill::{Opened, Pool, pop_conn};
+use peer_flight::{Ask, Table};
+use peer_head::{FieldPlaces, HeadBuf, Look};
+use peer_lane::{Body, Ticket, beside, lane};
+use peer_path::locate;
+use peer_reply::{Fault, HeadRoom, Reply, read_response};
+use peer_source::{DemoSource, Fill, Names, Source};
+use peer_view::{AllocSink, ByteView, MemReader, MemWriter, PeerRead, TruncSink, ViewSink};
+use std::alloc::Global;
+use std::marker::Brand;
+use std::sync::Wait;
+use std::sync::ledger::{Blank, Ledger};
+
+const TEXT: &[u8] = b"what was there";
+
+// That all of these hold.
+fn all(held: &[bool]) -> Option<Seen> {
+    Some(Seen::Answered.only_if(held.iter().all(|one| *one), "another answer"))
+}
+
+/// The calls of views.
+pub fn views(alloc: Global) -> Option<Seen> {
+    let view = ByteView::copy_of(alloc, TEXT).ok()?;
+    let same = ByteView::copy_of(alloc, TEXT).ok()?;
+    if view.len() < 14 {
+        return None;
+    }
+    let mut room = [0u8; 4];
+    window::begin(alloc);
+    let held = [
+        ByteView::from_shared(Bytes::from_static(b"x")).eq_bytes(b"x"),
+        view.len() == 14,
+        !view.is_empty(),
+        view.as_slice() == TEXT,
+        view.at(5) == b'w',
+        view.range(5, 8) == b"was".as_slice(),
+        view.parts_at(9) == (b"what was ".as_slice(), b"there".as_slice()),
+        view.copy_to(&mut room) == 4,
+        view.read_at(12, &mut room) == (2, true),
+        view.eq_bytes(TEXT),
+        view == same,
+    ];
+    window::end(alloc);
+    all(&held)
+}
+
+/// The calls of sinks.
+pub fn sinks(alloc: Global) -> Option<Seen> {
+    let mut lent = ByteView::copy_of(alloc, TEXT).ok()?;
+    let view = ByteView::copy_of(alloc, TEXT).ok()?;
+    let mut destination = [0u8; 4];
+    window::begin(alloc);
+    let empty = AllocSink::new().into_view().is_empty();
+    let _lends = ViewSink::new(&mut lent);
+    let mut sink = TruncSink::new(&mut destination);
+    sink.set_bytes(b"a");
+    let one = sink.len() == 1;
+    sink.set_str("abc");
+    let three = sink.len() == 3;
+    sink.set_view(&view);
+    let same = &*sink.filled() == b"what".as_slice();
+    window::end(alloc);
+    all(&[empty, one, three, same, lent.eq_bytes(TEXT)])
+}
+
+/// The calls of readers and writers in memory.
+pub fn devices(alloc: Global) -> Option<Seen> {
+    let mut pieces = Vec::new(alloc);
+    pieces.push(TEXT.to_vec(alloc).ok()?).ok()?;
+    let mut room = [0u8; 4];
+    window::begin(alloc);
+    let mut reader = MemReader::new(pieces, false);
+    let read = reader.read(&mut room) == Ok(4);
+    let writer = MemWriter::new(alloc, 1, None);
+    let none = writer.taken().is_empty();
+    window::end(alloc);
+    all(&[read, none, room.as_slice() == b"what".as_slice()])
+}
+
+/// The calls of sources, names and fills.
+pub fn sources(alloc: Global) -> Option<Seen> {
+    let fill = fill_of(alloc, ECHO, b"k")?;
+    window::begin(alloc);
+    let names = Names::of(&DemoSource);
+    let held = [
+        DemoSource.group_count() == 3,
+        DemoSource.group(b"echo") == Some(ECHO),
+        names.group(b"echo") == Some(ECHO),
+        names.group(b"nope").is_none(),
+        fill.group() == ECHO,
+        fill.key().eq_bytes(b"k"),
+        finds(&fill, b"k"),
+    ];
+    window::end(alloc);
+    all(&held)
+}
+
+/// The calls of caches.
+pub fn caches(alloc: Global) -> Option<Seen> {
+    let cache = cache_with(alloc, b"ab")?;
+    window::begin(alloc);
+    let held = [cache.len() == 2, cache.bytes() == 4, !cache.is_empty()];
+    window::end(alloc);
+    all(&held)
+}
+
+// Whether a buffer begins with a GET of the key `a`, and how long it is.
+fn looks(alloc: Global, held: &HeadBuf, places: &mut FieldPlaces) -> bool {
+    let (look, _) = held.look(places);
+    match look {
+        Look::Head(head) => {
+            head.method() == b"GET".as_slice()
+                && head.version() == 1
+                && head.field_count() == 1
+                && !head.is_closing()
+                && !head.is_bare()
+                && is_place(alloc, head.target())
+        }
+        _ => false,
+    }
+}
+
+// Whether a target is the key `a` of `echo`.
+fn is_place(alloc: Global, target: &[u8]) -> bool {
+    match locate(alloc, target) {
+        Ok(place) => place.group() == b"echo".as_slice() && place.key() == b"a".as_slice(),
+        Err(_) => false,
+    }
+}
+
+/// The calls of heads, and of targets without an escape.
+pub fn heads(alloc: Global) -> Option<Seen> {
+    let mut held = HeadBuf::new(alloc).ok()?;
+    let mut reader = reader_of(alloc, THREE)?;
+    window::begin(alloc);
+    let mut places = FieldPlaces::new();
+    let read = reader.read(held.room());
+    if let Ok(n) = read {
+        held.filled(n);
+    }
+    let seen = [
+        read == Ok(135),
+        held.rest() == THREE,
+        looks(alloc, &held, &mut places),
+    ];
+    window::end(alloc);
+    all(&seen)
+}
+
+// Whether the parts of a reply joined are this text.
+fn is_reply(reply: &Reply<'_>, text: &[u8]) -> bool {
+    let mut rest = text;
+    for part in reply.parts() {
+        match rest.strip_prefix(part) {
+            Some(behind) => rest = behind,
+            None => return false,
+        }
+    }
+    rest.is_empty()
+}
+
+const NO_KEY: &[u8] =
+    b"HTTP/1.1 400 Bad Request\r\nContent-Type: text/plain; charset=utf-8\r\nX-Content-Type-Options: nosniff\r\nContent-Length: 12\r\n\r\nbad request\n";
+
+// Whether the reply to a fault is this text.
+fn tells(room: &mut HeadRoom, fault: &Fault, text: &[u8]) -> bool {
+    is_reply(&Reply::of_fault(room, fault, false, false), text)
+}
+
+// Whether the reply to a fill is this text, or there is none.
+fn gives(room: &mut HeadRoom, fill: &Fill<DemoSource>, text: Option<&[u8]>) -> bool {
+    match (Reply::of_fill(room, fill, false, false), text) {
+        (Some(reply), Some(text)) => is_reply(&reply, text),
+        (None, None) => true,
+        _ => false,
+    }
+}
+
+/// The calls of replies.
+pub fn replies(alloc: Global) -> Option<Seen> {
+    let fill = fill_of(alloc, ECHO, b"a")?;
+    let key = ByteView::copy_of(alloc, b"a").ok()?;
+    let unanswered = Fill::<DemoSource>::unanswered(ECHO, key);
+    window::begin(alloc);
+    let mut room = HeadRoom::new();
+    let held = [
+        tells(&mut room, &Fault::NoKey, NO_KEY),
+        gives(&mut room, &unanswered, None),
+        gives(&mut room, &fill, Some(FIRST_REPLY)),
+        read_response(b"\x0A\x01a") == Ok(b"a".as_slice()),
+    ];
+    window::end(alloc);
+    all(&held)
+}
+
+/// The calls of a flight and of its table.
+pub fn flights(alloc: Global) -> Option<Seen> {
+    let key = ByteView::copy_of(alloc, b"k").ok()?;
+    let fill = fill_of(alloc, ECHO, b"k")?;
+    let mut table = Table::<DemoSource>::new(alloc);
+    let Ok(Ask::Led(flight, right)) = table.want(alloc, ECHO, &key) else {
+        return None;
+    };
+    window::begin(alloc);
+    let empty = Table::<DemoSource>::new(alloc).counts() == (0, 0);
+    let mut note = flight.note();
+    let none = flight.look(&mut note).is_none();
+    let own = right.flight().number() == 0;
+    let put = right.put(fill);
+    let found = match flight.look(&mut note) {
+        Some(fill) => finds(fill, b"k"),
+        None => false,
+    };
+    let named = flight.group() == ECHO && flight.key().eq_bytes(b"k");
+    let open = table.counts() == (1, 1);
+    table.land(&flight);
+    let landed = table.counts() == (1, 0);
+    window::end(alloc);
+    all(&[empty, none, own, put.kept, found, named, open, landed])
+}
+
+// The calls of a pool that was asked once, in a ledger.
+fn pool_in<L: Ledger, R: Wait>(rt: &R, alloc: Global, blank: Blank) -> Option<Seen>
+    requires name { blank.name ≡ L.name }
+    requires parts { (blank.parts ≡ L.parts) × (blank.parts ≡ 16) }
+{
+    let opened = Pool::<DemoSource, L>::open(alloc, DemoSource, CACHE_BYTES, seed()?, 1, 1, blank);
+    let Ok(
+        Opened {
+            pool,
+            fills,
+            mut conns,
+        },
+    ) = opened
+    else {
+        return None;
+    };
+    let mut seat = pop_conn(&pool, &mut conns)?;
+    let key = ByteView::copy_of(alloc, b"k").ok()?;
+    let claim = pool.ask(rt, alloc, &mut seat, ECHO, key).ok()?;
+    let fill = fill_of(alloc, ECHO, b"k")?;
+    window::begin(alloc);
+    pool.stop();
+    let named = pool.source().group(b"echo") == Some(ECHO);
+    let own = match pool.refill(alloc, &claim, &fill) {
+        Ok(None) => true,
+        _ => false,
+    };
+    seat.add_strangers(1);
+    let counted = [
+        seat.asked(),
+        seat.hits(),
+        seat.led(),
+        seat.joined(),
+        seat.strangers(),
+    ];
+    let Ok(()) = conns.push(seat) else {
+        return None;
+    };
+    let report = pool.close(rt, fills, conns).ok()?;
+    window::end(alloc);
+    all(&[
+        named,
+        own,
+        counted == [1, 0, 1, 0, 1],
+        adds_up(&report) && report.left == 1,
+    ])
+}
+
+/// The calls of a pool.
+pub fn pool<R: Wait>(rt: &R, alloc: Global) -> Option<Seen> {
+    pool_in::<Brand, R>(rt, alloc, Blank::new(16))
+}
+
+// Whether a ticket was put.
+fn is_put(put: Result<(), Ticket<DemoSource>>) -> bool {
+    match put {
+        Ok(()) => true,
+        Err(_ticket) => false,
+    }
+}
+
+// Whether a ticket was taken that closes.
+fn closes(taken: Option<Ticket<DemoSource>>) -> bool {
+    match taken {
+        Some(ticket) => ticket.closing,
+        None => false,
+    }
+}
+
+/// The calls of a lane.
+pub fn lanes(alloc: Global) -> Option<Seen> {
+    let Ok((mut put, mut taken)) = lane::<DemoSource>(alloc) else {
+        return None;
+    };
+    let ticket = Ticket {
+        closing: true,
+        bare: false,
+        body: Body::Fault(Fault::Host),
+    };
+    window::begin(alloc);
+    let one = is_put(put.put(ticket));
+    let left = beside(&mut put, &mut taken) == 1;
+    let same = closes(taken.take());
+    let empty = beside(&mut put, &mut taken) == 0;
+    window::end(alloc);
+    all(&[one, left, same, empty])
+}
