@@ -34,18 +34,25 @@ fn fault_of(alloc: Global, text: &[u8]) -> Result<Option<TableFault>, Fail> {
 }
 
 // The fault of a text that comes byte by byte.
-fn fault_of_bytes(alloc: Global, text: &[u8]) -> Result<Option<TableFault>, Fail> {
+fn fault_of_bytes(
+    alloc: Global,
+    text: &[u8],
+    fails: bool,
+    reads: u32,
+) -> Result<Option<TableFault>, Fail> {
     let mut pieces = Vec::new(alloc);
     for byte in text.chunks(1) {
         pieces.push(byte.to_vec(alloc)?)?;
     }
-    let mut reader = MemReader::new(pieces, false);
-    Ok(TableSource::read_from(alloc, &mut reader, 1000).err())
+    let mut reader = MemReader::new(pieces, fails);
+    Ok(TableSource::read_from(alloc, &mut reader, u64::from(reads)).err())
 }
 
 // Whether a text has this fault, in one piece and byte by byte.
 fn fails(alloc: Global, text: &[u8], fault: TableFault) -> Result<bool, Fail> {
-    Ok(fault_of(alloc, text)? == Some(fault) && fault_of_bytes(alloc, text)? == Some(fault))
+    let one = fault_of(alloc, text)?;
+    let cut = fault_of_bytes(alloc, text, false, 2_000_000)?;
+    Ok(one == Some(fault) && cut == Some(fault))
 }
 
 // Whether a name and key have this answer.
@@ -126,6 +133,19 @@ fn tells_how_reading_failed(rt: HostRuntime) -> Result<(), Fail> {
     Ok(())
 }
 
+#[test]
+fn tells_how_reading_byte_by_byte_failed(rt: HostRuntime) -> Result<(), Fail> {
+    let alloc = rt.alloc();
+    let text = b"a\tk\tv\n";
+    let spent = fault_of_bytes(alloc, text, false, 6)?;
+    assert_eq!(rt; spent, Some(TableFault::Spent));
+    let whole = fault_of_bytes(alloc, text, false, 7)?;
+    assert_eq!(rt; whole, None);
+    let failed = fault_of_bytes(alloc, text, true, 7)?;
+    assert_eq!(rt; failed, Some(TableFault::ReadFault));
+    Ok(())
+}
+
 // A text of lines with so many groups of one byte.
 fn groups(alloc: Global, count: u8) -> Result<Vec<u8>, Fail> {
     let mut text = Vec::new(alloc);
@@ -140,10 +160,7 @@ fn groups(alloc: Global, count: u8) -> Result<Vec<u8>, Fail> {
 fn takes_sixty_four_groups(rt: HostRuntime) -> Result<(), Fail> {
     let alloc = rt.alloc();
     assert_eq!(rt; fault_of(alloc, &groups(alloc, 64)?)?, None);
-    assert_eq!(rt;
-        fault_of(alloc, &groups(alloc, 65)?)?,
-        Some(TableFault::Groups(65))
-    );
+    assert!(rt; fails(alloc, &groups(alloc, 65)?, TableFault::Groups(65))?);
     Ok(())
 }
 
@@ -161,10 +178,7 @@ fn valued(alloc: Global, count: usize) -> Result<Vec<u8>, Fail> {
 fn takes_values_up_to_the_limit(rt: HostRuntime) -> Result<(), Fail> {
     let alloc = rt.alloc();
     assert_eq!(rt; fault_of(alloc, &valued(alloc, 1_048_576)?)?, None);
-    assert_eq!(rt;
-        fault_of(alloc, &valued(alloc, 1_048_577)?)?,
-        Some(TableFault::Value(1))
-    );
+    assert!(rt; fails(alloc, &valued(alloc, 1_048_577)?, TableFault::Value(1))?);
     Ok(())
 }
 
@@ -172,7 +186,11 @@ fn takes_values_up_to_the_limit(rt: HostRuntime) -> Result<(), Fail> {
 fn refuses_too_many_bytes(rt: HostRuntime) -> Result<(), Fail> {
     let alloc = rt.alloc();
     let mut text = Vec::new(alloc);
-    text.resize(16_777_217, b'x')?;
+    text.resize(16_777_216, b'x')?;
+    assert_eq!(rt; fault_of(alloc, &text)?, Some(TableFault::Line(1)));
+    let last = read(alloc, &[text.as_slice(), b"x".as_slice()], false, 1000)?.err();
+    assert_eq!(rt; last, Some(TableFault::TooLarge));
+    text.push(b'x')?;
     assert_eq!(rt; fault_of(alloc, &text)?, Some(TableFault::TooLarge));
     Ok(())
 }

@@ -35,6 +35,8 @@ mod many;
 #[cfg(test)]
 mod model;
 #[cfg(test)]
+mod numbers;
+#[cfg(test)]
 mod ordered;
 #[cfg(test)]
 mod pooled;
@@ -46,6 +48,8 @@ mod slow_key;
 mod sources;
 #[cfg(test)]
 mod steps;
+#[cfg(test)]
+mod stops;
 #[cfg(test)]
 mod tables;
 #[cfg(test)]

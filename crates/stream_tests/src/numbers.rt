@@ -1,0 +1,162 @@
+//! A source that answers each call with its number: who waits for one call gets one number.
+ghost use Rattle.std.specs.Prelude.{◌≡◌, IfSome};
+ghost use Rattle.peer_source.specs.Reports.{reported};
+ghost use Rattle.peer_fill.specs.Pools.{IsConnSeatOf, IsFillSeatOf};
+ghost use Rattle.stream_tests.specs.Numbers.{IsNumber, echo_number, echo_numbered, number_limited, some_number};
+
+use crate::pooled::seed;
+use itoa::Buffer;
+use peer_fill::{ConnSeat, FillSeat, NoGate, Opened, Pool, pop_conn, pop_fill};
+use peer_flight::Claim;
+use peer_source::{GetFault, GroupId, Outcome, Source};
+use peer_view::{AllocSink, ByteView};
+use std::alloc::Global;
+use std::marker::Brand;
+use std::sync::Wait;
+use std::sync::atomic::AtomicU64;
+use std::sync::atomic::Ordering::SeqCst;
+use std::sync::ledger::{Blank, Ledger};
+use std::test::Fail;
+
+// Finds the number of its call, from 1.
+#[derive(Drop)]
+struct Numbering {
+    calls: AtomicU64,
+}
+
+// Finds this number.
+fn find(alloc: Global, number: u64, sink: &mut AllocSink) -> Result<(), GetFault>
+    ensures { IfSome (reported result sink.new) IsNumber }
+{
+    match sink.set_bytes(alloc, Buffer::new().format(number).as_bytes()) {
+        Ok(()) => Ok(()),
+        Err(_) => Err(GetFault::Memory),
+    }
+}
+
+impl Source for Numbering {
+    ghost answers = { λ s g k a. IsNumber a };
+
+    ghost allowed = { λ g k a. IsNumber a };
+
+    ghost count = { λ s. 1 };
+
+    ghost number_of = { λ s name. echo_number name };
+
+    fn group_count(&self) -> usize {
+        1
+    }
+
+    fn group(&self, name: &[u8]) -> Option<GroupId> {
+        if name == b"echo".as_slice() {
+            return Some(GroupId { number: 0 });
+        }
+        None
+    }
+
+    fn get(
+        &self,
+        alloc: Global,
+        _group: GroupId,
+        _key: &[u8],
+        sink: &mut AllocSink,
+    ) -> Result<(), GetFault> {
+        let before = self.calls.fetch_add(1, SeqCst);
+        find(alloc, before.wrapping_add(1), sink)
+    }
+
+    ghost within = { λ s g k a h. h };
+
+    ghost limited = { λ g k a h. number_limited a h };
+
+    ghost answered = { λ s g k. some_number };
+
+    ghost numbered = { λ s name i e. echo_numbered name i e };
+}
+
+// A claim on the key `k` of the group `echo`.
+fn ask<S: Source, L: Ledger, R: Wait>(
+    rt: &R,
+    alloc: Global,
+    pool: &Pool<S, L>,
+    seat: &mut ConnSeat<S, L>,
+) -> Option<Claim<S>>
+    requires { IsConnSeatOf pool.now seat.old }
+    ensures { IsConnSeatOf pool.now seat.new }
+{
+    let key = ByteView::copy_of(alloc, b"k").ok()?;
+    let group = pool.source().group(b"echo")?;
+    pool.ask(rt, alloc, seat, group, key).ok()
+}
+
+// Whether a claim shows this value.
+fn shows<S: Source, L: Ledger, R: Wait>(
+    rt: &R,
+    pool: &Pool<S, L>,
+    claim: &Claim<S>,
+    value: &[u8],
+) -> bool {
+    match pool.wait_for(rt, claim).outcome() {
+        Outcome::Found(found) => found.as_slice() == value,
+        Outcome::Failed(_) | Outcome::NoMemory => false,
+    }
+}
+
+// Both seats ask, the worker runs, the first seat asks again, and the worker runs: whether the claims show 1, 1 and 2.
+fn show_numbers<S: Source, L: Ledger, R: Wait>(
+    rt: &R,
+    alloc: Global,
+    pool: &Pool<S, L>,
+    fill: FillSeat<S, L>,
+    one: ConnSeat<S, L>,
+    two: ConnSeat<S, L>,
+) -> Option<[bool; 3]>
+    requires fill { IsFillSeatOf pool.now fill }
+    requires one { IsConnSeatOf pool.now one }
+    requires two { IsConnSeatOf pool.now two }
+{
+    let (mut one, mut two) = (one, two);
+    let first = ask(rt, alloc, pool, &mut one)?;
+    let second = ask(rt, alloc, pool, &mut two)?;
+    let fill = pool.run_worker(rt, alloc, fill, &NoGate);
+    let third = ask(rt, alloc, pool, &mut one)?;
+    let _fill = pool.run_worker(rt, alloc, fill, &NoGate);
+    Some([
+        shows(rt, pool, &first, b"1"),
+        shows(rt, pool, &second, b"1"),
+        shows(rt, pool, &third, b"2"),
+    ])
+}
+
+// The same with a pool of its own, which was stopped and keeps nothing.
+fn shown<L: Ledger, R: Wait>(rt: &R, alloc: Global, blank: Blank) -> Option<[bool; 3]>
+    requires name { blank.name ≡ L.name }
+    requires parts { (blank.parts ≡ L.parts) × (blank.parts ≡ 16) }
+{
+    let source = Numbering {
+        calls: AtomicU64::new(0),
+    };
+    let opened = Pool::<Numbering, L>::open(alloc, source, 0, seed()?, 1, 2, blank);
+    let Ok(
+        Opened {
+            pool,
+            mut fills,
+            mut conns,
+        },
+    ) = opened
+    else {
+        return None;
+    };
+    pool.stop();
+    let fill = pop_fill(&pool, &mut fills)?;
+    let one = pop_conn(&pool, &mut conns)?;
+    let two = pop_conn(&pool, &mut conns)?;
+    show_numbers(rt, alloc, &pool, fill, one, two)
+}
+
+#[test]
+fn two_seats_wait_for_one_call(rt: HostRuntime) -> Result<(), Fail> {
+    let shown = shown::<Brand, HostRuntime>(&rt, rt.alloc(), Blank::new(16));
+    assert_eq!(rt; shown, Some([true; 3]));
+    Ok(())
+}

@@ -1,0 +1,103 @@
+//! A reader stops behind a failed write, also where no other request comes.
+ghost use Rattle.std.specs.Prelude.{Some};
+
+use crate::demos::demo;
+use crate::pooled::{Devices, serve_pooled};
+use crate::runs::{READS, whole};
+use crate::steps::Step;
+use peer_conn::End;
+use peer_view::{MemReader, MemWriter, PeerRead, PeerWrite, ReadFailed, WriteFailed};
+use std::alloc::{AllocError, Global};
+use std::sync::atomic::AtomicU64;
+use std::sync::atomic::Ordering::SeqCst;
+use std::test::Fail;
+use std::thread::yield_now;
+
+// The reads so far, and the first write, which fails.
+#[derive(Drop)]
+struct Watch {
+    reads: AtomicU64,
+    first_write: Step,
+}
+
+// Each read but the first waits for the first write, and then takes a while.
+#[derive(Drop)]
+struct LateReader<'a> {
+    reader: MemReader,
+    watch: &'a Watch,
+}
+
+impl<'a> PeerRead for LateReader<'a> {
+    ghost given = { λ r. Some r.reader.given };
+
+    ghost calls = { λ r. r.reader.calls };
+
+    ghost ends = { λ r. r.reader.ends };
+
+    ghost failures = { λ r. r.reader.failures };
+
+    fn read(&mut self, room: &mut [u8]) -> Result<usize, ReadFailed> {
+        if self.watch.reads.fetch_add(1, SeqCst) > 0 {
+            self.watch.first_write.wait();
+            for _ in 0..1000 {
+                yield_now();
+            }
+        }
+        self.reader.read(room)
+    }
+}
+
+// Tells of its first write.
+#[derive(Drop)]
+struct TellingWriter<'a> {
+    writer: MemWriter,
+    watch: &'a Watch,
+}
+
+impl<'a> PeerWrite for TellingWriter<'a> {
+    ghost taken = { λ w. Some w.writer.taken };
+
+    ghost failures = { λ w. w.writer.failures };
+
+    fn write(&mut self, bytes: &[u8]) -> Result<usize, WriteFailed> {
+        self.watch.first_write.tell();
+        self.writer.write(bytes)
+    }
+}
+
+// A request, and then 2,000 bytes of a head without an end, one a piece.
+fn pieces(alloc: Global) -> Result<Vec<Vec<u8>>, AllocError> {
+    let mut pieces = whole(
+        alloc,
+        b"GET /_groupcache/echo/k HTTP/1.1\r\nHost: h\r\n\r\n",
+    )?;
+    for _ in 0..2000 {
+        pieces.push(b"G".to_vec(alloc)?)?;
+    }
+    Ok(pieces)
+}
+
+#[test]
+fn a_failed_write_stops_a_reader_that_gets_no_request(rt: HostRuntime) -> Result<(), Fail> {
+    let watch = Watch {
+        reads: AtomicU64::new(0),
+        first_write: Step::new(),
+    };
+    let devices = Devices {
+        reader: LateReader {
+            reader: MemReader::new(pieces(rt.alloc())?, false),
+            watch: &watch,
+        },
+        writer: TellingWriter {
+            writer: MemWriter::new(rt.alloc(), 4096, Some(0)),
+            watch: &watch,
+        },
+        reads: READS,
+    };
+    let run = serve_pooled(&rt, rt.alloc(), demo(1, 0), devices);
+    assert_eq!(rt; run.map(|run| run.served.end), Some(End::WriteFault));
+    assert!(rt; !watch.first_write.has_expired());
+    let reads = watch.reads.load(SeqCst);
+    assert!(rt; reads < 2000, "{reads} reads");
+    Ok(())
+}
