@@ -78,7 +78,12 @@ impl Meetings {
         let mut waiter = Waiter::new(&self.offer);
         for _ in rt.forever() {
             let left = self.offered.load(SeqCst);
-            if left > 0 && self.offered.compare_exchange(left, left - 1, SeqCst, SeqCst).is_ok() {
+            if left > 0
+                && self
+                    .offered
+                    .compare_exchange(left, left - 1, SeqCst, SeqCst)
+                    .is_ok()
+            {
                 if waiter.may_have_slept() {
                     self.offer.acknowledge();
                     if self.offered.load(SeqCst) > 0 {
