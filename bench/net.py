@@ -3,7 +3,7 @@
 
     (cd crates/peer_serve && rt run < stdin > /dev/null)      # builds the server
     apt-get install gcc golang-go golang-github-golang-groupcache-dev librust-hyper+full-dev librust-tokio+full-dev python3-matplotlib
-    python3 bench/net.py [--rounds 5] [--seconds 0.5] [--loads small|big|quick] [--hogs] [--draw docs/speed.svg] [SERVER]
+    /usr/bin/python3 bench/net.py [--rounds 5] [--seconds 0.5] [--loads small|big|quick] [--hogs] [--draw docs/speed.svg] [SERVER]
 
 Builds the peers and the load generator into bench/net/out, starts all servers, and runs each load against each server in turn,
 so many rounds, interleaved: the machine's own speed swings, so only ratios of one round count. Every reply is checked byte by
