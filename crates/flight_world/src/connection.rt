@@ -9,15 +9,12 @@ ghost use Rattle.flight_world.specs.Views.{SeesNone, WantsAt, hand_of};
 use crate::entry::{FlightEntry, brought};
 use crate::ticket::{Hand, Ticket, Written};
 use crate::wish::Wish;
-use peer_flight::{Ask, AskFault, Table};
+use peer_flight::{Ask, AskFault, MAX_REPLIES, Table};
 use peer_source::{Outcome, Source};
 use std::alloc::{AllocError, Global};
 use std::collections::VecDeque;
 use std::marker::Model;
 use std::mem;
-
-// The most wishes of a connection.
-const REPLIES: usize = 10_000;
 
 // The most tickets in a lane.
 const TICKETS: usize = 64;
@@ -64,7 +61,7 @@ impl<S: Source> Connection<S> {
         ensures { IsTrue result ↔ MayArrive self.now }
     {
         matches!(self.hand, Hand::Empty)
-            && self.arrived.len() < REPLIES
+            && (self.arrived.len() as u64) < MAX_REPLIES
             && self.arrived.iter().all(|wish| !wish.is_closing())
     }
 

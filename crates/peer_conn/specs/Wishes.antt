@@ -6,6 +6,7 @@ use Rattle.peer_head.specs.Faults.{head_fault, is_closing, is_bare}
 use Rattle.peer_head.specs.declared.fault.HeadFault.{HeadFault}
 use Rattle.peer_head.specs.declared.fault.HeadFault.TheVariants as head
 use Rattle.peer_path.specs.Places.{PlaceParts, Refusal, place_of, Target, Escape, Outside, NoKey}
+use Rattle.peer_flight.specs.Events.{REPLIES}
 use Rattle.peer_source.specs.declared.group.GroupId.{GroupId}
 use Rattle.peer_reply.specs.declared.fault.Fault.{Fault}
 use Rattle.peer_reply.specs.declared.fault.Fault.TheVariants as fault
@@ -81,7 +82,7 @@ pub record Asks (numbers : List ℕ → Option ℕ) (t : List ℕ) (w : Wish) (r
 
 -- how many replies a connection gets at most
 abbrev pub MAX_REPLIES : ℕ
-MAX_REPLIES = 10000
+MAX_REPLIES = REPLIES
 
 -- whether the reply to a wish closes, after n replies
 abbrev pub closes_after : ℕ → Bool → Bool

@@ -6,6 +6,7 @@ ghost use Rattle.std.specs.Prelude.{true, ◌≡◌, ℕ, ◌<◌, List, IfOk};
 ghost use Rattle.peer_conn.specs.Wishes.{head_wish, head_body, target_body, in_group, fault_of, is_served, MAX_REPLIES, closes_after};
 ghost use Rattle.peer_conn.specs.Nexts.{IsNextOf};
 
+use peer_flight::MAX_REPLIES;
 use peer_head::{FieldPlaces, HeadBuf, HeadFault, HeadView, Look};
 use peer_path::{PathFault, locate};
 use peer_reply::{Fault, Wish, WishBody};
@@ -130,9 +131,6 @@ pub(crate) fn next_wish<S: Source>(
         }
     }
 }
-
-/// How many replies a connection gets at most. The last of them closes.
-const MAX_REPLIES: u64 = 10_000;
 
 /// Whether the reply to a wish closes, after `count` replies.
 pub(crate) fn closes_after(count: u64, closing: bool) -> bool

@@ -13,7 +13,7 @@ JOBS = 256
 abbrev pub TICKETS : ℕ
 TICKETS = 64
 
--- the most replies of a connection
+-- the most replies that a connection gets, the last of which closes
 abbrev pub REPLIES : ℕ
 REPLIES = 10000
 

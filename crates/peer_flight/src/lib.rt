@@ -16,5 +16,8 @@ pub use flight::{FillRight, Flight, Note, Put};
 pub use place::Place;
 pub use table::{Ask, AskFault, Table};
 
+/// How many replies a connection gets at most. The last of them closes.
+pub const MAX_REPLIES: u64 = 10_000;
+
 #[cfg(test)]
 mod tests;
