@@ -1,5 +1,5 @@
 -- What holds under a relation of answers holds under any that has the same replies.
-use Rattle.std.proofs.Common.{◌≡◌, ◌∙◌, ap, ℕ, Bool, List, [], ◌∷◌, Option}
+use Rattle.std.proofs.Common.{◌≡◌, ◌∙◌, ap, subst, ℕ, Bool, List, [], ◌∷◌, Option}
 use mathlib.Core.Logic.{∥∥₁_elim}
 use base.Stored.{Coded-set}
 use Rattle.std.specs.Coded.{coded_ℕ, coded_list}
@@ -46,9 +46,13 @@ module _ (A B : ℕ → List ℕ → Answer → Type 0) (carries : (closing bare
     ends t o end.Spent h = record { wishes = h.wishes; replies = whole h.wishes o h.replies; rest = h.rest; whole = h.whole; spent = h.spent; not_told = h.not_told; fine = h.fine }
     ends t o _ h = record { wishes = h.wishes; replies = whole h.wishes o h.replies; first = h.first; wrote = h.wrote }
 
-    pub serves : (e : End) → Serves numbers A reads r w e → Serves numbers B reads r w e
-    serves e h = record { text = h.text; output = h.output; gave = h.gave; took = h.took; calls = h.calls; ends = ends h.text h.output e h.ends }
+    whole_call : (e : End) → Serves numbers A reads r w e → Serves numbers B reads r w e
+    whole_call e h = record { text = h.text; output = h.output; gave = h.gave; took = h.took; calls = h.calls; ends = ends h.text h.output e h.ends }
 
-    pub connects_too : (asked asked' : ℕ) (e : End) → Connects numbers A reads r w asked asked' e → Connects numbers B reads r w asked asked' e
-    unfolding serves
-    connects_too asked asked' e h = record { serves = serves e h.serves; wishes = h.wishes; asks = h.asks; counted = h.counted }
+    -- the numbers may have another name too
+    pub serves : {numbers' : List ℕ → Option ℕ} (e : End) → numbers ≡ numbers' → Serves numbers A reads r w e → Serves numbers' B reads r w e
+    serves e same h = subst (λ v. Serves v B reads r w e) same (whole_call e h)
+
+    pub connects_too : {numbers' : List ℕ → Option ℕ} (asked asked' : ℕ) (e : End) → numbers ≡ numbers' → Connects numbers A reads r w asked asked' e → Connects numbers' B reads r w asked asked' e
+    unfolding whole_call
+    connects_too asked asked' e same h = subst (λ v. Connects v B reads r w asked asked' e) same (record { serves = whole_call e h.serves; wishes = h.wishes; asks = h.asks; counted = h.counted })

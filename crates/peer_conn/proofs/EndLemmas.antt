@@ -97,9 +97,9 @@ module _ (numbers : List ℕ → Option ℕ) (answers : ℕ → List ℕ → Ans
 
 -- what requests did that were new
 pub read_whole : {R : Type 0} {G : Read.Ghosts R} (numbers : List ℕ → Option ℕ) (reads : ℕ) (r : R) (q q' : Requests R G) (ws : List Wish) (c : ReaderStop) → AreNewRequests r reads q → Stops numbers q q' ws c →
-    IsRead numbers reads (reading G.given G.calls G.ends G.failures r q'.reader) ws c
+    IsRead numbers reads (reading G r q'.reader) ws c
 read_whole {R} {G} numbers reads r q q' ws c n h =
-    let P : R → ℕ → ℕ → List ℕ → Type 0 = λ x k m t. StopsAs numbers k m (reading G.given G.calls G.ends G.failures x q'.reader) (t ++ h.text) ws c in
+    let P : R → ℕ → ℕ → List ℕ → Type 0 = λ x k m t. StopsAs numbers k m (reading G x q'.reader) (t ++ h.text) ws c in
     let e = ap G.calls n.reader in
     record {
       text = h.text;
@@ -118,10 +118,10 @@ written_whole {W} {G} answers w p p' ws n empty h =
 -- a connection on one thread
 pub serves_exchanges : {R W : Type 0} {G : Read.Ghosts R} {H : Write.Ghosts W} {numbers : List ℕ → Option ℕ} {answers : ℕ → List ℕ → Answer → Type 0} {reads : ℕ} {r : R} {w : W} {q q' : Requests R G} {p p1 p2 : Responses W H} {c : ReaderStop} {e : End} →
     AreNewRequests r reads q → AreNewResponses w p → Exchanges numbers answers q q' p p1 c → IsFlushed p1 p2 → p2.out.buffered.items ≡ [] → e ≡ end_for p2.state c →
-    Serves numbers answers reads (reading G.given G.calls G.ends G.failures r q'.reader) (writing H.taken H.failures w p2.out.writer) e
+    Serves numbers answers reads (reading G r q'.reader) (writing H w p2.out.writer) e
 serves_exchanges {R} {W} {G} {H} {numbers} {answers} {reads} {r} {w} {q} {q'} {p} {p1} {p2} {c} {e} new fresh h flushed empty is =
-    let r2 = reading G.given G.calls G.ends G.failures r q'.reader in
-    let w2 = writing H.taken H.failures w p2.out.writer in
+    let r2 = reading G r q'.reader in
+    let w2 = writing H w p2.out.writer in
     let all = replies_on h.replies (replies_flushed flushed) in
     subst (λ x. Serves numbers answers reads r2 w2 x) (sym is)
     (serves numbers answers reads r2 (H.failures w) (H.failures p2.out.writer) (H.taken w) (H.taken p2.out.writer) h.wishes c p2.state (read_whole numbers reads r q q' h.wishes c new h.stops) (written_whole answers w p p2 h.wishes fresh empty all))
@@ -137,19 +137,19 @@ answers_all {S} {L} {R} {W} {g} {h} {k} {m} {numbers} {answers} {pool} {a} {b} {
 -- a connection in threads
 pub connects_sides : {S L R W : Type 0} {g : Source.Ghosts S} {k : Read.Ghosts R} {m : Write.Ghosts W} {numbers : List ℕ → Option ℕ} {answers : ℕ → List ℕ → Answer → Type 0} {q : ReaderSide S L R g k} {p : WriterSide S W g m} {served : Served R W} {asked reads : ℕ} {r : R} {w : W} →
     AreNewRequests r reads q.requests → AreNewResponses w p.responses → ServesSides numbers answers q p served asked →
-    Connects numbers answers reads (reading k.given k.calls k.ends k.failures r served.reader) (writing m.taken m.failures w served.writer) (asks_of q.seat).asked asked served.end
+    Connects numbers answers reads (reading k r served.reader) (writing m w served.writer) (asks_of q.seat).asked asked served.end
 connects_sides {S} {L} {R} {W} {g} {k} {m} {numbers} {answers} {q} {p} {served} {asked} {reads} {r} {w} new fresh h =
-    let P : R → W → End → Type 0 = λ x y e. Connects numbers answers reads (reading k.given k.calls k.ends k.failures r x) (writing m.taken m.failures w y) (asks_of q.seat).asked asked e in
-    let all = connects numbers answers reads (reading k.given k.calls k.ends k.failures r h.requests.reader) (m.failures w) (m.failures h.responses.out.writer) (m.taken w) (m.taken h.responses.out.writer) h.wishes (asks_of q.seat).asked asked h.stop h.responses.state h.counted
+    let P : R → W → End → Type 0 = λ x y e. Connects numbers answers reads (reading k r x) (writing m w y) (asks_of q.seat).asked asked e in
+    let all = connects numbers answers reads (reading k r h.requests.reader) (m.failures w) (m.failures h.responses.out.writer) (m.taken w) (m.taken h.responses.out.writer) h.wishes (asks_of q.seat).asked asked h.stop h.responses.state h.counted
     (read_whole numbers reads r q.requests h.requests h.wishes h.stop new h.stops) (written_whole answers w p.responses h.responses h.wishes fresh h.empty h.replies) in
     subst (λ x. P x served.writer served.end) (sym h.gave) (subst (λ y. P h.requests.reader y served.end) (sym h.took) (subst (λ e. P h.requests.reader h.responses.out.writer e) (sym h.end) all))
 
 -- where memory was refused before the first read
-module _ (numbers : List ℕ → Option ℕ) (answers : ℕ → List ℕ → Answer → Type 0) (reads : ℕ) {R W : Type 0} (given : R → Option (List ℕ)) (calls ends failures : R → ℕ) (taken : W → Option (List ℕ)) (fails : W → ℕ) where
-  pub connects_refused : (r r' : R) (w w' : W) (a : ℕ) (e : End) → r' ≡ r → w' ≡ w → e ≡ end.Memory → Connects numbers answers reads (reading given calls ends failures r r') (writing taken fails w w') a a e
-  connects_refused r r' w w' a e same_reader same_writer is =
-      let Q : R → W → End → Type 0 = λ x y z. Connects numbers answers reads (reading given calls ends failures r x) (writing taken fails w y) a a z in
-      let nothing : IsRead numbers reads (reading given calls ends failures r r) [] (stop.Refused ask.Memory) =
-      record { text = []; gave = Appends-nil (given r); calls = omega arith; stops = inl ([], Open-none numbers 0 [] (omega arith)) } in
-      subst (λ x. Q x w' e) (sym same_reader) (subst (λ y. Q r y e) (sym same_writer) (subst (Q r w) (sym is)
-      (connects numbers answers reads (reading given calls ends failures r r) (fails w) (fails w) (taken w) (taken w) [] a a (stop.Refused ask.Memory) state.Active (omega arith) nothing (answered_none answers (Sent (sending_by (fails w) (fails w) (taken w) (taken w) [] [])) (sent_none (fails w) (taken w) [])))))
+pub connects_refused : {R W : Type 0} (G : Read.Ghosts R) (H : Write.Ghosts W) (numbers : List ℕ → Option ℕ) (answers : ℕ → List ℕ → Answer → Type 0) (reads a : ℕ) (r r' : R) (w w' : W) (e : End) →
+    r' ≡ r → w' ≡ w → e ≡ end.Memory → Connects numbers answers reads (reading G r r') (writing H w w') a a e
+connects_refused {R} {W} G H numbers answers reads a r r' w w' e same_reader same_writer is =
+    let Q : R → W → End → Type 0 = λ x y z. Connects numbers answers reads (reading G r x) (writing H w y) a a z in
+    let nothing : IsRead numbers reads (reading G r r) [] (stop.Refused ask.Memory) =
+    record { text = []; gave = Appends-nil (G.given r); calls = omega arith; stops = inl ([], Open-none numbers 0 [] (omega arith)) } in
+    subst (λ x. Q x w' e) (sym same_reader) (subst (λ y. Q r y e) (sym same_writer) (subst (Q r w) (sym is)
+    (connects numbers answers reads (reading G r r) (H.failures w) (H.failures w) (H.taken w) (H.taken w) [] a a (stop.Refused ask.Memory) state.Active (omega arith) nothing (answered_none answers (Sent (sending_by (H.failures w) (H.failures w) (H.taken w) (H.taken w) [] [])) (sent_none (H.failures w) (H.taken w) [])))))

@@ -18,6 +18,10 @@ use Rattle.peer_conn.specs.declared.end.WriterState.TheVariants as state
 abbrev pub allows : (ℕ → List ℕ → Answer → Type 0) → ℕ → List ℕ → Answer → Type 0
 allows allowed group key answer = ∥ allowed group key answer ∥₁
 
+-- the one answer for each group and key
+abbrev pub only : (ℕ → List ℕ → Answer) → ℕ → List ℕ → Answer → Type 0
+only the_answer group key answer = answer ≡ the_answer group key
+
 -- the end, by how the writer stands and what stopped the reader
 abbrev pub end_for : WriterState → ReaderStop → End
 end_for state.WriteFault c = end.WriteFault

@@ -1,3 +1,4 @@
+pub mod Calls
 pub mod Connects
 pub mod Ends
 pub mod Exchanges
@@ -15,5 +16,6 @@ pub mod Stops
 pub mod Strangers
 pub mod Tickets
 pub mod Wishes
+pub mod Writers
 pub mod WriterSides
 pub mod WriterStates

@@ -16,7 +16,7 @@ use Rattle.peer_conn.specs.declared.end.ReaderStop.TheVariants as stop
 
 module _ {R : Type 0} {G : Ghosts R} where
   abbrev pub reading_of : Requests R G → Requests R G → Reading
-  reading_of old new = reading G.given G.calls G.ends G.failures old.reader new.reader
+  reading_of old new = reading G old.reader new.reader
 
   -- no byte came yet, and no wish was given
   pub record AreNewRequests (r : R) (reads : ℕ) (q : Requests R G) : Type 0 where

@@ -15,6 +15,10 @@ use Rattle.peer_conn.specs.declared.writer_side.WriterSide.{WriterSide}
 abbrev pub MakesGood : ℕ → ℕ → Type 0
 MakesGood old new = CountsStrangers (2 ^ 64 - 1) old new
 
+-- no ticket was taken, and this is what was made good
+abbrev pub KeepsTickets : {S W : Type 0} {g : Source.Ghosts S} {k : Write.Ghosts W} → WriterSide S W g k → WriterSide S W g k → Type 0
+KeepsTickets old new = (new.lane ≡ old.lane) × MakesGood old.strangers new.strangers
+
 module _ {S W : Type 0} {g : Source.Ghosts S} {k : Write.Ghosts W} (answers : ℕ → List ℕ → Answer → Type 0) where
   -- the tickets of these wishes were taken, and their replies put
   pub record AnswersTickets (old new : WriterSide S W g k) : Type 0 where

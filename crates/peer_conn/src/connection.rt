@@ -2,14 +2,12 @@
 //!
 //! It stands on the sides of a connection and the lane between them. It promises that what is written is the replies to
 //! what was read, as the end says, and what the seat counted.
-ghost use Rattle.std.specs.Prelude.{◌≡◌, ℕ, ◌+◌, ◌-◌, ◌^◌, ◌<◌, []};
+ghost use Rattle.std.specs.Prelude.{◌≡◌, ℕ, ◌+◌, ◌-◌, ◌^◌, ◌<◌};
 ghost use Rattle.peer_fill.specs.Pools.{source_of, IsConnSeatOf};
 ghost use Rattle.peer_fill.specs.Seats.{asks_of, conn_parts};
-ghost use Rattle.peer_lane.specs.Lanes.{tickets_put, tickets_taken, IsLane};
-ghost use Rattle.peer_conn.specs.Ends.{reading, writing};
-ghost use Rattle.peer_conn.specs.Connects.{Connects, allows};
-ghost use Rattle.peer_conn.specs.Headline.{WritesReplies};
-ghost use Rattle.peer_conn.specs.Sides.{ServesSides};
+ghost use Rattle.peer_conn.specs.Calls.{CallConnects, CallWrites};
+ghost use Rattle.peer_conn.specs.Connects.{allows, only};
+ghost use Rattle.peer_conn.specs.Sides.{AreNewSides, ServesSides};
 ghost use Rattle.peer_conn.specs.ReaderSides.{TakesRequests};
 ghost use Rattle.peer_conn.specs.WriterSides.{AnswersTickets};
 ghost use Rattle.peer_conn.specs.Strangers.{CountsStrangers};
@@ -56,13 +54,10 @@ pub fn serve_connection<
     ensures seat { IsConnSeatOf pool.now result.1 }
     ensures parts { conn_parts result.1 ≡ conn_parts seat }
     ensures strangers { CountsStrangers (2 ^ 56) (asks_of seat).strangers (asks_of result.1).strangers }
-    ensures connects { let r = reading R.given R.calls R.ends R.failures reader result.0.reader in
-        let w = writing W.taken W.failures writer result.0.writer in
-        Connects (S.number_of (source_of pool.now)) (allows S.allowed) reads r w (asks_of seat).asked
-        (asks_of result.1).asked result.0.end }
-    ensures writes_replies { let r = reading R.given R.calls R.ends R.failures reader result.0.reader in
-        let w = writing W.taken W.failures writer result.0.writer in
-        WritesReplies (S.number_of (source_of pool.now)) (allows S.allowed) r w result.0.end }
+    ensures connects { CallConnects R.PeerRead W.PeerWrite reader writer result.0 (S.number_of (source_of pool.now))
+        (allows S.allowed) reads seat result.1 }
+    ensures writes_replies { CallWrites R.PeerRead W.PeerWrite reader writer result.0 (S.number_of (source_of pool.now))
+        (allows S.allowed) }
 {
     let responses = match Responses::new(alloc, writer) {
         Ok(responses) => responses,
@@ -114,12 +109,8 @@ pub fn serve_connection_functional<
     ensures seat { IsConnSeatOf pool.now result.1 }
     ensures parts { conn_parts result.1 ≡ conn_parts seat }
     ensures strangers { CountsStrangers (2 ^ 56) (asks_of seat).strangers (asks_of result.1).strangers }
-    ensures connects { let r = reading R.given R.calls R.ends R.failures reader result.0.reader in
-        let w = writing W.taken W.failures writer result.0.writer in
-        Connects S.the_number (λ g k a. a ≡ S.the_answer g k) reads r w (asks_of seat).asked (asks_of result.1).asked result.0.end }
-    ensures writes_replies { let r = reading R.given R.calls R.ends R.failures reader result.0.reader in
-        let w = writing W.taken W.failures writer result.0.writer in
-        WritesReplies S.the_number (λ g k a. a ≡ S.the_answer g k) r w result.0.end }
+    ensures connects { CallConnects R.PeerRead W.PeerWrite reader writer result.0 S.the_number (only S.the_answer) reads seat result.1 }
+    ensures writes_replies { CallWrites R.PeerRead W.PeerWrite reader writer result.0 S.the_number (only S.the_answer) }
 {
     serve_connection(rt, alloc, pool, seat, reader, writer, reads)
 }
@@ -138,10 +129,7 @@ fn serve_sides<
     writer: WriterSide<S, W>,
 ) -> (Served<R, W>, ConnSeat<S, L>)
     requires seat { IsConnSeatOf pool.now reader.seat }
-    requires lane { IsLane reader.lane writer.lane }
-    requires put { tickets_put reader.lane ≡ [] }
-    requires taken { tickets_taken writer.lane ≡ [] }
-    requires strangers { writer.strangers ≡ 0 }
+    requires sides { AreNewSides reader writer }
     ensures seat { IsConnSeatOf pool.now result.1 }
     ensures parts { conn_parts result.1 ≡ conn_parts reader.seat }
     ensures strangers { CountsStrangers (2 ^ 56) (asks_of reader.seat).strangers (asks_of result.1).strangers }

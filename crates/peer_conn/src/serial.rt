@@ -3,8 +3,8 @@
 //! It stands on the requests and the responses of a connection, and on the sources of `peer_source`. It promises that
 //! what is written is the replies to what was read, as the end says.
 ghost use Rattle.std.specs.Prelude.{◌≡◌, ◌≢◌, ℕ, ◌+◌, ◌-◌, ◌^◌, ◌<◌, List, [], ◌∷◌, Some};
-ghost use Rattle.peer_conn.specs.Ends.{EndsAs, Serves, reading, writing};
-ghost use Rattle.peer_conn.specs.Headline.{WritesReplies};
+ghost use Rattle.peer_conn.specs.Calls.{CallServes, CallTells, CallWrites};
+ghost use Rattle.peer_conn.specs.Connects.{only};
 ghost use Rattle.peer_conn.specs.Responses.{PutsReplies};
 ghost use Rattle.peer_conn.specs.Exchanges.{Exchanges};
 
@@ -30,9 +30,7 @@ pub fn serve_serial<S: Source, R: PeerRead, W: PeerWrite>(
 ) -> Served<R, W>
     requires calls { R.calls reader + reads < 2 ^ 64 }
     requires failures { W.failures writer < 2 ^ 64 - 1 }
-    ensures serves { let r = reading R.given R.calls R.ends R.failures reader result.reader in
-        let w = writing W.taken W.failures writer result.writer in
-        Serves (S.number_of source.now) (S.answers source.now) reads r w result.end }
+    ensures serves { CallServes R.PeerRead W.PeerWrite reader writer result (S.number_of source.now) (S.answers source.now) reads }
     ensures never_worn { result.end ≢ End.Worn }
 {
     let mut responses = match Responses::new(alloc, writer) {
@@ -63,12 +61,8 @@ pub fn serve_functional<S: FunctionalSource, R: PeerRead, W: PeerWrite>(
 ) -> Served<R, W>
     requires calls { R.calls reader + reads < 2 ^ 64 }
     requires failures { W.failures writer < 2 ^ 64 - 1 }
-    ensures serves { let r = reading R.given R.calls R.ends R.failures reader result.reader in
-        let w = writing W.taken W.failures writer result.writer in
-        Serves S.the_number (λ g k a. a ≡ S.the_answer g k) reads r w result.end }
-    ensures writes_replies { let r = reading R.given R.calls R.ends R.failures reader result.reader in
-        let w = writing W.taken W.failures writer result.writer in
-        WritesReplies S.the_number (λ g k a. a ≡ S.the_answer g k) r w result.end }
+    ensures serves { CallServes R.PeerRead W.PeerWrite reader writer result S.the_number (only S.the_answer) reads }
+    ensures writes_replies { CallWrites R.PeerRead W.PeerWrite reader writer result S.the_number (only S.the_answer) }
     ensures never_worn { result.end ≢ End.Worn }
 {
     serve_serial(alloc, source, reader, writer, reads)
@@ -87,10 +81,7 @@ pub fn serve_told<S: Source, R: PeerRead, W: PeerWrite>(
     requires failures { W.failures writer < 2 ^ 64 - 1 }
     requires tells { R.given reader ≡ Some [] }
     requires holds { W.taken writer ≡ Some [] }
-    ensures { let r = reading R.given R.calls R.ends R.failures reader result.reader in
-        let w = writing W.taken W.failures writer result.writer in
-        let Ends : List ℕ → List ℕ → Type 0 = λ t o. EndsAs (S.number_of source.now) (S.answers source.now) reads r w t o result.end in
-        (t : List ℕ) × (o : List ℕ) × (R.given result.reader ≡ Some t) × (W.taken result.writer ≡ Some o) × Ends t o }
+    ensures { CallTells R.PeerRead W.PeerWrite reader writer result (S.number_of source.now) (S.answers source.now) reads }
 {
     serve_serial(alloc, source, reader, writer, reads)
 }

@@ -47,12 +47,12 @@ pub(crate) struct WriterSide<S: Source, W: PeerWrite + Drop> {
 }
 
 impl<S: Source, W: PeerWrite + Drop> WriterSide<S, W> {
-    ghost use Rattle.std.specs.Prelude.{◌≡◌, [], ◌∷◌, ◌++◌, IfSome, IfNone};
+    ghost use Rattle.std.specs.Prelude.{◌≡◌, [], ◌∷◌, ◌++◌, option_to_list};
     ghost use Rattle.peer_lane.specs.Lanes.{IsLane, IsSameOut, tickets_taken};
     ghost use Rattle.peer_conn.specs.Tickets.{wish_by, claim_wish, fill_wish};
     ghost use Rattle.peer_conn.specs.Connects.{allows};
     ghost use Rattle.peer_conn.specs.Responses.{PutsReplies};
-    ghost use Rattle.peer_conn.specs.WriterSides.{AnswersTickets, AnswersLeft, MakesGood};
+    ghost use Rattle.peer_conn.specs.WriterSides.{AnswersTickets, AnswersLeft, KeepsTickets};
 
     /// Takes tickets until no more are put, and puts their replies.
     pub(crate) fn run<L: Ledger, H: Wait>(&mut self, rt: &H, pool: &Pool<S, L>, signal: &Signal)
@@ -90,8 +90,7 @@ impl<S: Source, W: PeerWrite + Drop> WriterSide<S, W> {
     // The next ticket. Before a wait for one, what is buffered is written.
     fn next_ticket<H: Wait>(&mut self, rt: &H, signal: &Signal) -> Option<Ticket<S>>
         ensures lane { IsSameOut self.old.lane self.new.lane }
-        ensures taken { IfSome result (λ t. tickets_taken self.new.lane ≡ tickets_taken self.old.lane ++ t ∷ []) }
-        ensures kept { IfNone result (tickets_taken self.new.lane ≡ tickets_taken self.old.lane) }
+        ensures taken { tickets_taken self.new.lane ≡ tickets_taken self.old.lane ++ option_to_list result }
         ensures replies { PutsReplies (allows S.allowed) self.old.responses self.new.responses [] }
         ensures strangers { self.new.strangers ≡ self.old.strangers }
     {
@@ -114,8 +113,7 @@ impl<S: Source, W: PeerWrite + Drop> WriterSide<S, W> {
     // Puts the reply of a ticket, and lets the ticket go.
     fn put<L: Ledger, H: Wait>(&mut self, rt: &H, pool: &Pool<S, L>, ticket: Ticket<S>)
         ensures replies { PutsReplies (allows S.allowed) self.old.responses self.new.responses (wish_by ticket ∷ []) }
-        ensures lane { self.new.lane ≡ self.old.lane }
-        ensures strangers { MakesGood self.old.strangers self.new.strangers }
+        ensures others { KeepsTickets self.old self.new }
     {
         match &ticket.body {
             Body::Fault(fault) => self.responses.put_fault(fault, ticket.closing, ticket.bare),
@@ -134,8 +132,7 @@ impl<S: Source, W: PeerWrite + Drop> WriterSide<S, W> {
         bare: bool,
     )
         ensures replies { PutsReplies (allows S.allowed) self.old.responses self.new.responses (claim_wish claim.now closing bare ∷ []) }
-        ensures lane { self.new.lane ≡ self.old.lane }
-        ensures strangers { MakesGood self.old.strangers self.new.strangers }
+        ensures others { KeepsTickets self.old self.new }
     {
         if !self.responses.is_active() {
             return;
@@ -160,8 +157,7 @@ impl<S: Source, W: PeerWrite + Drop> WriterSide<S, W> {
         bare: bool,
     )
         ensures replies { PutsReplies (allows S.allowed) self.old.responses self.new.responses (claim_wish claim.now closing bare ∷ []) }
-        ensures lane { self.new.lane ≡ self.old.lane }
-        ensures strangers { MakesGood self.old.strangers self.new.strangers }
+        ensures others { KeepsTickets self.old self.new }
     {
         match pool.refill(self.alloc, claim, fill) {
             Ok(None) => self.put_fill(fill, closing, bare),

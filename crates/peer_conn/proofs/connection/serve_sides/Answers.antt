@@ -7,7 +7,7 @@ pub returns-clause-strangers : goal.returns-clause-strangers
 returns-clause-strangers g c =
     let sides = c.run_sides-read.ensures in
     let made_good = strangers_then sides.wrote.made_good c.write_left.ensures.left.made_good in
-    seat_counts c.requires.strangers made_good sides.read.puts.strangers (ap (λ a. a.strangers) c.add_strangers.ensures.counts)
+    seat_counts c.requires.sides.3 made_good sides.read.puts.strangers (ap (λ a. a.strangers) c.add_strangers.ensures.counts)
 
 pub returns-clause-serves : goal.returns-clause-serves
 returns-clause-serves g c =
@@ -18,7 +18,7 @@ returns-clause-serves g c =
       requests = _;
       responses = c.write_left.new.self.responses;
       stops = sides.read.stops;
-      replies = answers_all sides.read sides.wrote c.write_left.ensures.left c.requires.put c.requires.taken;
+      replies = answers_all sides.read sides.wrote c.write_left.ensures.left c.requires.sides.1 c.requires.sides.2;
       empty = c.write_left.ensures.empty;
       counted = ap (λ a. a.asked) c.add_strangers.ensures.counts ∙ sides.read.puts.asked;
       gave = refl;

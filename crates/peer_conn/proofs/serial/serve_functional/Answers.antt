@@ -1,6 +1,6 @@
-use Rattle.std.proofs.Common.{◌≡◌, ℕ, List, Option, refl, subst}
+use Rattle.std.proofs.Common.{refl}
 use mathlib.Core.Path.{fun_ext}
-use Rattle.peer_conn.specs.Ends.{Serves, reading, writing}
+use Rattle.peer_conn.specs.Connects.{only}
 use Rattle.peer_conn.proofs.AnswerLemmas.{serves}
 use Rattle.peer_conn.proofs.HeadlineLemmas.{written}
 use Rattle.peer_conn.proofs.serial.serve_functional.Goals as goal
@@ -10,14 +10,9 @@ pub returns-clause-serves : goal.returns-clause-serves
 returns-clause-serves g c =
     let functional = g.met.S.FunctionalSource g.world.𝓛 g.world.𝓜 g.world.𝓡 (λ s h. h, λ h. h, λ h. h, λ h. h) in
     let source = g.met.S.Source g.world.𝓛 g.world.𝓜 g.world.𝓡 (λ s h. h, λ h. h, λ h. h, λ h. h) in
-    let names : g.S.Source.number_of c.args.source.now ≡ g.S.FunctionalSource.the_number = fun_ext (functional.fixed_names c.args.source.now) in
-    let P : (List ℕ → Option ℕ) → Type 0 = λ numbers. Serves numbers (λ group k a. a ≡ g.S.FunctionalSource.the_answer group k) c.args.reads
-    (reading g.R.PeerRead.given g.R.PeerRead.calls g.R.PeerRead.ends g.R.PeerRead.failures c.args.reader c.serve_serial.result.reader)
-    (writing g.W.PeerWrite.taken g.W.PeerWrite.failures c.args.writer c.serve_serial.result.writer) c.serve_serial.result.end in
-    subst P names
-    (serves (g.S.Source.answers c.args.source.now) (λ group k a. a ≡ g.S.FunctionalSource.the_answer group k)
+    serves (g.S.Source.answers c.args.source.now) (only g.S.FunctionalSource.the_answer)
     (λ closing bare group k r h. (h.0, functional.single group k h.0 (source.within c.args.source.now group k h.0 h.1), h.2))
-    (g.S.Source.number_of c.args.source.now) c.args.reads _ _ c.serve_serial.result.end c.serve_serial.ensures.serves)
+    (g.S.Source.number_of c.args.source.now) c.args.reads _ _ c.serve_serial.result.end (fun_ext (functional.fixed_names c.args.source.now)) c.serve_serial.ensures.serves
 
 -- and so what is written is a front of the replies of that one answer
 pub returns-clause-writes_replies : goal.returns-clause-writes_replies

@@ -13,7 +13,7 @@ pub loop-preserved : goal.loop-preserved
 loop-preserved g c =
     let i = c.loop.invariant in
     let t = c.take_known-ticket.ensures in
-    (i.0 ++ wish_by c.take_known-ticket.result ∷ [], drains_more c.take_known-ticket.new.self c.take_known-ticket.result i.1 t.taken t.known c.put.ensures.lane, replies_then i.2 c.put.ensures.replies, strangers_then i.3 c.put.ensures.strangers)
+    (i.0 ++ wish_by c.take_known-ticket.result ∷ [], drains_more c.take_known-ticket.new.self c.take_known-ticket.result i.1 t.taken t.known c.put.ensures.others.0, replies_then i.2 c.put.ensures.replies, strangers_then i.3 c.put.ensures.others.1)
 
 pub returns-clause-left : goal.returns-clause-left
 returns-clause-left g c =
