@@ -1,7 +1,8 @@
 -- How the plain data of the module `world` is seen.
 use Rattle.std.specs.Prelude.{◌≡◌, ℕ, false, List, [], ◌∷◌, ◌++◌, ◌⊎◌, ◌≤◌, length, Option, None, Some, slice_get}
 use Rattle.peer_source.specs.Answers.{Answer, Filled}
-use Rattle.peer_flight.specs.World.{Wish, Ticket, Flight, new_flight, Connection, Outcome, Unset, Answered, NoMemory, Hand, Empty, WithTicket, WithRight, Worker, Idle, Filling, Landing, World}
+use Rattle.peer_flight.specs.World.{Wish, Ticket, Flight, new_flight, Connection, Outcome, Unset, Answered, NoMemory, World}
+use Rattle.peer_flight.specs.World.{Hand, Empty, WithTicket, WithRight, Worker, Idle, Filling, Landing}
 use Rattle.peer_flight.specs.SingleFlight.{place_of, State, Joins, Leads}
 use Rattle.peer_flight.specs.Events.{MayWant, SetsAs, SeesOutcome, pending, with_wish}
 use Rattle.flight_world.specs.declared.worker.Hands.{Hands}
@@ -61,4 +62,6 @@ pub record SetsFill (allowed : ℕ → List ℕ → Answer → Type 0) (fill : F
 pub record WantsAt (wish : Wish) (s s' : State) (flights flights' : List Flight) (old new : Connection) : Type 0 where
   pub may : MayWant old wish
   pub number : ℕ
-  pub wanted : (Joins s s' may.place number × (flights' ≡ flights) × (new ≡ with_wish old wish (WithTicket (pending wish number)))) ⊎ (Leads s s' may.place number × (flights' ≡ flights ++ new_flight may.place ∷ []) × (new ≡ with_wish old wish (WithRight (pending wish number) number)))
+  pub wanted : (Joins s s' may.place number × (flights' ≡ flights) × (new ≡ with_wish old wish (WithTicket (pending wish number))))
+      ⊎ (Leads s s' may.place number × (flights' ≡ flights ++ new_flight may.place ∷ [])
+      × (new ≡ with_wish old wish (WithRight (pending wish number) number)))

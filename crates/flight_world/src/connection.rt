@@ -36,7 +36,14 @@ impl<S: Source> Model for Connection<S> {
 
     ghost Value = { Connection };
 
-    ghost view = { λ c. record { arrived = c.arrived.items; hand = hand_of c.hand; lane = c.lane.items; waiting = c.waiting.items; written = c.written.items; ended = c.ended } };
+    ghost view = { λ c. record {
+      arrived = c.arrived.items;
+      hand = hand_of c.hand;
+      lane = c.lane.items;
+      waiting = c.waiting.items;
+      written = c.written.items;
+      ended = c.ended;
+    } };
 }
 
 impl<S: Source> Connection<S> {
@@ -73,8 +80,11 @@ impl<S: Source> Connection<S> {
         flights: &mut Vec<FlightEntry<S>>,
         wish: Wish,
     ) -> Result<bool, AskFault>
-        ensures wanted { IfOk result (λ wanted. MatchBool wanted (WantsAt wish (state_of table.old) (state_of table.new) flights.old.items flights.new.items self.old self.new) (¬ (MayWant self.old wish))) }
-        ensures stays { result ≢ Ok true → IsSame (state_of table.old) (state_of table.new) × (flights.new.items ≡ flights.old.items) × (self.new ≡ self.old) }
+        ensures wanted { IfOk result (λ wanted. MatchBool wanted
+            (WantsAt wish (state_of table.old) (state_of table.new) flights.old.items flights.new.items self.old self.new)
+            (¬ (MayWant self.old wish))) }
+        ensures stays { result ≢ Ok true → IsSame (state_of table.old) (state_of table.new)
+            × (flights.new.items ≡ flights.old.items) × (self.new ≡ self.old) }
         ensures worn { IsErrOf result AskFault.Worn → IsSomeAnd wish.place (IsWorn (state_of table.old)) }
         ensures room { IsSomeAnd wish.place (IsWorn (state_of table.old)) → result ≢ Ok true }
     {
@@ -113,7 +123,8 @@ impl<S: Source> Connection<S> {
 
     // Takes the right out of the hand, and leaves the ticket.
     pub(crate) fn take_right(&mut self) -> Option<u64>
-        ensures { MatchOption result ((self.new ≡ self.old) × ((t : Ticket) → (m : ℕ) → self.old.hand ≢ WithRight t m)) (λ number. (t : Ticket) × (self.old.hand ≡ WithRight t number) × (self.new ≡ record self.old { hand = WithTicket t })) }
+        ensures { MatchOption result ((self.new ≡ self.old) × ((t : Ticket) → (m : ℕ) → self.old.hand ≢ WithRight t m))
+            (λ number. (t : Ticket) × (self.old.hand ≡ WithRight t number) × (self.new ≡ record self.old { hand = WithTicket t })) }
     {
         match mem::replace(&mut self.hand, Hand::Empty) {
             Hand::WithRight(ticket, number) => {
@@ -187,7 +198,8 @@ impl<S: Source> Connection<S> {
 
     // Outcome seen, of the first ticket that waits: the reply is written, or the writer ends for want of memory.
     pub(crate) fn see_outcome(&mut self, flights: &[FlightEntry<S>]) -> Result<bool, AllocError>
-        ensures seen { IfOk result (λ seen. MatchBool seen (SeesOutcome flights.now self.old self.new) ((self.new ≡ self.old) × SeesNone flights.now self.old)) }
+        ensures seen { IfOk result (λ seen. MatchBool seen (SeesOutcome flights.now self.old self.new)
+            ((self.new ≡ self.old) × SeesNone flights.now self.old)) }
         ensures refused { OnErr result (self.new ≡ self.old) }
     {
         if self.ended {

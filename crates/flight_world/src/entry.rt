@@ -26,7 +26,14 @@ impl<S: Source> Model for FlightEntry<S> {
 
     ghost Value = { Flight };
 
-    ghost view = { λ f. record { place = f.flight.place; outcome = outcome_of f.fill; spent = f.spent; taken = f.taken; sets = f.sets; landed = f.landed } };
+    ghost view = { λ f. record {
+      place = f.flight.place;
+      outcome = outcome_of f.fill;
+      spent = f.spent;
+      taken = f.taken;
+      sets = f.sets;
+      landed = f.landed;
+    } };
 }
 
 impl<S: Source> FlightEntry<S> {

@@ -25,7 +25,13 @@ pub struct World<S: Source> {
     jobs: VecDeque<u64>,
     workers: Vec<Worker>,
     connections: Vec<Connection<S>>,
-    ghost reached: { ∥ IsReached S.allowed (record { table = state_of table; flights = flights.items; jobs = jobs.items; workers = workers.items; connections = connections.items }) ∥₁ },
+    ghost reached: { ∥ IsReached S.allowed (record {
+      table = state_of table;
+      flights = flights.items;
+      jobs = jobs.items;
+      workers = workers.items;
+      connections = connections.items;
+    }) ∥₁ },
 }
 
 impl<S: Source> World<S> {

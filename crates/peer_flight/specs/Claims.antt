@@ -25,4 +25,5 @@ claim_cell (Pending flight) = Some flight.cell
 -- a look at the claim gave this fill, or none, where the note knew `known` before and `known'` afterwards
 abbrev pub Looked : {S : Type 0} → Claim S → Option Filled → Option Filled → Option Filled → Type 0
 Looked (Ready fill) known known' result = result ≡ Some fill
-Looked (Pending flight) known known' result = MatchOption result ((known ≡ None) × (known' ≡ None)) (λ seen. (known' ≡ Some seen) × Agrees known seen)
+Looked (Pending flight) known known' result = MatchOption result ((known ≡ None) × (known' ≡ None))
+    (λ seen. (known' ≡ Some seen) × Agrees known seen)

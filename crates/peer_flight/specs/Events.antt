@@ -3,7 +3,8 @@ use Rattle.std.specs.Prelude.{◌≡◌, ℕ, ◌+◌, ◌<◌, Bool, true, fals
 use Rattle.std.specs.List.{slice_get, slice_set}
 use Rattle.peer_source.specs.Answers.{Answer}
 use Rattle.peer_flight.specs.SingleFlight.{Place, State, Leads, Joins, Lands}
-use Rattle.peer_flight.specs.World.{Wish, Ticket, Outcome, Unset, Answered, NoMemory, Flight, new_flight, Hand, Empty, WithTicket, WithRight, Idle, Filling, Landing, Connection, World}
+use Rattle.peer_flight.specs.World.{Wish, Ticket, Outcome, Unset, Answered, NoMemory, Flight, new_flight, Connection, World}
+use Rattle.peer_flight.specs.World.{Hand, Empty, WithTicket, WithRight, Idle, Filling, Landing}
 
 -- the most jobs in the list
 abbrev pub JOBS : ℕ
@@ -56,7 +57,11 @@ pub record JoinsFlight (w w' : World) (c : ℕ) (old : Connection) (wish : Wish)
 pub record LeadsFlight (w w' : World) (c : ℕ) (old : Connection) (wish : Wish) (p : Place) (m : ℕ) : Type 0 where
   pub table : State
   pub leads : Leads w.table table p m
-  pub after : w' ≡ record w { table = table; flights = w.flights ++ new_flight p ∷ []; connections = slice_set w.connections c (with_wish old wish (WithRight (pending wish m) m)) }
+  pub after : w' ≡ record w {
+    table = table;
+    flights = w.flights ++ new_flight p ∷ [];
+    connections = slice_set w.connections c (with_wish old wish (WithRight (pending wish m) m));
+  }
 
 -- the wish may be wanted: it may arrive, and has a place
 pub record MayWant (c : Connection) (wish : Wish) : Type 0 where
@@ -84,7 +89,10 @@ pub record PutsJob (c : ℕ) (w w' : World) : Type 0 where
   pub number : ℕ
   pub held : old.hand ≡ WithRight ticket number
   pub room : length w.jobs < JOBS
-  pub after : w' ≡ record w { jobs = w.jobs ++ number ∷ []; connections = slice_set w.connections c (record old { hand = WithTicket ticket }) }
+  pub after : w' ≡ record w {
+    jobs = w.jobs ++ number ∷ [];
+    connections = slice_set w.connections c (record old { hand = WithTicket ticket });
+  }
 
 -- the ticket in the hand, with no right beside it, goes to the end of the lane
 pub record PutsHand (old new : Connection) : Type 0 where
@@ -111,7 +119,11 @@ pub record TakesJob (v : ℕ) (w w' : World) : Type 0 where
   pub first : w.jobs ≡ number ∷ rest
   pub flight : Flight
   pub led : slice_get w.flights number ≡ Some flight
-  pub after : w' ≡ record w { flights = slice_set w.flights number (record flight { taken = flight.taken + 1 }); jobs = rest; workers = slice_set w.workers v (Filling number) }
+  pub after : w' ≡ record w {
+    flights = slice_set w.flights number (record flight { taken = flight.taken + 1 });
+    jobs = rest;
+    workers = slice_set w.workers v (Filling number);
+  }
 
 -- an outcome that a flight of the place may get: an allowed answer, or no memory
 abbrev pub MayBring : (ℕ → List ℕ → Answer → Type 0) → Place → Outcome → Type 0
@@ -126,7 +138,10 @@ pub record SetsAs (allowed : ℕ → List ℕ → Answer → Type 0) (outcome : 
   pub flight : Flight
   pub led : slice_get w.flights number ≡ Some flight
   pub brought : MayBring allowed flight.place outcome
-  pub after : w' ≡ record w { flights = slice_set w.flights number (record flight { outcome = outcome; spent = true; sets = flight.sets + 1 }); workers = slice_set w.workers v (Landing number) }
+  pub after : w' ≡ record w {
+    flights = slice_set w.flights number (record flight { outcome = outcome; spent = true; sets = flight.sets + 1 });
+    workers = slice_set w.workers v (Landing number);
+  }
 
 -- outcome set, with some outcome
 abbrev pub SetsOutcome : (ℕ → List ℕ → Answer → Type 0) → ℕ → World → World → Type 0
@@ -140,7 +155,11 @@ pub record LandsFlight (v : ℕ) (w w' : World) : Type 0 where
   pub led : slice_get w.flights number ≡ Some flight
   pub table : State
   pub lands : Lands w.table table flight.place number
-  pub after : w' ≡ record w { table = table; flights = slice_set w.flights number (record flight { landed = flight.landed + 1 }); workers = slice_set w.workers v Idle }
+  pub after : w' ≡ record w {
+    table = table;
+    flights = slice_set w.flights number (record flight { landed = flight.landed + 1 });
+    workers = slice_set w.workers v Idle;
+  }
 
 -- the connection after a reply was written for the ticket, with these tickets left
 abbrev pub answered : Connection → List Ticket → Ticket → Option Answer → Connection

@@ -3,13 +3,15 @@ use Rattle.std.specs.Prelude.{◌≡◌, ℕ, ◌+◌, ◌≤◌, ◌↔◌, fal
 use Rattle.std.specs.List.{slice_get}
 use Rattle.peer_source.specs.Answers.{Answer}
 use Rattle.peer_flight.specs.SingleFlight.{Place}
-use Rattle.peer_flight.specs.World.{Ticket, Outcome, Unset, Answered, NoMemory, Flight, Worker, Idle, Filling, Landing, Written, World, start, tickets_of}
+use Rattle.peer_flight.specs.World.{Ticket, Outcome, Unset, Answered, NoMemory, Flight, Written, World, start, tickets_of}
+use Rattle.peer_flight.specs.World.{Worker, Idle, Filling, Landing}
 use Rattle.peer_flight.specs.Counts.{hands, jobs, fillers, spent}
 use Rattle.peer_flight.specs.Events.{Event, Run}
 
 -- the fact holds after every list of events from an empty world, whatever its workers and connections
 abbrev pub Always : (ℕ → List ℕ → Answer → Type 0) → (World → Type 0) → Type 0
-Always allowed Fact = (workers connections : ℕ) (events : List Event) (w : World) → Run allowed events (start workers connections) w → Fact w
+Always allowed Fact = (workers connections : ℕ) (events : List Event) (w : World) →
+    Run allowed events (start workers connections) w → Fact w
 
 -- flight m was led, and is f
 abbrev pub IsFlight : List Flight → ℕ → Flight → Type 0
@@ -17,7 +19,8 @@ IsFlight flights m f = slice_get flights m ≡ Some f
 
 -- two flights that have not landed differ in their place
 abbrev pub OpenFlightsDiffer : World → Type 0
-OpenFlightsDiffer w = (i j : ℕ) (f g : Flight) → IsFlight w.flights i f → IsFlight w.flights j g → f.landed ≡ 0 → g.landed ≡ 0 → f.place ≡ g.place → i ≡ j
+OpenFlightsDiffer w = (i j : ℕ) (f g : Flight) → IsFlight w.flights i f → IsFlight w.flights j g →
+    f.landed ≡ 0 → g.landed ≡ 0 → f.place ≡ g.place → i ≡ j
 
 -- the flight that the ticket names has the place of the ticket's wish
 abbrev pub NamesItsPlace : List Flight → Ticket → Type 0
@@ -63,7 +66,8 @@ FlightsGoOnce w = All GoesOnce w.flights
 
 -- a reply to a ticket that names a flight was written with the flight's outcome, an answer
 abbrev pub IsAnswered : List Flight → Written → Type 0
-IsAnswered flights x = (m : ℕ) → x.ticket.flight ≡ Some m → (f : Flight) × (a : Answer) × IsFlight flights m f × (f.outcome ≡ Answered a) × (x.answer ≡ Some a)
+IsAnswered flights x = (m : ℕ) → x.ticket.flight ≡ Some m → (f : Flight) × (a : Answer) × IsFlight flights m f
+    × (f.outcome ≡ Answered a) × (x.answer ≡ Some a)
 
 -- so was every reply of every connection
 abbrev pub RepliesFollowOutcomes : World → Type 0
@@ -81,7 +85,9 @@ Holds (Landing k) m = k ≡ m
 
 -- workers that hold flights of one place are one worker
 abbrev pub WorkersDiffer : World → Type 0
-WorkersDiffer w = (i j : ℕ) (v u : Worker) (m k : ℕ) (f g : Flight) → slice_get w.workers i ≡ Some v → slice_get w.workers j ≡ Some u → Holds v m → Holds u k → IsFlight w.flights m f → IsFlight w.flights k g → f.place ≡ g.place → i ≡ j
+WorkersDiffer w = (i j : ℕ) (v u : Worker) (m k : ℕ) (f g : Flight) →
+    slice_get w.workers i ≡ Some v → slice_get w.workers j ≡ Some u → Holds v m → Holds u k →
+    IsFlight w.flights m f → IsFlight w.flights k g → f.place ≡ g.place → i ≡ j
 
 -- the table's entries are the flights that have not landed
 pub record TableIsExact (w : World) : Type 0 where
@@ -91,4 +97,5 @@ pub record TableIsExact (w : World) : Type 0 where
 
 -- every answer that a flight brought is allowed at its place
 abbrev pub AnswersAreAllowed : (ℕ → List ℕ → Answer → Type 0) → World → Type 0
-AnswersAreAllowed allowed w = (m : ℕ) (f : Flight) (a : Answer) → IsFlight w.flights m f → f.outcome ≡ Answered a → ∥ allowed f.place.group f.place.key a ∥₁
+AnswersAreAllowed allowed w = (m : ℕ) (f : Flight) (a : Answer) → IsFlight w.flights m f →
+    f.outcome ≡ Answered a → ∥ allowed f.place.group f.place.key a ∥₁

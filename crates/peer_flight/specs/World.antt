@@ -74,7 +74,13 @@ pub record World : Type 0 where
 -- a world begins empty
 abbrev pub start : ℕ → ℕ → World
 start workers connections =
-    record { table = no_flights; flights = []; jobs = []; workers = replicate workers Idle; connections = replicate connections new_connection }
+    record {
+      table = no_flights;
+      flights = [];
+      jobs = [];
+      workers = replicate workers Idle;
+      connections = replicate connections new_connection;
+    }
 
 -- the tickets in a hand
 abbrev pub in_hand : Hand → List Ticket

@@ -34,7 +34,11 @@ impl<S: Source> Model for Flight<S> {
 
     ghost Value = { FlightId };
 
-    ghost view = { λ f. record { number = (arc_value f.landing).number; place = (arc_value f.landing).place; cell = cell_name (arc_value f.landing).cell } };
+    ghost view = { λ f. record {
+      number = (arc_value f.landing).number;
+      place = (arc_value f.landing).place;
+      cell = cell_name (arc_value f.landing).cell;
+    } };
 }
 
 /// What a holder has learned of one flight. It takes no bytes.
@@ -107,7 +111,8 @@ impl<S: Source> Flight<S> {
     pub fn look<'a>(&'a self, note: &mut Note<S>) -> Option<&'a Fill<S>>
         requires { note.old.cell ≡ self.now.cell }
         ensures cell { note.new.cell ≡ note.old.cell }
-        ensures value { MatchOption result ((note.old.known ≡ None) × (note.new.known ≡ None)) (λ fill. (note.new.known ≡ Some fill.now) × Agrees note.old.known fill.now) }
+        ensures value { MatchOption result ((note.old.known ≡ None) × (note.new.known ≡ None))
+            (λ fill. (note.new.known ≡ Some fill.now) × Agrees note.old.known fill.now) }
     {
         self.landing.cell.get_as(note)
     }

@@ -5,7 +5,9 @@
 ghost use Rattle.std.specs.Prelude.{◌≡◌, option_map};
 ghost use Rattle.peer_flight.specs.Claims.{claim_cell, known_of};
 ghost use Rattle.peer_flight.specs.Flights.{Agree};
-ghost use Rattle.peer_flight.specs.Laws.{Always, OpenFlightsDiffer, TicketsNameTheirPlaces, RightsStandOnce, TicketsAreServed, FlightsGoOnce, RepliesFollowOutcomes, WishesKeepOrder, WorkersDiffer, TableIsExact, AnswersAreAllowed};
+ghost use Rattle.peer_flight.specs.Laws.{Always, OpenFlightsDiffer, TicketsNameTheirPlaces, RightsStandOnce, TicketsAreServed};
+ghost use Rattle.peer_flight.specs.Laws.{FlightsGoOnce, RepliesFollowOutcomes};
+ghost use Rattle.peer_flight.specs.Laws.{WishesKeepOrder, WorkersDiffer, TableIsExact, AnswersAreAllowed};
 
 use crate::claim::Claim;
 use crate::flight::Note;
