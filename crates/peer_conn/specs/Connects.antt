@@ -18,10 +18,6 @@ use Rattle.peer_conn.specs.declared.end.WriterState.TheVariants as state
 abbrev pub allows : (ℕ → List ℕ → Answer → Type 0) → ℕ → List ℕ → Answer → Type 0
 allows allowed group key answer = ∥ allowed group key answer ∥₁
 
--- the one answer for each group and key
-abbrev pub only : (ℕ → List ℕ → Answer) → ℕ → List ℕ → Answer → Type 0
-only the_answer group key answer = answer ≡ the_answer group key
-
 -- the end, by how the writer stands and what stopped the reader
 abbrev pub end_for : WriterState → ReaderStop → End
 end_for state.WriteFault c = end.WriteFault
@@ -43,7 +39,8 @@ AreAsked numbers end.Worn t ws = AreFirst numbers 0 t ws
 AreAsked numbers _ t ws = IsWhole numbers 0 t ws
 
 -- what a call for a connection did; and a seat asked for those of the text's wishes that have group and key
-pub record Connects (numbers : List ℕ → Option ℕ) (answers : ℕ → List ℕ → Answer → Type 0) (reads : ℕ) (r : Reading) (w : Writing) (asked asked' : ℕ) (end : End) : Type 0 where
+pub record Connects (numbers : List ℕ → Option ℕ) (answers : ℕ → List ℕ → Answer → Type 0) (reads : ℕ)
+    (r : Reading) (w : Writing) (asked asked' : ℕ) (end : End) : Type 0 where
   pub serves : Serves numbers answers reads r w end
   pub wishes : List Wish
   pub asks : AreAsked numbers end serves.text wishes

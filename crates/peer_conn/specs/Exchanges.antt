@@ -12,7 +12,8 @@ use Rattle.peer_conn.specs.declared.end.ReaderStop.{ReaderStop}
 
 module _ {R W : Type 0} {G : Read.Ghosts R} {H : Write.Ghosts W} where
   -- these wishes were given, and the replies to them put
-  pub record Exchanges (numbers : List ℕ → Option ℕ) (answers : ℕ → List ℕ → Answer → Type 0) (q q' : Requests R G) (p p' : Responses W H) (stop : ReaderStop) : Type 0 where
+  pub record Exchanges (numbers : List ℕ → Option ℕ) (answers : ℕ → List ℕ → Answer → Type 0)
+      (q q' : Requests R G) (p p' : Responses W H) (stop : ReaderStop) : Type 0 where
     pub wishes : List Wish
     pub stops : Stops numbers q q' wishes stop
     pub replies : PutsReplies answers p p' wishes

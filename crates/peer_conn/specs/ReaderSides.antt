@@ -27,7 +27,8 @@ module _ {S L : Type 0} {g : Source.Ghosts S} {h : Ledger.Ghosts L} where
     pub asked : (asks_of seat').asked ≡ (asks_of seat).asked + asks_in ws
 
   -- these requests came, their tickets were put, and then this stopped it
-  pub record TakesRequests {R : Type 0} {k : Read.Ghosts R} (numbers : List ℕ → Option ℕ) (pool : Pool S L g h) (old new : ReaderSide S L R g k) (stop : ReaderStop) : Type 0 where
+  pub record TakesRequests {R : Type 0} {k : Read.Ghosts R} (numbers : List ℕ → Option ℕ) (pool : Pool S L g h)
+      (old new : ReaderSide S L R g k) (stop : ReaderStop) : Type 0 where
     pub wishes : List Wish
     pub stops : Stops numbers old.requests new.requests wishes stop
     pub puts : PutsTickets pool old.seat new.seat old.lane new.lane wishes

@@ -21,10 +21,12 @@ use Rattle.peer_conn.specs.declared.end.ReaderStop.{ReaderStop}
 module _ {S L R W : Type 0} {g : Source.Ghosts S} {k : Read.Ghosts R} {m : Write.Ghosts W} where
   -- the sides of one lane, where nothing was put, taken or made good yet
   abbrev pub AreNewSides : ReaderSide S L R g k → WriterSide S W g m → Type 0
-  AreNewSides reader writer = IsLane reader.lane writer.lane × (tickets_put reader.lane ≡ []) × (tickets_taken writer.lane ≡ []) × (writer.strangers ≡ 0)
+  AreNewSides reader writer = IsLane reader.lane writer.lane × (tickets_put reader.lane ≡ [])
+      × (tickets_taken writer.lane ≡ []) × (writer.strangers ≡ 0)
 
   -- these wishes came, were asked for, and their replies were put and written
-  pub record ServesSides (numbers : List ℕ → Option ℕ) (answers : ℕ → List ℕ → Answer → Type 0) (reader : ReaderSide S L R g k) (writer : WriterSide S W g m) (served : Served R W) (asked : ℕ) : Type 0 where
+  pub record ServesSides (numbers : List ℕ → Option ℕ) (answers : ℕ → List ℕ → Answer → Type 0)
+      (reader : ReaderSide S L R g k) (writer : WriterSide S W g m) (served : Served R W) (asked : ℕ) : Type 0 where
     pub wishes : List Wish
     pub stop : ReaderStop
     pub requests : Requests R k

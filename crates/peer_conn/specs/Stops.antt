@@ -11,10 +11,13 @@ use Rattle.peer_conn.specs.declared.end.ReaderStop.TheVariants as stop
 -- what stopped the reader at the text t, after n wishes and the wishes ws of t
 abbrev pub StopsAs : (List ℕ → Option ℕ) → ℕ → ℕ → Reading → List ℕ → List Wish → ReaderStop → Type 0
 StopsAs numbers n reads r t ws stop.Closed = ClosedWishes numbers n t ws × (r.failures' ≡ r.failures)
-StopsAs numbers n reads r t ws stop.Ended = (rest : List ℕ) × AreAll numbers n t ws rest × ArePairs rest × (r.ends < r.ends') × (r.failures' ≡ r.failures)
-StopsAs numbers n reads r t ws stop.Cut = (rest : List ℕ) × AreAll numbers n t ws rest × (¬ (ArePairs rest)) × (r.ends < r.ends') × (r.failures' ≡ r.failures)
+StopsAs numbers n reads r t ws stop.Ended = (rest : List ℕ) × AreAll numbers n t ws rest × ArePairs rest
+    × (r.ends < r.ends') × (r.failures' ≡ r.failures)
+StopsAs numbers n reads r t ws stop.Cut = (rest : List ℕ) × AreAll numbers n t ws rest × (¬ (ArePairs rest))
+    × (r.ends < r.ends') × (r.failures' ≡ r.failures)
 StopsAs numbers n reads r t ws stop.ReadFault = (rest : List ℕ) × AreAll numbers n t ws rest × (r.failures < r.failures')
-StopsAs numbers n reads r t ws stop.Spent = (rest : List ℕ) × AreAll numbers n t ws rest × (r.calls' ≡ r.calls + reads) × (r.ends' ≡ r.ends) × (r.failures' ≡ r.failures)
+StopsAs numbers n reads r t ws stop.Spent = (rest : List ℕ) × AreAll numbers n t ws rest × (r.calls' ≡ r.calls + reads)
+    × (r.ends' ≡ r.ends) × (r.failures' ≡ r.failures)
 StopsAs numbers n reads r t ws (stop.Refused fault) = AreFirst numbers n t ws
 StopsAs numbers n reads r t ws stop.Stopped = AreFirst numbers n t ws
 

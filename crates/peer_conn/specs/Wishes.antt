@@ -1,5 +1,6 @@
 -- What a block asks for, the wishes of a text, and when they end (RFC 9112, sections 9.3 and 9.3.2).
-use Rattle.std.specs.Prelude.{◌≡◌, ℕ, ◌+◌, ◌<◌, ◌⊎◌, ◌==◌, Bool, true, false, ◌||◌, List, [], ◌∷◌, ◌++◌, length, codes, bytes_eq, Option, Some, None, Result, Ok, Err, if◌then◌else◌}
+use Rattle.std.specs.Prelude.{◌≡◌, ℕ, ◌+◌, ◌<◌, ◌⊎◌, ◌==◌, Bool, true, false, ◌||◌, List, [], ◌∷◌, ◌++◌, length}
+use Rattle.std.specs.Prelude.{codes, bytes_eq, Option, Some, None, Result, Ok, Err, if◌then◌else◌}
 use Rattle.peer_head.specs.Blocks.{Begins, IsTooLong, IsUnfinished}
 use Rattle.peer_head.specs.Heads.{HeadParts, IsHead, HasNoHead}
 use Rattle.peer_head.specs.Faults.{head_fault, is_closing, is_bare}
@@ -96,7 +97,8 @@ AsksInTurn numbers t (w ∷ ws) u = (v : List ℕ) × Asks numbers t w v × (w.c
 -- the wish that closes at a text, after n wishes: a head that is too long, a wish that closes, or the last that a connection has
 pub data IsLastWish (numbers : List ℕ → Option ℕ) (n : ℕ) (t : List ℕ) : Wish → Type 0 where
   too_long : IsTooLong t → IsLastWish numbers n t (fault_wish head.TooLong false)
-  closes : (w : Wish) (rest : List ℕ) → Asks numbers t w rest → closes_after n w.closing ≡ true → IsLastWish numbers n t (record w { closing = true })
+  closes : (w : Wish) (rest : List ℕ) → Asks numbers t w rest → closes_after n w.closing ≡ true →
+      IsLastWish numbers n t (record w { closing = true })
 
 -- the first wishes of a text, after n others: none of them closes, and u is left ..
 pub record OpenWishes (numbers : List ℕ → Option ℕ) (n : ℕ) (t : List ℕ) (ws : List Wish) (u : List ℕ) : Type 0 where

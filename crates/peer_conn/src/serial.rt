@@ -3,8 +3,7 @@
 //! It stands on the requests and the responses of a connection, and on the sources of `peer_source`. It promises that
 //! what is written is the replies to what was read, as the end says.
 ghost use Rattle.std.specs.Prelude.{◌≡◌, ◌≢◌, ℕ, ◌+◌, ◌-◌, ◌^◌, ◌<◌, List, [], ◌∷◌, Some};
-ghost use Rattle.peer_conn.specs.Calls.{CallServes, CallTells, CallWrites};
-ghost use Rattle.peer_conn.specs.Connects.{only};
+ghost use Rattle.peer_conn.specs.Calls.{CallServes, CallTells, CallWrites, only};
 ghost use Rattle.peer_conn.specs.Responses.{PutsReplies};
 ghost use Rattle.peer_conn.specs.Exchanges.{Exchanges};
 

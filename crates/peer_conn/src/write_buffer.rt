@@ -4,7 +4,7 @@
 //! order, as far as the writer went.
 ghost use Rattle.std.specs.Prelude.{◌≡◌, ℕ, ◌+◌, ◌-◌, ◌^◌, ◌<◌, ◌≤◌, [], ◌++◌, length, take, drop, vec_capacity, IfOk, IfErr};
 ghost use Rattle.peer_conn.specs.declared.write_buffer.TheConstants.{MAX_BUFFERED};
-ghost use Rattle.peer_conn.specs.Writers.{WriterSends};
+ghost use Rattle.peer_conn.specs.Writers.{SendsBy};
 ghost use Rattle.peer_reply.specs.Texts.{joined};
 
 use peer_view::{PeerWrite, WriteFault, write_all};
@@ -49,7 +49,7 @@ impl<W: PeerWrite> WriteBuffer<W> {
     /// Writes what is buffered. After a fault nothing is buffered either.
     pub(crate) fn flush(&mut self) -> Result<(), WriteFault>
         requires { W.failures self.old.writer < 2 ^ 64 - 1 }
-        ensures sends { WriterSends W.PeerWrite result self.old.writer self.new.writer self.old.buffered.items [] }
+        ensures sends { SendsBy W.PeerWrite result self.old.writer self.new.writer self.old.buffered.items [] }
         ensures empty { self.new.buffered.items ≡ [] }
     {
         let written = write_all(&mut self.writer, self.buffered.as_slice());
@@ -60,7 +60,7 @@ impl<W: PeerWrite> WriteBuffer<W> {
     // Puts a part of a reply behind what is buffered.
     fn put(&mut self, part: &[u8]) -> Result<(), WriteFault>
         requires { W.failures self.old.writer < 2 ^ 64 - 1 }
-        ensures { WriterSends W.PeerWrite result self.old.writer self.new.writer (self.old.buffered.items ++ part.now) self.new.buffered.items }
+        ensures { SendsBy W.PeerWrite result self.old.writer self.new.writer (self.old.buffered.items ++ part.now) self.new.buffered.items }
     {
         if part.len() > MAX_COPIED || self.buffered.len() + part.len() > MAX_BUFFERED {
             match self.flush() {
@@ -77,7 +77,7 @@ impl<W: PeerWrite> WriteBuffer<W> {
     fn put_first(&mut self, part: &[u8]) -> Result<(), WriteFault>
         requires failures { W.failures self.old.writer < 2 ^ 64 - 1 }
         requires empty { self.old.buffered.items ≡ [] }
-        ensures { WriterSends W.PeerWrite result self.old.writer self.new.writer part.now self.new.buffered.items }
+        ensures { SendsBy W.PeerWrite result self.old.writer self.new.writer part.now self.new.buffered.items }
     {
         if part.len() > MAX_COPIED {
             return write_all(&mut self.writer, part);
@@ -101,7 +101,8 @@ impl<W: PeerWrite> WriteBuffer<W> {
     /// Puts the parts of a reply behind what is buffered.
     pub(crate) fn put_parts(&mut self, parts: &[&[u8]]) -> Result<(), WriteFault>
         requires { W.failures self.old.writer < 2 ^ 64 - 1 }
-        ensures { WriterSends W.PeerWrite result self.old.writer self.new.writer (self.old.buffered.items ++ joined parts.now) self.new.buffered.items }
+        ensures { SendsBy W.PeerWrite result self.old.writer self.new.writer (self.old.buffered.items ++ joined parts.now)
+            self.new.buffered.items }
     {
         for i in 0..parts.len() {
             if let Err(fault) = self.put(part_at(parts, i)) {
