@@ -112,7 +112,8 @@ pub fn serve_within<S: Source, H: Threads + Wait + Clock + Sync>(
 }
 
 /// Serves `rounds` connections on each of `conns` threads, with so many workers that call the source, and gives the
-/// pool's report once all have ended. The cache of each group keeps at most `cache_bytes` bytes. An accept that fails, or a stream that refuses its options, uses up a round.
+/// pool's report once all have ended. The cache of each group keeps at most `cache_bytes` bytes. An accept that fails, or
+/// a stream that refuses its options, uses up a round.
 pub fn peer_server<S: Source, H: Threads + Wait + Clock + Sync>(
     rt: &H,
     alloc: Global,

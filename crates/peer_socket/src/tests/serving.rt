@@ -12,7 +12,8 @@ use std::test::Fail;
 
 // What is written is the one text and then the other.
 const BOTH: &[u8] =
-    b"HTTP/1.1 200 OK\r\nContent-Type: application/x-protobuf\r\nContent-Length: 3\r\n\r\n\x0A\x01kHTTP/1.1 200 OK\r\nContent-Type: application/x-protobuf\r\nContent-Length: 3\r\nConnection: close\r\n\r\n\x0A\x01k";
+    b"HTTP/1.1 200 OK\r\nContent-Type: application/x-protobuf\r\nContent-Length: 3\r\n\r\n\x0A\x01k\
+      HTTP/1.1 200 OK\r\nContent-Type: application/x-protobuf\r\nContent-Length: 3\r\nConnection: close\r\n\r\n\x0A\x01k";
 
 // The two requests.
 const ASK_BOTH: &[u8] =
@@ -49,8 +50,10 @@ fn more_clients_than_seats(rt: HostRuntime) -> Result<(), Fail> {
 }
 
 // A client that goes away with replies unread, which resets its connection.
-const ASK_LONG: &[u8] =
-    b"GET /_groupcache/fill/1048576 HTTP/1.1\r\nHost: h\r\n\r\nGET /_groupcache/fill/1048575 HTTP/1.1\r\nHost: h\r\n\r\nGET /_groupcache/fill/1048574 HTTP/1.1\r\nHost: h\r\n\r\nGET /_groupcache/fill/1048573 HTTP/1.1\r\nHost: h\r\n\r\n";
+const ASK_LONG: &[u8] = b"GET /_groupcache/fill/1048576 HTTP/1.1\r\nHost: h\r\n\r\n\
+      GET /_groupcache/fill/1048575 HTTP/1.1\r\nHost: h\r\n\r\n\
+      GET /_groupcache/fill/1048574 HTTP/1.1\r\nHost: h\r\n\r\n\
+      GET /_groupcache/fill/1048573 HTTP/1.1\r\nHost: h\r\n\r\n";
 
 #[test]
 fn a_client_resets(rt: HostRuntime) -> Result<(), Fail> {
