@@ -75,7 +75,7 @@ impl<S: Source> MainCache<S> {
             return Ok(None);
         };
         let in_front = found.in_front;
-        let fill = Fill::found(self.group, key.share()?, found.value.share()?);
+        let fill = Fill::of_value(self.group, key.share()?, found.value.share()?);
         bring_to_front(&mut self.entries, key, in_front);
         Ok(Some(fill))
     }

@@ -14,7 +14,7 @@ use peer_view::{AllocSink, ByteView, SinkFault, VALUE_LIMIT};
 use std::alloc::{AllocError, Global};
 
 // The largest number of bytes that `fill` knows; above `VALUE_LIMIT` they are too long.
-const LARGEST_FILL: u64 = 2_000_000;
+const MAX_FILL: u64 = 2_000_000;
 
 /// Three groups, in this order: `echo` finds the key, `square` the square of a number of at most 9 digits, `fill` so
 /// many bytes `x`, up to 2,000,000.
@@ -87,7 +87,7 @@ fn fill(alloc: Global, key: &[u8], sink: &mut AllocSink) -> Result<(), GetFault>
     ensures { IfSome (reported result sink.new) (λ a. a ≡ fill_answer key.now) }
 {
     match number_of(key, 7) {
-        Some(number) if number <= LARGEST_FILL => find_letters(alloc, number as usize, sink),
+        Some(number) if number <= MAX_FILL => find_letters(alloc, number as usize, sink),
         _ => Err(error(alloc, b"not a size")),
     }
 }
