@@ -13,7 +13,7 @@ use Rattle.httparse.proofs.RunLemmas.{run_unique, run_unstopped}
 use Rattle.httparse.proofs.PieceLemmas.{IsDeterministic, NotYet_intro, NotYet_elim, Then_deterministic, Blank_deterministic, Method_deterministic, Version_deterministic, Newline_deterministic, Word_deterministic, Name_deterministic, space_ends_token, colon_ends_token, Stops_value, print_field-append, FieldLine_parts, Section_skip, Section_line}
 use Rattle.httparse.proofs.ReadLemmas.{Blank_open, Blank_newline, Blank_after, FieldLine_done}
 use Rattle.httparse.proofs.GrammarLemmas.{request_head, request_tree, request_pieces, request_from_pieces, request_unique}
-use Rattle.peer_head.specs.Heads.{HeadParts, IsHead, HasNoHead, IsPaired, IsVisible, parts_of, field_of, MOST_FIELDS}
+use Rattle.peer_head.specs.Heads.{HeadParts, IsHead, HasNoHead, IsPaired, IsVisible, parts_of, field_of, MAX_FIELDS}
 use Rattle.peer_head.proofs.ParseLemmas.{fields_few}
 use Rattle.peer_head.proofs.Deciding.{Decided, decided_by, decided_same, decided_all, decided_visible, decided_paired}
 
@@ -348,7 +348,7 @@ pub data HeadOf (block : List ℕ) : Type 0 where
 -- a head that is the whole block, paired
 few_fields : (block : List ℕ) (x : BeginsHead block) → x.rest ≡ [] → IsPaired block → HeadOf block
 few_fields block x whole paired =
-    elim (cases_lt MOST_FIELDS (length x.head.fields)) as (λ _. HeadOf block) [
+    elim (cases_lt MAX_FIELDS (length x.head.fields)) as (λ _. HeadOf block) [
       | inl many ↦ is_none λ p y.
           omega (arith, many, fields_few block p y, ap (λ (h : RequestHead). length h.fields) (left_over block x p y).0)
       | inr few ↦ is_head (parts_of x.head) (record {

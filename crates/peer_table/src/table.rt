@@ -6,7 +6,7 @@ ghost use Rattle.peer_table.specs.Tables.{IsShort, IsTableAnswer, first_bad, fou
 ghost use Rattle.peer_source.specs.Answers.{Failed};
 ghost use Rattle.peer_source.specs.Reports.{reported};
 
-use crate::fault::{TableFault, refused};
+use crate::fault::{TableFault, memory_fault};
 use crate::fields::next_of;
 use crate::index::{Index, add_line, find};
 use crate::intake::read_all;
@@ -89,7 +89,7 @@ impl TableSource {
 }
 
 // The error of a key that no line has.
-fn missing(alloc: Global) -> GetFault
+fn missing_key_fault(alloc: Global) -> GetFault
     ensures { (reported (Err result) [] ≡ Some (Failed no_such_key)) ⊎ (reported (Err result) [] ≡ None) }
 {
     match b"no such key".to_vec(alloc) {
@@ -110,10 +110,10 @@ fn put(
     match found {
         Ok(Some(view)) => match sink.set_view(&view) {
             Ok(()) => Ok(()),
-            Err(SinkFault::TooLong) => Err(missing(alloc)),
+            Err(SinkFault::TooLong) => Err(missing_key_fault(alloc)),
             Err(SinkFault::Memory) => Err(GetFault::Memory),
         },
-        Ok(None) => Err(missing(alloc)),
+        Ok(None) => Err(missing_key_fault(alloc)),
         Err(_) => Err(GetFault::Memory),
     }
 }

@@ -1,4 +1,4 @@
--- What one more field does to a tally.
+-- What one more field does to a summary.
 use Rattle.std.proofs.Common.{◌≡◌, ℕ, suc, get_or, take, ◌<◌, ◌+◌, Bool, true, false, cond, ◌&&◌, List, [], ◌∷◌, ◌++◌, length, map, filter, refl, sym, ◌∙◌, ap, arith, inl, inr, bytes_eq, All, length-append, append-nil, Some, None}
 use Rattle.std.specs.List.{list_all}
 use Rattle.std.proofs.lemmas.Bool.{cases_Bool}
@@ -14,7 +14,7 @@ use Rattle.peer_head.specs.declared.fault.HeadFault.TheVariants.{BadLength, Cont
 use Rattle.peer_head.specs.Heads.{HeadField}
 use Rattle.peer_head.specs.Fields.{is_named, values, is_digits, is_zero}
 use Rattle.peer_head.specs.Faults.{is_length, is_one_value, length_fault}
-use Rattle.peer_head.specs.Tallies.{AgreesOn}
+use Rattle.peer_head.specs.Summaries.{AgreesOn}
 use Rattle.peer_head.specs.Views.{field_at}
 
 -- the first of values that are the same

@@ -3,9 +3,9 @@ use Rattle.std.specs.List.{list_any}
 use Rattle.peer_head.specs.Fields.{asks_close}
 use Rattle.peer_head.specs.Heads.{HeadField}
 use Rattle.peer_head.specs.Faults.{lengths, hosts}
-use Rattle.peer_head.specs.Tallies.{IsLengthsOf, IsHostsOf}
-use Rattle.peer_head.proofs.TallyLemmas.{values-snoc_yes, values-snoc_no}
-use Rattle.peer_head.proofs.tally.Tally.with.Goals as goal
+use Rattle.peer_head.specs.Summaries.{IsLengthsOf, IsHostsOf}
+use Rattle.peer_head.proofs.SummaryLemmas.{values-snoc_yes, values-snoc_no}
+use Rattle.peer_head.proofs.summary.FieldSummary.with.Goals as goal
 
 pub returns-in-Host : goal.returns-in-Host
 returns-in-Host c = λ fields h.
