@@ -2,7 +2,8 @@
 use Rattle.std.proofs.Common.{◌≡◌, ℕ, ◌+◌, ◌<◌, ◌≤◌, List, [], ◌++◌, length, Option, refl, ap, ◌∙◌, subst, arith, append-nil}
 use Rattle.std.proofs.KnownBytes.{Appends-nil, Appends-trans}
 use Rattle.std.specs.Io.KnownBytes.{Appends}
-use Rattle.peer_table.specs.Reads.{Reading, Gave, GaveAll, IsReadFault, IsTooLarge}
+use Rattle.peer_view.specs.ReadWrite.{Reading}
+use Rattle.peer_table.specs.Reads.{Gave, GaveAll, IsReadFault, IsTooLarge}
 use Rattle.peer_table.specs.Tables.{MAX_TEXT}
 
 -- a reader after one more call

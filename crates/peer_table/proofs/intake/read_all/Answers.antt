@@ -1,7 +1,7 @@
 use Rattle.std.proofs.Common.{◌≡◌, ◌<◌, ◌++◌, [], length, take, refl, arith, length-append}
 use Rattle.std.proofs.lemmas.List.{length-take}
 use Rattle.std.proofs.lemmas.Grind.{common_steps}
-use Rattle.peer_table.specs.Reads.{reading}
+use Rattle.peer_view.specs.ReadWrite.{reading}
 use Rattle.peer_table.specs.Tables.{MAX_TEXT}
 use Rattle.peer_table.proofs.ReadLemmas.{read_failed, too_large}
 use Rattle.peer_table.proofs.intake.read_all.Goals as goal

@@ -1,5 +1,6 @@
 use Rattle.std.proofs.Common.{◌≤◌, ◌<◌, length}
-use Rattle.peer_table.specs.Reads.{Gave, reading}
+use Rattle.peer_view.specs.ReadWrite.{reading}
+use Rattle.peer_table.specs.Reads.{Gave}
 use Rattle.peer_table.specs.Tables.{MAX_TEXT}
 use Rattle.peer_table.proofs.intake.read_all.Given as goal
 
