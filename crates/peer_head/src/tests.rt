@@ -79,8 +79,9 @@ fn a_new_buffer_has_room(rt: HostRuntime) -> Result<(), Fail> {
 
 #[test]
 fn a_head_is_seen_at_its_last_byte(rt: HostRuntime) -> Result<(), Fail> {
-    let text =
-        b"GET /_groupcache/echo/k HTTP/1.1\r\nHost: 10.0.0.2:8000\r\nUser-Agent: Go-http-client/1.1\r\nAccept-Encoding: gzip\r\n\r\n".as_slice();
+    let text = b"GET /_groupcache/echo/k HTTP/1.1\r\nHost: 10.0.0.2:8000\r\n\
+          User-Agent: Go-http-client/1.1\r\nAccept-Encoding: gzip\r\n\r\n"
+        .as_slice();
     let mut buf = HeadBuf::new(rt.alloc())?;
     let mut places = FieldPlaces::new();
     for b in text {
@@ -312,8 +313,10 @@ fn take_heads(buf: &mut HeadBuf, targets: &[&[u8]], mut taken: usize) -> usize {
 
 #[test]
 fn requests_are_cut_at_every_pair_of_places(rt: HostRuntime) -> Result<(), Fail> {
-    let text =
-        b"GET /_groupcache/echo/a HTTP/1.1\r\nHost: h\r\n\r\nGET /_groupcache/echo/b HTTP/1.1\r\nHost: h\r\n\r\nGET /_groupcache/echo/c HTTP/1.1\r\nHost: h\r\n\r\n".as_slice();
+    let text = b"GET /_groupcache/echo/a HTTP/1.1\r\nHost: h\r\n\r\n\
+          GET /_groupcache/echo/b HTTP/1.1\r\nHost: h\r\n\r\n\
+          GET /_groupcache/echo/c HTTP/1.1\r\nHost: h\r\n\r\n"
+        .as_slice();
     let targets = [
         b"/_groupcache/echo/a".as_slice(),
         b"/_groupcache/echo/b",

@@ -1,7 +1,8 @@
 //! The source for demonstrations: `echo`, `square` and `fill`.
 ghost use Rattle.std.specs.Prelude.{◌≡◌, ◌⊎◌, ◌<◌, ◌≤◌, ℕ, [], None, Some, Ok, Err, IfSome, IfOk, refl, replicate};
 ghost use Rattle.peer_source.specs.Answers.{Failed, found_within};
-ghost use Rattle.peer_source.specs.Demo.{DemoAnswers, demo_number, demo_answer, square_answer, fill_answer, number_in, demo_answered, demo_numbered};
+ghost use Rattle.peer_source.specs.Demo.{DemoAnswers, demo_number, demo_answer, square_answer, fill_answer, number_in};
+ghost use Rattle.peer_source.specs.Demo.{demo_answered, demo_numbered};
 ghost use Rattle.peer_source.specs.DemoLaws.{demo_limited};
 ghost use Rattle.peer_source.specs.Reports.{reported};
 

@@ -1,9 +1,11 @@
 //! The source whose answers are the lines of a text.
-ghost use Rattle.std.specs.Prelude.{◌≡◌, ℕ, ◌+◌, ◌-◌, ◌^◌, ◌<◌, ◌≤◌, List, [], ◌∷◌, ◌++◌, length, Some, None, Ok, Err, ◌⊎◌, refl, IfOk, IfErr, IfSome, IsErr, All};
+ghost use Rattle.std.specs.Prelude.{◌≡◌, ℕ, ◌+◌, ◌-◌, ◌^◌, ◌<◌, ◌≤◌, List, [], ◌∷◌, ◌++◌, length, Some, None, Ok, Err};
+ghost use Rattle.std.specs.Prelude.{◌⊎◌, refl, IfOk, IfErr, IfSome, IsErr, All};
 ghost use Rattle.peer_table.specs.Holds.{Holds};
 ghost use Rattle.peer_table.specs.Reads.{IsFirstBad, ReadsAs};
 ghost use Rattle.peer_view.specs.ReadWrite.{reading};
-ghost use Rattle.peer_table.specs.Tables.{IsShort, IsTableAnswer, first_bad, found_or_missing, lines_of, names_of, no_such_key, number_below, number_in, table_allowed, table_answer, table_limited, written};
+ghost use Rattle.peer_table.specs.Tables.{IsShort, IsTableAnswer, first_bad, found_or_missing, lines_of, names_of, no_such_key};
+ghost use Rattle.peer_table.specs.Tables.{number_below, number_in, table_allowed, table_answer, table_limited, written};
 ghost use Rattle.peer_source.specs.Answers.{Failed};
 ghost use Rattle.peer_source.specs.Reports.{reported};
 

@@ -20,8 +20,11 @@ loop-seat-init g c =
     }
 
 pub add_conn-totals-requires-clause-pass : goal.add_conn-totals-requires-clause-pass
-add_conn-totals-requires-clause-pass g c κs within =
-    (c.loop-seat.invariant.own, of_last (λ s. IsPassOf c.args.jobs.now s.pass) _ _ _ c.in-Some-pop.ensures.items c.loop-seat.invariant.others)
+add_conn-totals-requires-clause-pass g c κs within = (
+  c.loop-seat.invariant.own,
+  of_last (λ s. IsPassOf c.args.jobs.now s.pass) _ _ _ c.in-Some-pop.ensures.items
+      c.loop-seat.invariant.others,
+)
 
 pub loop-seat-preserved : goal.loop-seat-preserved
 loop-seat-preserved g c =
