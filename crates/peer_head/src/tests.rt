@@ -2,7 +2,8 @@
 ghost use Rattle.std.specs.Prelude.{◌≡◌, ◌≤◌, ◌++◌, length, take};
 
 use crate::{FieldPlaces, HeadBuf, HeadFault, Look};
-use std::alloc::AllocError;
+use std::alloc::{AllocError, Global};
+use std::process::Abort;
 use std::test::Fail;
 
 // Puts all the bytes behind those held.
@@ -44,16 +45,16 @@ fn word_of(look: &Look) -> &'static str {
 }
 
 // What a text is in one piece, by as much of it as there is room for.
-fn look_whole(rt: &HostRuntime, text: &[u8]) -> Result<&'static str, AllocError> {
-    let mut buf = HeadBuf::new(rt.alloc())?;
+fn look_whole(alloc: Global, text: &[u8]) -> Result<&'static str, AllocError> {
+    let mut buf = HeadBuf::new(alloc)?;
     let room = buf.room().len();
     feed(&mut buf, &text[..text.len().min(room)]);
     Ok(word_of(&buf.look(&mut FieldPlaces::new()).0))
 }
 
 // The same byte by byte, by the first look that needs no more.
-fn look_by_bytes(rt: &HostRuntime, text: &[u8]) -> Result<&'static str, AllocError> {
-    let mut buf = HeadBuf::new(rt.alloc())?;
+fn look_by_bytes(alloc: Global, text: &[u8]) -> Result<&'static str, AllocError> {
+    let mut buf = HeadBuf::new(alloc)?;
     let mut places = FieldPlaces::new();
     for b in text {
         if buf.room().is_empty() {
@@ -113,16 +114,16 @@ fn a_head_is_seen_at_its_last_byte(rt: HostRuntime) -> Result<(), Fail> {
 }
 
 // Checks what a text is, in one piece and byte by byte.
-fn check_text(rt: &HostRuntime, text: &[u8], word: &str) -> Result<(), AllocError> {
-    assert_eq!(rt; look_whole(rt, text)?, word, "{text:?}");
-    assert_eq!(rt; look_by_bytes(rt, text)?, word, "{text:?}");
+fn check_text(rt: &impl Abort, alloc: Global, text: &[u8], word: &str) -> Result<(), AllocError> {
+    assert_eq!(rt; look_whole(alloc, text)?, word, "{text:?}");
+    assert_eq!(rt; look_by_bytes(alloc, text)?, word, "{text:?}");
     Ok(())
 }
 
 // Checks what each text is.
-fn check_texts(rt: &HostRuntime, rows: &[(&[u8], &str)]) -> Result<(), AllocError> {
+fn check_texts(rt: &impl Abort, alloc: Global, rows: &[(&[u8], &str)]) -> Result<(), AllocError> {
     for (text, word) in rows {
-        check_text(rt, text, word)?;
+        check_text(rt, alloc, text, word)?;
     }
     Ok(())
 }
@@ -140,7 +141,7 @@ fn a_head_ends_with_its_first_empty_line(rt: HostRuntime) -> Result<(), Fail> {
         (b"head /k HTTP/1.1\r\nHost: h\r\n\r\n", "head"),
         (b"POST /k HTTP/1.1\r\nHost: h\r\n\r\n", "head"),
     ];
-    check_texts(&rt, &rows)?;
+    check_texts(&rt, rt.alloc(), &rows)?;
     Ok(())
 }
 
@@ -153,7 +154,7 @@ fn a_cr_or_an_lf_alone_ends_no_line(rt: HostRuntime) -> Result<(), Fail> {
         (b"GET /k HTTP/1.1\r\nHost: h\rA: b\r\n\r\n", "not a head"),
         (b"\nGET /k HTTP/1.1\r\nHost: h\r\n\r\n", "not a head"),
     ];
-    check_texts(&rt, &rows)?;
+    check_texts(&rt, rt.alloc(), &rows)?;
     Ok(())
 }
 
@@ -165,7 +166,7 @@ fn targets_are_visible_and_names_have_no_space(rt: HostRuntime) -> Result<(), Fa
         (b"GET /k HTTP/2.0\r\nHost: h\r\n\r\n", "not a head"),
         (b"GET /k HTTP/1.1\r\nHost : h\r\n\r\n", "not a head"),
     ];
-    check_texts(&rt, &rows)?;
+    check_texts(&rt, rt.alloc(), &rows)?;
     Ok(())
 }
 
@@ -179,7 +180,7 @@ fn a_head_has_one_host(rt: HostRuntime) -> Result<(), Fail> {
         (b"GET /k HTTP/1.0\r\nHost: h\r\n\r\n", "closing head"),
         (b"GET /k HTTP/1.0\r\nHost: h\r\nHOST: i\r\n\r\n", "host"),
     ];
-    check_texts(&rt, &rows)?;
+    check_texts(&rt, rt.alloc(), &rows)?;
     Ok(())
 }
 
@@ -199,7 +200,7 @@ fn close_is_an_element_of_connection(rt: HostRuntime) -> Result<(), Fail> {
             "bare closing head",
         ),
     ];
-    check_texts(&rt, &rows)?;
+    check_texts(&rt, rt.alloc(), &rows)?;
     Ok(())
 }
 
@@ -235,7 +236,7 @@ fn a_head_announces_no_content(rt: HostRuntime) -> Result<(), Fail> {
             "bare fault",
         ),
     ];
-    check_texts(&rt, &rows)?;
+    check_texts(&rt, rt.alloc(), &rows)?;
     Ok(())
 }
 
@@ -263,7 +264,7 @@ fn the_limit_counts_the_pairs(rt: HostRuntime) -> Result<(), Fail> {
     ];
     for (pairs, letters, word) in rows {
         let text = long_head(&rt, pairs, letters)?;
-        check_text(&rt, &text, word)?;
+        check_text(&rt, rt.alloc(), &text, word)?;
     }
     Ok(())
 }
@@ -275,7 +276,7 @@ fn pairs_alone_are_too_long_in_the_end(rt: HostRuntime) -> Result<(), Fail> {
         for _ in 0..pairs {
             text.extend_from_slice(b"\r\n")?;
         }
-        check_text(&rt, &text, word)?;
+        check_text(&rt, rt.alloc(), &text, word)?;
     }
     Ok(())
 }
@@ -289,7 +290,7 @@ fn a_head_has_64_fields_at_most(rt: HostRuntime) -> Result<(), Fail> {
             text.extend_from_slice(b"Name: value\r\n")?;
         }
         text.extend_from_slice(b"\r\n")?;
-        check_text(&rt, &text, word)?;
+        check_text(&rt, rt.alloc(), &text, word)?;
     }
     Ok(())
 }
