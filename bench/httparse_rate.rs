@@ -6,11 +6,11 @@ use std::mem::MaybeUninit;
 use std::process::exit;
 
 const HEAD_LIMIT: usize = 16384;
-const MOST_FIELDS: usize = 64;
+const MAX_FIELDS: usize = 64;
 
 // The length of the head at the front of the bytes, if it is whole.
 fn head_len(bytes: &[u8]) -> Result<Option<usize>, httparse::Error> {
-    let mut fields = [MaybeUninit::<httparse::Header>::uninit(); MOST_FIELDS];
+    let mut fields = [MaybeUninit::<httparse::Header>::uninit(); MAX_FIELDS];
     let mut head = httparse::Request::new(&mut []);
     match head.parse_with_uninit_headers(bytes, &mut fields)? {
         httparse::Status::Complete(len) => Ok(Some(len)),

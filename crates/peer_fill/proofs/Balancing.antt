@@ -1,5 +1,6 @@
 -- Each move keeps the rule of the job queue.
-use Rattle.std.proofs.Common.{◌≡◌, ◌≢◌, ℕ, ◌+◌, ◌-◌, ◌<◌, ◌≤◌, zero, suc, List, [], ◌∷◌, ◌++◌, length, set, sym, refl, ap, ◌∙◌, subst, ⊎_elim, arith}
+use Rattle.std.proofs.Common.{◌≡◌, ◌≢◌, ℕ, ◌+◌, ◌-◌, ◌<◌, ◌≤◌, zero, suc, List, [], ◌∷◌, ◌++◌, length, set}
+use Rattle.std.proofs.Common.{sym, refl, ap, ◌∙◌, subst, ⊎_elim, arith}
 use mathlib.Core.Option.{some, some-ne-none}
 use lib.ListN.{get_elem?}
 use Rattle.crossbeam_queue.specs.Fifo.{Pushes, Pops, Forks, Merges, Learns}
@@ -15,7 +16,8 @@ pub weigh-one : (xs : List ℕ) → weigh (λ _. 1) xs ≡ length xs
 weigh-one [] = refl
 weigh-one (x ∷ xs) = omega (arith, weigh-one xs)
 
-total_set : (f : Hand → ℕ) (views : List Hand) (port : ℕ) (v w : Hand) → get_elem? views port ≡ some v → total f (set views port w) + f v ≡ total f views + f w
+total_set : (f : Hand → ℕ) (views : List Hand) (port : ℕ) (v w : Hand) → get_elem? views port ≡ some v
+    → total f (set views port w) + f v ≡ total f views + f w
 total_set f [] port v w at = absurd (some-ne-none v (sym at))
 total_set f (u ∷ us) zero v w at = let e : f u ≡ f v = ap f cc in omega (arith, e)
 total_set f (u ∷ us) (suc port) v w at = omega (arith, total_set f us port v w at)
@@ -30,13 +32,16 @@ at_most f [] port v at = absurd (some-ne-none v (sym at))
 at_most f (u ∷ us) zero v at = let e : f u ≡ f v = ap f cc in omega (arith, e)
 at_most f (u ∷ us) (suc port) v at = omega (arith, at_most f us port v at)
 
-idle_set : (views : List Hand) (port : ℕ) (w : Hand) → (w.parts ≡ 0 → (w.pushed ≡ []) × (w.popped ≡ [])) → IdleIsEmpty views → IdleIsEmpty (set views port w)
+idle_set : (views : List Hand) (port : ℕ) (w : Hand) → (w.parts ≡ 0 → (w.pushed ≡ []) × (w.popped ≡ [])) → IdleIsEmpty views
+    → IdleIsEmpty (set views port w)
 idle_set views port w mine old j u at none =
-    ⊎_elim (λ (x : (j ≡ port) × (w ≡ u)). subst (λ (y : Hand). (y.pushed ≡ []) × (y.popped ≡ [])) x.1 (mine (ap (λ (y : Hand). y.parts) x.1 ∙ none)))
+    ⊎_elim (λ (x : (j ≡ port) × (w ≡ u)). subst (λ (y : Hand). (y.pushed ≡ []) × (y.popped ≡ [])) x.1
+    (mine (ap (λ (y : Hand). y.parts) x.1 ∙ none)))
     (λ (x : (j ≢ port) × (get_elem? views j ≡ some u)). old j u x.1 none) (at_set views port j w u at)
 
 first_idle : (port : ℕ) (v : Hand) → get_elem? (hand ALL [] [] ∷ []) port ≡ some v → v.parts ≡ 0 → (v.pushed ≡ []) × (v.popped ≡ [])
-first_idle zero v at none = let e : hand ALL [] [] ≡ v = cc in let parts : ALL ≡ v.parts = ap (λ (y : Hand). y.parts) e in absurd (omega arith)
+first_idle zero v at none = let e : hand ALL [] [] ≡ v = cc in let parts : ALL ≡ v.parts = ap (λ (y : Hand). y.parts) e in
+    absurd (omega arith)
 first_idle (suc port) v at none = absurd (some-ne-none v (sym at))
 
 pub begins : Balanced [] (hand ALL [] [] ∷ [])
@@ -86,7 +91,8 @@ forks port v n rest items views b at =
     let vs = set views port l in
     let old : IdleIsEmpty vs = idle_set views port l (λ none. absurd (omega arith)) b.idle in
     record {
-      parts = (let s = total_set (λ u. u.parts) views port v l at in let p = b.parts in omega (arith, total-append (λ u. u.parts) vs (r ∷ [])));
+      parts = (let s = total_set (λ u. u.parts) views port v l at in let p = b.parts in
+          omega (arith, total-append (λ u. u.parts) vs (r ∷ [])));
       weighs = λ h.
           let s = total_set (λ u. weigh h u.pushed) views port v l at in
           let t = total_set (λ u. weigh h u.popped) views port v l at in
@@ -96,13 +102,15 @@ forks port v n rest items views b at =
           (λ (is : r ≡ u). (ap (λ (y : Hand). y.pushed) (sym is), ap (λ (y : Hand). y.popped) (sym is))) (at_snoc vs r u j here);
     }
 
-pub merges : (port : ℕ) (v : Hand) (other : ℕ) (u : Hand) → 0 < v.parts → Merges Balanced port v other u (hand (v.parts + u.parts) (v.pushed ++ u.pushed) (v.popped ++ u.popped)) (hand 0 [] [])
+pub merges : (port : ℕ) (v : Hand) (other : ℕ) (u : Hand) → 0 < v.parts
+    → Merges Balanced port v other u (hand (v.parts + u.parts) (v.pushed ++ u.pushed) (v.popped ++ u.popped)) (hand 0 [] [])
 merges port v other u some_part items views b at apart at' =
     let both = hand (v.parts + u.parts) (v.pushed ++ u.pushed) (v.popped ++ u.popped) in
     let none = hand 0 [] [] in
     let vs = set views port both in
     record {
-      parts = (let s = total_set (λ y. y.parts) views port v both at in let t = total_set (λ y. y.parts) vs other u none at' in let p = b.parts in omega arith);
+      parts = (let s = total_set (λ y. y.parts) views port v both at in let t = total_set (λ y. y.parts) vs other u none at' in let p =
+          b.parts in omega arith);
       weighs = λ h.
           let s = total_set (λ y. weigh h y.pushed) views port v both at in
           let t = total_set (λ y. weigh h y.popped) views port v both at in
@@ -133,7 +141,8 @@ alone f (u ∷ us) (suc port) v idle at all =
     let rest : total (λ y. y.parts) us ≡ v.parts = omega arith in
     omega (arith, idle 0 u refl (omega arith), alone f us port v (λ j y here. idle (suc j) y here) at rest)
 
-pub learns : (port : ℕ) (v : Hand) → v.parts ≡ ALL → Learns Balanced port v (λ items. (h : ℕ → ℕ) → weigh h v.pushed ≡ weigh h v.popped + weigh h items)
+pub learns : (port : ℕ) (v : Hand) → v.parts ≡ ALL
+    → Learns Balanced port v (λ items. (h : ℕ → ℕ) → weigh h v.pushed ≡ weigh h v.popped + weigh h items)
 learns port v all items views b at h =
     let s = alone (λ u. weigh h u.pushed) views port v (λ j u here no. ap (weigh h) (b.idle j u here no).0) at (b.parts ∙ sym all) in
     let t = alone (λ u. weigh h u.popped) views port v (λ j u here no. ap (weigh h) (b.idle j u here no).1) at (b.parts ∙ sym all) in

@@ -5,7 +5,7 @@ pub mod Caches
 pub mod Works
 pub mod Keeping
 pub mod Asks
-pub mod Tallies
+pub mod Totals
 pub mod Opens
 pub mod Pools
 pub mod Closes

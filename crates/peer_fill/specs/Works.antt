@@ -24,4 +24,4 @@ call_count (Rehit fill) = 0
 -- one job more: a call of the source, or else a rehit
 pub record CountsMade {S : Type 0} (made : Made S) (old new : FillCounts) : Type 0 where
   pub calls : new.calls ≡ old.calls + call_count made
-  pub both : new.calls + new.rehits ≡ old.calls + old.rehits + 1
+  pub sum : new.calls + new.rehits ≡ old.calls + old.rehits + 1

@@ -4,13 +4,13 @@ ghost use Rattle.crossbeam_queue.specs.Passes.{IsPassOf};
 ghost use Rattle.peer_flight.specs.Tables.{state_of};
 ghost use Rattle.peer_fill.specs.Counts.{no_fills};
 ghost use Rattle.peer_fill.specs.Seats.{asks_of, fills_of, HaveAllConns, HaveAllFills};
-ghost use Rattle.peer_fill.specs.Tallies.{IsTallyOfConns, IsTallyOfFills, Reports};
+ghost use Rattle.peer_fill.specs.Totals.{IsTotalOfConns, IsTotalOfFills, Reports};
 
 use crate::jobs::{Jobs, Whole};
 use crate::pool::Pool;
 use crate::seats::{ConnSeat, FillSeat};
-use crate::table::{Counted, Sixteen};
-use crate::tally::Tally;
+use crate::table::{Counted, HasSixteenParts};
+use crate::totals::Totals;
 use peer_source::Source;
 use std::sync::Wait;
 use std::sync::ledger::Ledger;
@@ -44,44 +44,44 @@ pub enum CloseFault<S: Source, L: Ledger> {
 pub(crate) fn gather_conns<S: Source, L: Ledger>(
     jobs: &Jobs<S>,
     mut conns: Vec<ConnSeat<S, L>>,
-) -> Tally<S, L>
+) -> Totals<S, L>
     requires all { HaveAllConns conns.items }
     requires pass { All (λ seat. IsPassOf jobs.now seat.pass) conns.items }
     ensures pass { IsPassOf jobs.now result.pass }
     ensures conn_parts { result.conn_parts ≡ 16 }
     ensures fill_parts { result.fill_parts ≡ 0 }
-    ensures asks { IsTallyOfConns conns.items result.asks }
+    ensures asks { IsTotalOfConns conns.items result.asks }
     ensures fills { result.fills ≡ no_fills }
 {
     let Some(first) = conns.pop() else {
         unreachable!();
     };
-    let mut tally = Tally::of(first);
+    let mut totals = Totals::of(first);
     while let Some(seat) = conns.pop() {
-        tally = tally.add_conn(jobs, seat);
+        totals = totals.add_conn(jobs, seat);
     }
-    tally
+    totals
 }
 
 /// Takes in all seats of the workers.
 pub(crate) fn gather_fills<S: Source, L: Ledger>(
     jobs: &Jobs<S>,
-    mut tally: Tally<S, L>,
+    mut totals: Totals<S, L>,
     mut fills: Vec<FillSeat<S, L>>,
-) -> Tally<S, L>
-    requires none { (tally.fill_parts ≡ 0) × (tally.fills ≡ no_fills) }
+) -> Totals<S, L>
+    requires none { (totals.fill_parts ≡ 0) × (totals.fills ≡ no_fills) }
     requires all { HaveAllFills fills.items }
-    requires pass { IsPassOf jobs.now tally.pass × All (λ seat. IsPassOf jobs.now seat.pass) fills.items }
+    requires pass { IsPassOf jobs.now totals.pass × All (λ seat. IsPassOf jobs.now seat.pass) fills.items }
     ensures pass { IsPassOf jobs.now result.pass }
-    ensures conn_parts { result.conn_parts ≡ tally.conn_parts }
+    ensures conn_parts { result.conn_parts ≡ totals.conn_parts }
     ensures fill_parts { result.fill_parts ≡ 16 }
-    ensures asks { result.asks ≡ tally.asks }
-    ensures fills { IsTallyOfFills fills.items result.fills }
+    ensures asks { result.asks ≡ totals.asks }
+    ensures fills { IsTotalOfFills fills.items result.fills }
 {
     while let Some(seat) = fills.pop() {
-        tally = tally.add_fill(jobs, seat);
+        totals = totals.add_fill(jobs, seat);
     }
-    tally
+    totals
 }
 
 /// The report of a pool whose seats were all taken in.
@@ -89,26 +89,26 @@ pub(crate) fn settle<S: Source, L: Ledger, R: Wait>(
     rt: &R,
     jobs: &Jobs<S>,
     mut table: Counted<S, L>,
-    sixteen: &Sixteen<L>,
-    tally: Tally<S, L>,
+    parts: &HasSixteenParts<L>,
+    totals: Totals<S, L>,
 ) -> Report
-    requires all { (tally.conn_parts ≡ 16) × (tally.fill_parts ≡ 16) }
-    requires pass { IsPassOf jobs.now tally.pass }
+    requires all { (totals.conn_parts ≡ 16) × (totals.fill_parts ≡ 16) }
+    requires pass { IsPassOf jobs.now totals.pass }
     ensures table { result.led ≡ (state_of table.table).number }
-    ensures asks { Reports result tally.asks tally.fills }
+    ensures asks { Reports result totals.asks totals.fills }
     ensures asked { result.asked ≡ result.hits + result.led + result.joined }
     ensures led { result.led ≡ result.calls + result.rehits + result.left }
 {
-    let Tally {
+    let Totals {
         mut pass,
         mut share,
         conn_parts: _,
         fill_parts: _,
         asks,
         fills,
-    } = tally;
+    } = totals;
     let left = jobs.len_as::<Whole, R>(rt, &mut pass) as u64;
-    let led = table.led_in_all(sixteen, &mut share);
+    let led = table.count_led(parts, &mut share);
     Report {
         asked: asks.asked,
         hits: asks.hits,

@@ -13,7 +13,7 @@ use peer_source::Source;
 use std::alloc::{AllocError, Global};
 use std::sync::ledger::{Ledger, Share};
 
-/// Deals sixteen parts of the queue out to the seats of the workers: one each, and the last has the rest.
+/// Deals 16 parts of the queue out to the seats of the workers: one each, and the last has the rest.
 pub fn deal_fills<S: Source, L: Ledger>(
     alloc: Global,
     jobs: &Jobs<S>,
@@ -38,7 +38,7 @@ pub fn deal_fills<S: Source, L: Ledger>(
     Ok(seats)
 }
 
-/// Deals sixteen parts of the queue and of the ledger out to the seats of the connections.
+/// Deals 16 parts of the queue and of the ledger out to the seats of the connections.
 pub fn deal_conns<S: Source, L: Ledger>(
     alloc: Global,
     jobs: &Jobs<S>,

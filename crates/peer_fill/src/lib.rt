@@ -22,7 +22,7 @@ mod pool;
 mod seats;
 mod signals;
 mod table;
-mod tally;
+mod totals;
 mod work;
 
 pub use close::{CloseFault, Report};

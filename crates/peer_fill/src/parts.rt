@@ -1,6 +1,6 @@
 //! Whether the seats that are handed in are all seats of their kind.
-ghost use Rattle.std.specs.Prelude.{◌↔◌, IsTrue};
-ghost use Rattle.peer_fill.specs.Seats.{HaveAllConns, HaveAllFills};
+ghost use Rattle.std.specs.Prelude.{◌≡◌, ◌↔◌, ◌≤◌, ℕ, IsTrue, sum_by};
+ghost use Rattle.peer_fill.specs.Seats.{conn_parts, fill_parts, HaveAllConns, HaveAllFills};
 
 use crate::seats::{ConnSeat, FillSeat};
 use peer_source::Source;
@@ -9,13 +9,39 @@ use std::sync::ledger::Ledger;
 // The parts of the seats of one kind.
 const PARTS: u64 = 16;
 
-/// Whether these seats have all parts of the connections.
-pub fn has_all_conns<S: Source, L: Ledger>(seats: &[ConnSeat<S, L>]) -> bool
-    ensures { IsTrue result ↔ HaveAllConns seats.now }
+/// What has parts of a pool.
+pub trait HasParts {
+    // How many it has.
+    ghost parts_of: { Self → ℕ };
+
+    fn parts(&self) -> u64
+        ensures parts { result ≡ parts_of self.now }
+        ensures within { result ≤ 16 };
+}
+
+impl<S: Source, L: Ledger> HasParts for ConnSeat<S, L> {
+    ghost parts_of = { λ seat. conn_parts seat };
+
+    fn parts(&self) -> u64 {
+        self.parts
+    }
+}
+
+impl<S: Source, L: Ledger> HasParts for FillSeat<S, L> {
+    ghost parts_of = { λ seat. fill_parts seat };
+
+    fn parts(&self) -> u64 {
+        self.parts
+    }
+}
+
+// Whether these seats have all parts of their kind.
+fn have_all_parts<T: HasParts>(seats: &[T]) -> bool
+    ensures { IsTrue result ↔ (sum_by T.parts_of seats.now ≡ 16) }
 {
     let mut sum = 0;
     for seat in seats {
-        sum += seat.parts;
+        sum += seat.parts();
         if sum > PARTS {
             return false;
         }
@@ -23,16 +49,16 @@ pub fn has_all_conns<S: Source, L: Ledger>(seats: &[ConnSeat<S, L>]) -> bool
     sum == PARTS
 }
 
+/// Whether these seats have all parts of the connections.
+pub fn has_all_conns<S: Source, L: Ledger>(seats: &[ConnSeat<S, L>]) -> bool
+    ensures { IsTrue result ↔ HaveAllConns seats.now }
+{
+    have_all_parts(seats)
+}
+
 /// Whether these seats have all parts of the workers.
 pub fn has_all_fills<S: Source, L: Ledger>(seats: &[FillSeat<S, L>]) -> bool
     ensures { IsTrue result ↔ HaveAllFills seats.now }
 {
-    let mut sum = 0;
-    for seat in seats {
-        sum += seat.parts;
-        if sum > PARTS {
-            return false;
-        }
-    }
-    sum == PARTS
+    have_all_parts(seats)
 }

@@ -12,7 +12,7 @@ use crate::open::{OpenFault, Opened, check_numbers};
 use crate::parts::{has_all_conns, has_all_fills};
 use crate::seats::{ConnSeat, FillSeat};
 use crate::signals::Signals;
-use crate::table::{Counted, Sixteen};
+use crate::table::{Counted, HasSixteenParts};
 use crossbeam_utils::CachePadded;
 use peer_source::{Names, Source};
 use std::alloc::Global;
@@ -31,7 +31,7 @@ pub struct Pool<S: Source, L: Ledger> {
     pub(crate) caches: Mutex<Caches<S>>,
     pub(crate) signals: Signals,
     pub(crate) stopping: CachePadded<AtomicBool>,
-    sixteen: Sixteen<L>,
+    ledger_parts: HasSixteenParts<L>,
 }
 
 impl<S: Source, L: Ledger> Pool<S, L> {
@@ -39,7 +39,7 @@ impl<S: Source, L: Ledger> Pool<S, L> {
     ghost use Rattle.peer_fill.specs.Pools.{source_of, IsConnSeatOf, IsFillSeatOf};
 
     /// A pool with a seat for each worker and for each connection. The blank names the ledger of the flights that
-    /// are led, in sixteen parts. The cache of each group of the source keeps at most so many bytes; the seed
+    /// are led, in 16 parts. The cache of each group of the source keeps at most so many bytes; the seed
     /// is for the maps of its keys.
     pub fn open(
         alloc: Global,
@@ -82,7 +82,7 @@ impl<S: Source, L: Ledger> Pool<S, L> {
             caches: Mutex::new(caches),
             signals: Signals::new(),
             stopping: CachePadded::new(AtomicBool::new(false)),
-            sixteen: Sixteen::new(),
+            ledger_parts: HasSixteenParts::new(),
         };
         Ok(Opened { pool, fills, conns })
     }
@@ -137,10 +137,10 @@ impl<S: Source, L: Ledger> Pool<S, L> {
             caches: _,
             signals: _,
             stopping: _,
-            sixteen,
+            ledger_parts,
         } = self;
-        let tally = gather_conns(&jobs, conns);
-        let tally = gather_fills(&jobs, tally, fills);
-        Ok(settle(rt, &jobs, table.into_inner(), &sixteen, tally))
+        let totals = gather_conns(&jobs, conns);
+        let totals = gather_fills(&jobs, totals, fills);
+        Ok(settle(rt, &jobs, table.into_inner(), &ledger_parts, totals))
     }
 }

@@ -17,9 +17,9 @@ pub struct Counted<S: Source, L: Ledger> {
     ghost counted: { (state_of table).number ≡ led.total },
 }
 
-/// That the ledger has sixteen parts.
+/// That the ledger has 16 parts.
 #[derive(Drop)]
-pub struct Sixteen<L: Ledger> {
+pub struct HasSixteenParts<L: Ledger> {
     of: PhantomData<L>,
     ghost is: { L.parts ≡ 16 },
 }
@@ -72,22 +72,22 @@ impl<S: Source, L: Ledger> Counted<S, L> {
     }
 
     /// How many flights were led, which is what all seats counted.
-    pub(crate) fn led_in_all(&mut self, sixteen: &Sixteen<L>, all: &mut Share<L>) -> u64
+    pub(crate) fn count_led(&mut self, parts: &HasSixteenParts<L>, all: &mut Share<L>) -> u64
         requires { all.old.parts ≡ 16 }
         ensures table { result ≡ (state_of self.old.table).number }
         ensures seats { result ≡ all.old.amount }
     {
-        let _ = &sixteen.of;
+        let _ = &parts.of;
         let Counted { table, led } = self;
         led.audit(all);
         table.counts().0
     }
 }
 
-impl<L: Ledger> Sixteen<L> {
-    pub fn new() -> Sixteen<L>
+impl<L: Ledger> HasSixteenParts<L> {
+    pub fn new() -> HasSixteenParts<L>
         requires { L.parts ≡ 16 }
     {
-        Sixteen { of: PhantomData }
+        HasSixteenParts { of: PhantomData }
     }
 }

@@ -116,7 +116,7 @@ impl<S: Source, L: Ledger> Pool<S, L> {
     }
 
     // The fill of the value that the group's cache keeps for the key. Where memory refuses it, there is none.
-    fn kept<R: Wait>(&self, rt: &R, group: GroupId, key: &ByteView) -> Option<Fill<S>>
+    fn cached_fill<R: Wait>(&self, rt: &R, group: GroupId, key: &ByteView) -> Option<Fill<S>>
         ensures { IfSome result (IsFoundFor group.number key.now) }
     {
         match self.caches.lock(rt).get(group, key) {
@@ -137,7 +137,7 @@ impl<S: Source, L: Ledger> Pool<S, L> {
     ) -> Made<S>
         ensures { IsMadeFor (S.answers (source_of self.now)) group.number key result }
     {
-        if let Some(fill) = self.kept(rt, group, &key) {
+        if let Some(fill) = self.cached_fill(rt, group, &key) {
             return Made::Rehit(fill);
         }
         let fill = Fill::run(alloc, &self.source, group, key);

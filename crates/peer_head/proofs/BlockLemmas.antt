@@ -1,5 +1,6 @@
 -- Laws of the first block of a text.
-use Rattle.std.proofs.Common.{◌≡◌, ◌≢◌, ℕ, zero, suc, ◌+◌, ◌*◌, ◌-◌, ◌<◌, ◌≤◌, List, ◌∷◌, ◌++◌, length, take, drop, get_or, slice_range, refl, sym, ◌∙◌, ap, arith, append_assoc, length-append, length-drop, drop-cons}
+use Rattle.std.proofs.Common.{◌≡◌, ◌≢◌, ℕ, zero, suc, ◌+◌, ◌*◌, ◌-◌, ◌<◌, ◌≤◌, List, ◌∷◌, ◌++◌, length, take, drop, get_or, slice_range}
+use Rattle.std.proofs.Common.{refl, sym, ◌∙◌, ap, arith, append_assoc, length-append, length-drop, drop-cons}
 use Rattle.std.proofs.Math.Seq.{drop-append_seam, take-add}
 use Rattle.std.proofs.lemmas.List.{take-append-le, take-take, drop-take, length-take-le}
 use Rattle.std.proofs.lemmas.List.Folds.{drop_split}
@@ -21,7 +22,8 @@ pairs-snoc zero x = refl
 pairs-snoc (suc n) x = ap (λ v. 13 ∷ 10 ∷ v) (pairs-snoc n x)
 
 -- one pair more
-pub one_pair_more : (t : List ℕ) (at : ℕ) → PairsBefore t at → at + 2 ≤ length t → get_or t at 0 ≡ 13 → get_or t (at + 1) 0 ≡ 10 → PairsBefore t (at + 2)
+pub one_pair_more : (t : List ℕ) (at : ℕ) → PairsBefore t at → at + 2 ≤ length t → get_or t at 0 ≡ 13 → get_or t (at + 1) 0 ≡ 10
+    → PairsBefore t (at + 2)
 one_pair_more t at h le first second =
     let up : suc at ≡ at + 1 = omega arith in
     let up' : suc (at + 1) ≡ at + 2 = omega arith in
@@ -29,7 +31,8 @@ one_pair_more t at h le first second =
     drop-cons t at 0 (omega (arith, le))
     ∙ ap (λ b. b ∷ drop (suc at) t) first
     ∙ ap (λ k. 13 ∷ drop k t) up
-    ∙ ap (λ v. 13 ∷ v) (drop-cons t (at + 1) 0 (omega (arith, le)) ∙ ap (λ b. b ∷ drop (suc (at + 1)) t) second ∙ ap (λ k. 10 ∷ drop k t) up')
+    ∙ ap (λ v. 13 ∷ v) (drop-cons t (at + 1) 0 (omega (arith, le)) ∙ ap (λ b. b ∷ drop (suc (at + 1)) t) second
+    ∙ ap (λ k. 10 ∷ drop k t) up')
     in
     record {
       count = suc h.count;
@@ -50,14 +53,16 @@ pairs_same (suc m) (suc n) a b p q e =
 
 -- the blank line at the end of a block
 pub blank_at : (front x : List ℕ) → take 4 (drop (length front) ((front ++ blank_line) ++ x)) ≡ blank_line
-blank_at front x = ap (λ v. take 4 (drop (length front) v)) (append_assoc front blank_line x) ∙ ap (take 4) (drop-append_seam front (blank_line ++ x))
+blank_at front x =
+    ap (λ v. take 4 (drop (length front) v)) (append_assoc front blank_line x) ∙ ap (take 4) (drop-append_seam front (blank_line ++ x))
 
 -- what begins with a block doesn't begin with a pair
 pub starts : (c v f : List ℕ) → c ≡ f ++ blank_line → take 2 c ≢ pair → take 2 (c ++ v) ≢ pair
 starts c v f e n h = n (sym (take-append-le 2 c v (omega (arith, ap length e, length-append f blank_line))) ∙ h)
 
 -- the block that a search from the end of the pairs finds
-pub found_block : (t : List ℕ) (s k : ℕ) → IsPastPairs t s → NoneBefore (OccursAt (drop s t) blank_line) 0 (length (drop s t) + 1) k → OccursAt (drop s t) blank_line k → s + k + 4 ≤ LIMIT → IsBlockAt t s (s + k + 4)
+pub found_block : (t : List ℕ) (s k : ℕ) → IsPastPairs t s → NoneBefore (OccursAt (drop s t) blank_line) 0 (length (drop s t) + 1) k
+    → OccursAt (drop s t) blank_line k → s + k + 4 ≤ LIMIT → IsBlockAt t s (s + k + 4)
 found_block t s k h none here fits =
     let u = drop s t in
     let e = s + k + 4 in
@@ -81,7 +86,8 @@ found_block t s k h none here fits =
             sym (take-take 4 (k + 4 - i) (drop i u) (omega (arith, lt, short)))
             ∙ ap (take 4) (sym (drop-take i (k + 4 - i) u) ∙ ap (λ n. drop i (take n u)) more ∙ ap (drop i) (sym block)) ∙ p
             in
-            none.before i (omega arith) (omega (arith, lt, short)) (OccursAt-from_part u blank_line i (omega (arith, lt, short, inside)) part);
+            none.before i (omega arith) (omega (arith, lt, short))
+            (OccursAt-from_part u blank_line i (omega (arith, lt, short, inside)) part);
         fits = omega (arith, h.at_is, fits, ap length block, length-take-le (k + 4) u inside);
       };
     }
@@ -101,18 +107,21 @@ lies_at t b r s h x =
     let long : length b ≡ k + 4 = ap length x.ends ∙ length-append x.front blank_line in
     record {
       k = k;
-      occurs = OccursAt-from_part (drop s t) blank_line k (omega (arith, ap length same.1, length-append b r, long)) (ap (λ v. take 4 (drop k v)) (sym whole) ∙ blank_at x.front r);
+      occurs = OccursAt-from_part (drop s t) blank_line k (omega (arith, ap length same.1, length-append b r, long))
+          (ap (λ v. take 4 (drop k v)) (sym whole) ∙ blank_at x.front r);
       fits = omega (arith, x.fits, long, same.0, h.at_is);
     }
 
 -- no blank line, so no block
-pub no_blank_line : (t : List ℕ) (s : ℕ) → IsPastPairs t s → Nowhere (OccursAt (drop s t) blank_line) 0 (length (drop s t) + 1) → HasNoBlock t
+pub no_blank_line : (t : List ℕ) (s : ℕ) → IsPastPairs t s → Nowhere (OccursAt (drop s t) blank_line) 0 (length (drop s t) + 1)
+    → HasNoBlock t
 no_blank_line t s h none b r x =
     let l = lies_at t b r s h x in
     none l.k (omega arith) (omega (arith, l.occurs.fits)) l.occurs
 
 -- the first blank line is too far away
-pub far_blank_line : (t : List ℕ) (s k : ℕ) → IsPastPairs t s → NoneBefore (OccursAt (drop s t) blank_line) 0 (length (drop s t) + 1) k → LIMIT < s + k + 4 → HasNoBlock t
+pub far_blank_line : (t : List ℕ) (s k : ℕ) → IsPastPairs t s → NoneBefore (OccursAt (drop s t) blank_line) 0 (length (drop s t) + 1) k
+    → LIMIT < s + k + 4 → HasNoBlock t
 far_blank_line t s k h none far b r x =
     let l = lies_at t b r s h x in
     none.before l.k (omega arith) (omega (arith, l.fits, far)) l.occurs

@@ -1,5 +1,6 @@
 -- Each text begins with a block, or is too long, or unfinished.
-use Rattle.std.proofs.Common.{◌≡◌, ℕ, zero, suc, ◌+◌, ◌<◌, ◌≤◌, inl, inr, List, [], ◌∷◌, length, take, drop, get_or, slice_range, refl, sym, ◌∙◌, ap, arith, length-drop, get_or-drop}
+use Rattle.std.proofs.Common.{◌≡◌, ℕ, zero, suc, ◌+◌, ◌<◌, ◌≤◌, inl, inr, List, [], ◌∷◌, length, take, drop, get_or, slice_range}
+use Rattle.std.proofs.Common.{refl, sym, ◌∙◌, ap, arith, length-drop, get_or-drop}
 use Rattle.std.proofs.lemmas.Bool.{cases_lt}
 use Rattle.memchr.specs.Find.{OccursAt, occurs_at, NoneBefore, Nowhere}
 use Rattle.memchr.proofs.lemmas.MatchLemmas.{occurs_at-true, OccursAt-true}
@@ -56,7 +57,8 @@ pub data BlockOf (t : List ℕ) : Type 0 where
   is_unfinished : IsUnfinished t → BlockOf t
 
 -- a text with a blank line
-blank_found : (t : List ℕ) (s k : ℕ) → IsPastPairs t s → NoneBefore (OccursAt (drop s t) blank_line) 0 (length (drop s t) + 1) k → OccursAt (drop s t) blank_line k → BlockOf t
+blank_found : (t : List ℕ) (s k : ℕ) → IsPastPairs t s → NoneBefore (OccursAt (drop s t) blank_line) 0 (length (drop s t) + 1) k
+    → OccursAt (drop s t) blank_line k → BlockOf t
 blank_found t s k h none here =
     elim (cases_lt LIMIT (s + k + 4)) as (λ _. BlockOf t) [
       | inl far ↦ is_too_long (record {

@@ -1,11 +1,13 @@
 -- What the moving of held bytes to the front, and a loan of the part behind them, leave in a buffer.
-use Rattle.std.proofs.Common.{ap, sym, ◌∙◌, ◌≡◌, ◌+◌, ◌-◌, ◌≤◌, ◌++◌, ℕ, List, take, drop, length, arith, append_assoc, length-append, length-drop}
+use Rattle.std.proofs.Common.{ap, sym, ◌∙◌, ◌≡◌, ◌+◌, ◌-◌, ◌≤◌, ◌++◌, ℕ, List, take, drop, length, arith}
+use Rattle.std.proofs.Common.{append_assoc, length-append, length-drop}
 use Rattle.std.proofs.Math.Seq.{take-append-add, take-append_seam, drop-append_seam}
 use Rattle.std.proofs.lemmas.List.{take-append-le, length-take-le, drop-take, drop-drop}
 use Rattle.peer_head.specs.Lending.{fitted}
 
 -- a list whose part from i on was lent
-pub lent : (xs w z : List ℕ) (i n : ℕ) → i ≤ length xs → n ≡ length xs → take n ((take i xs ++ (w ++ drop (length w) (drop i xs))) ++ z) ≡ take i xs ++ fitted (drop i xs) w
+pub lent : (xs w z : List ℕ) (i n : ℕ) → i ≤ length xs → n ≡ length xs
+    → take n ((take i xs ++ (w ++ drop (length w) (drop i xs))) ++ z) ≡ take i xs ++ fitted (drop i xs) w
 lent xs w z i n h e =
     let y = w ++ drop (length w) (drop i xs) in
     let m = length (drop i xs) in
@@ -34,9 +36,11 @@ pub piece_within : (xs piece : List ℕ) (s i e : ℕ) → s + i ≤ length xs �
 piece_within xs piece s i e fits is le = omega (arith, piece_length xs s i fits, ap length is, le)
 
 -- the parts of a buffer after the loan of what is behind its first i bytes
-pub lent_parts : (xs ys h f w : List ℕ) (i : ℕ) → i ≡ length h → xs ≡ h ++ f → ys ≡ take i xs ++ fitted (drop i xs) w → (take (i - 0) ys ≡ h) × (drop (i - 0) ys ≡ fitted f w)
+pub lent_parts : (xs ys h f w : List ℕ) (i : ℕ) → i ≡ length h → xs ≡ h ++ f → ys ≡ take i xs ++ fitted (drop i xs) w
+    → (take (i - 0) ys ≡ h) × (drop (i - 0) ys ≡ fitted f w)
 lent_parts xs ys h f w i n e same =
-    let whole : ys ≡ h ++ fitted f w = same ∙ ap (λ v. v ++ fitted (drop i xs) w) (front_part xs h f i e n) ∙ ap (λ v. h ++ fitted v w) (back_part xs h f i e n) in
+    let whole : ys ≡ h ++ fitted f w =
+    same ∙ ap (λ v. v ++ fitted (drop i xs) w) (front_part xs h f i e n) ∙ ap (λ v. h ++ fitted v w) (back_part xs h f i e n) in
     let less : i - 0 ≡ length h = omega (arith, n) in
     (front_part ys h (fitted f w) (i - 0) whole less, back_part ys h (fitted f w) (i - 0) whole less)
 

@@ -1,12 +1,14 @@
 -- Facts that are decided: each holds, or it doesn't.
-use Rattle.std.proofs.Common.{◌≡◌, ℕ, zero, suc, ◌+◌, ◌≤◌, ◌⊎◌, inl, inr, Bool, true, false, not, eqb, List, [], ◌∷◌, length, get_or, All, bytes_eq, sym, ◌∙◌, subst, arith}
+use Rattle.std.proofs.Common.{◌≡◌, ℕ, zero, suc, ◌+◌, ◌≤◌, ◌⊎◌, inl, inr, Bool, true, false, not, eqb, List, [], ◌∷◌}
+use Rattle.std.proofs.Common.{length, get_or, All, bytes_eq, sym, ◌∙◌, subst, arith}
 use Rattle.std.proofs.lemmas.Bool.{cases_Bool, cases_lt, cases_eq, false≢true}
 use Rattle.std.proofs.lemmas.List.Elements.{All-nil, All-cons, All-head, All-tail}
 use Rattle.std.proofs.lemmas.Slice.Eq.{bytes_eq-Decides}
 use Rattle.std.proofs.Math.Bool.{beq}
 use Rattle.memchr.specs.Find.{NoneBefore, Nowhere}
 use Rattle.peer_head.specs.Heads.{IsPaired, IsVisible}
-use Rattle.peer_head.proofs.PairLemmas.{PairedUpTo, paired_none, paired_more, paired_stops, paired_whole, paired_hangs, differing, not_differing}
+use Rattle.peer_head.proofs.PairLemmas.{PairedUpTo, paired_none, paired_more, paired_stops, paired_whole, paired_hangs}
+use Rattle.peer_head.proofs.PairLemmas.{differing, not_differing}
 
 -- the fact holds, or it doesn't
 abbrev pub Decided : Type 0 → Type 0
@@ -39,7 +41,8 @@ decided_same xs ys = decided_test (bytes_eq xs ys) (bytes_eq-Decides xs ys).0 (b
 pub decided_all : (P : ℕ → Type 0) → ((x : ℕ) → Decided (P x)) → (xs : List ℕ) → Decided (All P xs)
 decided_all P each [] = inl (All-nil P)
 decided_all P each (x ∷ xs) =
-    decided_by {P = P x × All P xs} (λ h. All-cons P x xs h.0 h.1) (λ h. (All-head P x xs h, All-tail P x xs h)) (decided_both (each x) (decided_all P each xs))
+    decided_by {P = P x × All P xs} (λ h. All-cons P x xs h.0 h.1) (λ h. (All-head P x xs h, All-tail P x xs h))
+    (decided_both (each x) (decided_all P each xs))
 
 -- a number is at most another
 decided_le : (m n : ℕ) → Decided (m ≤ n)
@@ -58,7 +61,8 @@ pub first_below : (P : ℕ → Type 0) → ((k : ℕ) → Decided (P k)) → (n 
 first_below P each zero = inr (λ k low high p. omega (arith, high))
 first_below P each (suc n) =
     elim (first_below P each n) as (λ _. ((k : ℕ) × (NoneBefore P 0 (suc n) k × P k)) ⊎ Nowhere P 0 (suc n)) [
-      | inl found ↦ inl (found.0, (record { low = found.1.0.low; high = omega (arith, found.1.0.high); before = found.1.0.before }, found.1.1))
+      | inl found ↦
+          inl (found.0, (record { low = found.1.0.low; high = omega (arith, found.1.0.high); before = found.1.0.before }, found.1.1))
       | inr none ↦
           elim (each n) as (λ _. ((k : ℕ) × (NoneBefore P 0 (suc n) k × P k)) ⊎ Nowhere P 0 (suc n)) [
             | inl here ↦ inl (n, (record { low = omega arith; high = omega arith; before = none }, here))

@@ -1,5 +1,6 @@
 -- Each block is a head, or it is none: the pieces of the grammar are read one after another.
-use Rattle.std.proofs.Common.{◌≡◌, ℕ, zero, suc, ◌+◌, ◌<◌, ◌⊎◌, inl, inr, Bool, true, false, List, [], ◌∷◌, ◌++◌, length, take, drop, All, IsUtf8, flat_map, refl, sym, ◌∙◌, ap, subst, arith, append_assoc, append-nil, length-append}
+use Rattle.std.proofs.Common.{◌≡◌, ℕ, zero, suc, ◌+◌, ◌<◌, ◌⊎◌, inl, inr, Bool, true, false, List, [], ◌∷◌, ◌++◌, length, take, drop, All}
+use Rattle.std.proofs.Common.{IsUtf8, flat_map, refl, sym, ◌∙◌, ap, subst, arith, append_assoc, append-nil, length-append}
 use Rattle.std.proofs.Math.Seq.{take-append_seam}
 use Rattle.std.proofs.lemmas.Bool.{cases_Bool, cases_lt, cases_eq}
 use Rattle.std.proofs.lemmas.List.{take-append-drop, length-map}
@@ -7,13 +8,18 @@ use Rattle.std.proofs.lemmas.List.Elements.{All-nil, All-cons, All-weaker}
 use Rattle.std.proofs.lemmas.Str.{IsUtf8-from_ascii}
 use Rattle.std.proofs.lemmas.Str.Ascii.{IsAscii-from_all}
 use Rattle.httparse.specs.Ascii.{space}
-use Rattle.httparse.specs.Grammar.{is_token_byte, is_uri_byte, is_value_byte, AllPass, LineEnd, crlf, lf, print_end, print_version, Field, print_field, IsField, RequestHead, ReadsRequest}
-use Rattle.httparse.specs.Pieces.{Piece, Begins, Then, Stops, is_newline, Bytes, Newline, Blank, Word, Method, Version, Text, FieldLine, Section}
+use Rattle.httparse.specs.Grammar.{is_token_byte, is_uri_byte, is_value_byte, AllPass, LineEnd, crlf, lf, print_end, print_version}
+use Rattle.httparse.specs.Grammar.{Field, print_field, IsField, RequestHead, ReadsRequest}
+use Rattle.httparse.specs.Pieces.{Piece, Begins, Then, Stops, is_newline, Bytes, Newline, Blank, Word, Method}
+use Rattle.httparse.specs.Pieces.{Version, Text, FieldLine, Section}
 use Rattle.httparse.proofs.RunLemmas.{run_unique, run_unstopped}
-use Rattle.httparse.proofs.PieceLemmas.{IsDeterministic, NotYet_intro, NotYet_elim, Then_deterministic, Blank_deterministic, Method_deterministic, Version_deterministic, Newline_deterministic, Word_deterministic, Name_deterministic, space_ends_token, colon_ends_token, Stops_value, print_field-append, FieldLine_parts, Section_skip, Section_line}
+use Rattle.httparse.proofs.PieceLemmas.{IsDeterministic, NotYet_intro, NotYet_elim, Then_deterministic, Blank_deterministic}
+use Rattle.httparse.proofs.PieceLemmas.{Method_deterministic, Version_deterministic, Newline_deterministic, Word_deterministic}
+use Rattle.httparse.proofs.PieceLemmas.{Name_deterministic, space_ends_token, colon_ends_token, Stops_value, print_field-append}
+use Rattle.httparse.proofs.PieceLemmas.{FieldLine_parts, Section_skip, Section_line}
 use Rattle.httparse.proofs.ReadLemmas.{Blank_open, Blank_newline, Blank_after, FieldLine_done}
 use Rattle.httparse.proofs.GrammarLemmas.{request_head, request_tree, request_pieces, request_from_pieces, request_unique}
-use Rattle.peer_head.specs.Heads.{HeadParts, IsHead, HasNoHead, IsPaired, IsVisible, parts_of, field_of, MOST_FIELDS}
+use Rattle.peer_head.specs.Heads.{HeadParts, IsHead, HasNoHead, IsPaired, IsVisible, parts_of, field_of, MAX_FIELDS}
 use Rattle.peer_head.proofs.ParseLemmas.{fields_few}
 use Rattle.peer_head.proofs.Deciding.{Decided, decided_by, decided_same, decided_all, decided_visible, decided_paired}
 
@@ -45,7 +51,8 @@ read_bytes bytes text =
     (decided_same (take n text) bytes)
 
 -- a line end is one of the two
-which_end : (text : List ℕ) → (Begins (Bytes (print_end crlf)) text → ⊥) → (Begins (Bytes (print_end lf)) text → ⊥) → (e : LineEnd) (rest : List ℕ) → Newline e text rest → ⊥
+which_end : (text : List ℕ) → (Begins (Bytes (print_end crlf)) text → ⊥) → (Begins (Bytes (print_end lf)) text → ⊥)
+    → (e : LineEnd) (rest : List ℕ) → Newline e text rest → ⊥
 which_end text a b crlf rest h = a (tt, rest, h)
 which_end text a b lf rest h = b (tt, rest, h)
 
@@ -62,7 +69,8 @@ read_newline text =
     ]
 
 -- a version is one of the two
-which_version : (text : List ℕ) → (Begins (Bytes (print_version 0)) text → ⊥) → (Begins (Bytes (print_version 1)) text → ⊥) → (minor : ℕ) (rest : List ℕ) → Version minor text rest → ⊥
+which_version : (text : List ℕ) → (Begins (Bytes (print_version 0)) text → ⊥) → (Begins (Bytes (print_version 1)) text → ⊥)
+    → (minor : ℕ) (rest : List ℕ) → Version minor text rest → ⊥
 which_version text a b minor rest h =
     elim (cases_eq minor 0) as (λ _. ⊥) [
       | inl zeroth ↦ a (tt, rest, subst (λ (m : ℕ). text ≡ print_version m ++ rest) zeroth h.1)
@@ -104,7 +112,15 @@ read_blank_of (suc n) text short =
     elim (read_newline text) as (λ _. Decided (Begins Blank text)) [
       | inl x ↦
           elim (read_blank_of n x.1 (omega (arith, short, end_shortens x.0 text x.1 x.2))) as (λ _. Decided (Begins Blank text)) [
-            | inl y ↦ inl (x.0 ∷ y.0, y.1, (x.2 ∙ ap (λ (v : List ℕ). print_end x.0 ++ v) y.2.0 ∙ sym (append_assoc (print_end x.0) _ y.1), y.2.1))
+            | inl y ↦ inl (
+              x.0 ∷ y.0,
+              y.1,
+              (
+                x.2 ∙ ap (λ (v : List ℕ). print_end x.0 ++ v) y.2.0
+                    ∙ sym (append_assoc (print_end x.0) _ y.1),
+                y.2.1,
+              ),
+            )
             | inr none ↦
                 let front = x.2 ∙ ap (λ (v : List ℕ). v ++ x.1) (sym (append-nil (print_end x.0))) in
                 inr (NotYet_elim (Blank_after (x.0 ∷ []) front (NotYet_intro none)))
@@ -142,7 +158,8 @@ run_of test (b ∷ text) =
     ]
 
 -- another cut of the text at a stop is the same
-run_same : (test : ℕ → Bool) (text : List ℕ) (r : RunOf test text) (w q : List ℕ) → AllPass test w → Stops test q → text ≡ w ++ q → (r.run ≡ w) × (r.rest ≡ q)
+run_same : (test : ℕ → Bool) (text : List ℕ) (r : RunOf test text) (w q : List ℕ) → AllPass test w → Stops test q → text ≡ w ++ q
+    → (r.run ≡ w) × (r.rest ≡ q)
 run_same test text r w q pass stops e =
     elim r.stops as (λ _. (r.run ≡ w) × (r.rest ≡ q)) [
       | inl empty ↦
@@ -201,12 +218,14 @@ field_shortens f text rest h =
     )
 
 -- a field line before a section
-section_more : (f : Field) (fields : List Field) (last : LineEnd) (text middle rest : List ℕ) → FieldLine f text middle → Section (fields, last) middle rest → Section (f ∷ fields, last) text rest
+section_more : (f : Field) (fields : List Field) (last : LineEnd) (text middle rest : List ℕ) → FieldLine f text middle
+    → Section (fields, last) middle rest → Section (f ∷ fields, last) text rest
 section_more f fields last text middle rest x y =
     let lines = flat_map print_field fields in (
       All-cons IsField f fields x.0 y.0,
       x.1 ∙ ap (λ (v : List ℕ). print_field f ++ v) y.1
-          ∙ sym (ap (λ (v : List ℕ). v ++ rest) (append_assoc (print_field f) lines (print_end last)) ∙ append_assoc (print_field f) (lines ++ print_end last) rest),
+          ∙ sym (ap (λ (v : List ℕ). v ++ rest) (append_assoc (print_field f) lines (print_end last))
+          ∙ append_assoc (print_field f) (lines ++ print_end last) rest),
     )
 
 -- the section of a text of fewer than n bytes
@@ -218,11 +237,13 @@ read_section_of (suc n) text short =
       | inr no_end ↦
           elim (read_field text) as (λ _. Decided (Begins Section text)) [
             | inl x ↦
-                elim (read_section_of n x.1 (omega (arith, short, field_shortens x.0 text x.1 x.2))) as (λ _. Decided (Begins Section text)) [
+                elim (read_section_of n x.1 (omega (arith, short, field_shortens x.0 text x.1 x.2)))
+                as (λ _. Decided (Begins Section text)) [
                   | inl y ↦ inl ((x.0 ∷ y.0.0, y.0.1), y.1, section_more x.0 y.0.0 y.0.1 text x.1 y.1 x.2 y.2)
                   | inr none ↦ inr λ z.
                       let line = x.2.1 ∙ ap (λ (v : List ℕ). v ++ x.1) (sym (append-nil (print_field x.0))) in
-                      let skipped = Section_skip (x.0 ∷ []) z.0.0 z.0.1 text x.1 z.1 (All-cons IsField x.0 [] x.2.0 (All-nil IsField), line) z.2 in
+                      let skipped =
+                      Section_skip (x.0 ∷ []) z.0.0 z.0.1 text x.1 z.1 (All-cons IsField x.0 [] x.2.0 (All-nil IsField), line) z.2 in
                       none ((skipped.0, z.0.1), z.1, skipped.2)
                 ]
             | inr no_field ↦ inr λ z.
@@ -348,7 +369,7 @@ pub data HeadOf (block : List ℕ) : Type 0 where
 -- a head that is the whole block, paired
 few_fields : (block : List ℕ) (x : BeginsHead block) → x.rest ≡ [] → IsPaired block → HeadOf block
 few_fields block x whole paired =
-    elim (cases_lt MOST_FIELDS (length x.head.fields)) as (λ _. HeadOf block) [
+    elim (cases_lt MAX_FIELDS (length x.head.fields)) as (λ _. HeadOf block) [
       | inl many ↦ is_none λ p y.
           omega (arith, many, fields_few block p y, ap (λ (h : RequestHead). length h.fields) (left_over block x p y).0)
       | inr few ↦ is_head (parts_of x.head) (record {

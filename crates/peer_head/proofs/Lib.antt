@@ -8,5 +8,5 @@ pub mod LookLaws
 pub mod LookSearch
 pub mod PairLemmas
 pub mod ParseLemmas
-pub mod TallyLemmas
+pub mod SummaryLemmas
 pub mod VisibleLemmas

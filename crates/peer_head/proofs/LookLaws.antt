@@ -44,9 +44,11 @@ faults_same t f g a b (too_long x) (no_head c r begins none) = absurd (x.none c 
 faults_same t f g a b (too_long x) (of_head c r begins q head fault is) = absurd (x.none c r begins)
 faults_same t f g a b (no_head c r begins none) (too_long y) = absurd (y.none c r begins)
 faults_same t f g a b (no_head c r begins none) (no_head c' r' begins' none') = refl
-faults_same t f g a b (no_head c r begins none) (of_head c' r' begins' q head fault is) = absurd (not_none t c' r' c r q begins' begins head none)
+faults_same t f g a b (no_head c r begins none) (of_head c' r' begins' q head fault is) =
+    absurd (not_none t c' r' c r q begins' begins head none)
 faults_same t f g a b (of_head c r begins p head fault is) (too_long y) = absurd (y.none c r begins)
-faults_same t f g a b (of_head c r begins p head fault is) (no_head c' r' begins' none') = absurd (not_none t c r c' r' p begins begins' head none')
+faults_same t f g a b (of_head c r begins p head fault is) (no_head c' r' begins' none') =
+    absurd (not_none t c r c' r' p begins begins' head none')
 faults_same t f g a b (of_head c r begins p head fault is) (of_head c' r' begins' q head' fault' is') =
     let same = heads_same t c r c' r' p q begins begins' head head' in
     let one : Some fault ≡ Some fault' = sym is ∙ ap head_fault same ∙ is' in
@@ -59,7 +61,8 @@ looks_one_way_law t Need Need x y = refl
 looks_one_way_law t Need (Head q) x y = absurd (x.none y.block y.rest y.begins)
 looks_one_way_law t Need (Fault g b) x y = absurd (not_faulty t g b x y)
 looks_one_way_law t (Head p) Need x y = absurd (y.none x.block x.rest x.begins)
-looks_one_way_law t (Head p) (Head q) x y = ap (λ (v : HeadParts). Head v) (heads_same t x.block x.rest y.block y.rest p q x.begins y.begins x.head y.head)
+looks_one_way_law t (Head p) (Head q) x y =
+    ap (λ (v : HeadParts). Head v) (heads_same t x.block x.rest y.block y.rest p q x.begins y.begins x.head y.head)
 looks_one_way_law t (Head p) (Fault g b) x y = absurd (no_fault t p g b x y)
 looks_one_way_law t (Fault f a) Need x y = absurd (not_faulty t f a y x)
 looks_one_way_law t (Fault f a) (Head q) x y = absurd (no_fault t q f a y x)

@@ -13,7 +13,8 @@ use Rattle.peer_head.proofs.BlockSearch.{BlockOf, is_block, is_too_long, is_unfi
 use Rattle.peer_head.proofs.HeadReader.{HeadOf, is_head, is_none, head_of}
 
 -- a text that begins with a head
-look_of_head : (t block rest : List ℕ) → Begins t block rest → (p : HeadParts) → IsHead block p → (fault : Option HeadFault) → head_fault p ≡ fault → (a : Look) × LooksAs t a
+look_of_head : (t block rest : List ℕ) → Begins t block rest → (p : HeadParts) → IsHead block p → (fault : Option HeadFault)
+    → head_fault p ≡ fault → (a : Look) × LooksAs t a
 look_of_head t block rest begins p head None e = (Head p, record { block = block; rest = rest; begins = begins; head = head; fine = e })
 look_of_head t block rest begins p head (Some f) e = (Fault f (is_bare p), of_head block rest begins p head f e)
 

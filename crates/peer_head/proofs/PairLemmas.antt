@@ -1,5 +1,6 @@
 -- How far CR and LF stand in pairs.
-use Rattle.std.proofs.Common.{◌≡◌, ◌≢◌, ℕ, ◌+◌, ◌-◌, ◌<◌, Bool, true, false, not, eqb, List, length, get_or, refl, sym, ◌∙◌, ap, subst, arith, ◌⊎◌, inl, inr, ◌||◌, ◌↔◌, IsTrue}
+use Rattle.std.proofs.Common.{◌≡◌, ◌≢◌, ℕ, ◌+◌, ◌-◌, ◌<◌, Bool, true, false, not, eqb, List, length, get_or, refl, sym}
+use Rattle.std.proofs.Common.{◌∙◌, ap, subst, arith, ◌⊎◌, inl, inr, ◌||◌, ◌↔◌, IsTrue}
 use Rattle.std.proofs.lemmas.Bool.{cases_lt, cases_Bool, cases_eq, eqb-true, eq-eqb, ne_eqb, false≢true}
 use Rattle.std.proofs.Math.Bool.{beq}
 use Rattle.std.specs.Cmp.{booleans_Decides}
@@ -47,11 +48,13 @@ paired_none xs = record {
 }
 
 -- what an LF needs at this place
-lf_here : (xs : List ℕ) (i : ℕ) (waits : Bool) → PairedUpTo xs i waits → eqb (get_or xs i 0) 10 ≡ waits → get_or xs i 0 ≡ 10 → IsAfterCr xs i
+lf_here : (xs : List ℕ) (i : ℕ) (waits : Bool) → PairedUpTo xs i waits → eqb (get_or xs i 0) 10 ≡ waits → get_or xs i 0 ≡ 10
+    → IsAfterCr xs i
 lf_here xs i waits h e is = h.waiting (sym e ∙ eq-eqb (get_or xs i 0) 10 is)
 
 -- one byte more
-pub paired_more : (xs : List ℕ) (i : ℕ) (waits : Bool) → PairedUpTo xs i waits → eqb (get_or xs i 0) 10 ≡ waits → PairedUpTo xs (i + 1) (eqb (get_or xs i 0) 13)
+pub paired_more : (xs : List ℕ) (i : ℕ) (waits : Bool) → PairedUpTo xs i waits → eqb (get_or xs i 0) 10 ≡ waits
+    → PairedUpTo xs (i + 1) (eqb (get_or xs i 0) 13)
 paired_more xs i waits h e = record {
   cr = λ k lt is.
       elim (cases_lt (k + 1) i) as (λ _. get_or xs (k + 1) 0 ≡ 10) [
@@ -143,7 +146,8 @@ abbrev pub Judged : List ℕ → ℕ → Bool → Bool → Type 0
 Judged xs i odd waits = ((odd ≡ false) × PairedUpTo xs i waits) ⊎ ((odd ≡ true) × (IsPaired xs → ⊥))
 
 -- one byte more
-pub judged_more : (xs : List ℕ) (i : ℕ) (odd waits : Bool) → Judged xs i odd waits → Judged xs (i + 1) (odd || not (beq (eqb (get_or xs i 0) 10) waits)) (eqb (get_or xs i 0) 13)
+pub judged_more : (xs : List ℕ) (i : ℕ) (odd waits : Bool) → Judged xs i odd waits
+    → Judged xs (i + 1) (odd || not (beq (eqb (get_or xs i 0) 10) waits)) (eqb (get_or xs i 0) 13)
 judged_more xs i odd waits (inr k) = inr (ap (λ (b : Bool). b || not (beq (eqb (get_or xs i 0) 10) waits)) k.0, k.1)
 judged_more xs i odd waits (inl k) =
     let differ : Bool = not (beq (eqb (get_or xs i 0) 10) waits) in
@@ -153,11 +157,15 @@ judged_more xs i odd waits (inl k) =
     ]
 
 -- no byte is odd and no CR waits at the end
-pub judged_whole : (xs : List ℕ) (i : ℕ) (odd waits : Bool) → i ≡ length xs → Judged xs i odd waits → IsTrue (not (odd || waits)) ↔ IsPaired xs
+pub judged_whole : (xs : List ℕ) (i : ℕ) (odd waits : Bool) → i ≡ length xs → Judged xs i odd waits
+    → IsTrue (not (odd || waits)) ↔ IsPaired xs
 judged_whole xs i odd waits n (inr k) = (λ e. absurd (false≢true (sym (ap (λ (b : Bool). not (b || waits)) k.0) ∙ e)), λ p. absurd (k.1 p))
 judged_whole xs i odd waits n (inl k) =
     let first : not (odd || waits) ≡ not waits = ap (λ (b : Bool). not (b || waits)) k.0 in
     elim (cases_Bool waits) as (λ _. IsTrue (not (odd || waits)) ↔ IsPaired xs) [
-      | inl w ↦ (λ e. absurd (false≢true (sym (first ∙ ap not w) ∙ e)), λ p. absurd (paired_hangs xs i n (subst (λ (b : Bool). PairedUpTo xs i b) w k.1) p))
+      | inl w ↦ (
+        λ e. absurd (false≢true (sym (first ∙ ap not w) ∙ e)),
+        λ p. absurd (paired_hangs xs i n (subst (λ (b : Bool). PairedUpTo xs i b) w k.1) p),
+      )
       | inr w ↦ (λ e. paired_whole xs i n (subst (λ (b : Bool). PairedUpTo xs i b) w k.1), λ p. first ∙ ap not w)
     ]

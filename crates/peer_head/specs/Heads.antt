@@ -36,8 +36,8 @@ abbrev pub IsVisible : ℕ → Type 0
 IsVisible b = (33 ≤ b) × (b ≤ 126)
 
 -- how many fields a head may have
-abbrev pub MOST_FIELDS : ℕ
-MOST_FIELDS = 64
+abbrev pub MAX_FIELDS : ℕ
+MAX_FIELDS = 64
 
 -- the block is a head with these parts
 pub record IsHead (block : List ℕ) (p : HeadParts) : Type 0 where
@@ -46,7 +46,7 @@ pub record IsHead (block : List ℕ) (p : HeadParts) : Type 0 where
   pub parts : parts_of head ≡ p
   pub paired : IsPaired block
   pub visible : All IsVisible p.target
-  pub few : length p.fields ≤ MOST_FIELDS
+  pub few : length p.fields ≤ MAX_FIELDS
 
 -- the block is no head
 abbrev pub HasNoHead : List ℕ → Type 0

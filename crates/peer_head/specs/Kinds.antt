@@ -1,44 +1,24 @@
 -- Which of the fields that the rules on heads name a field is.
-use Rattle.std.specs.Prelude.{◌≡◌, ℕ, Bool, true, false, List, codes}
+use Rattle.std.specs.Prelude.{◌≡◌, ◌==◌, ℕ, Bool, List, codes}
 use Rattle.std.specs.Str.{str_eq_ignore_ascii_case}
 use Rattle.peer_head.specs.declared.field.FieldKind.{FieldKind}
 use Rattle.peer_head.specs.declared.field.FieldKind.TheVariants.{Host, Connection, ContentLength, TransferEncoding, Other}
 
--- the kind of a field Host
-abbrev pub is_host : FieldKind → Bool
-is_host Host = true
-is_host Connection = false
-is_host ContentLength = false
-is_host TransferEncoding = false
-is_host Other = false
+-- the place of a kind among the kinds
+abbrev pub number_of_kind : FieldKind → ℕ
+number_of_kind Host = 0
+number_of_kind Connection = 1
+number_of_kind ContentLength = 2
+number_of_kind TransferEncoding = 3
+number_of_kind Other = 4
 
--- the kind of a field Connection
-abbrev pub is_connection : FieldKind → Bool
-is_connection Host = false
-is_connection Connection = true
-is_connection ContentLength = false
-is_connection TransferEncoding = false
-is_connection Other = false
-
--- the kind of a field Content-Length
-abbrev pub is_content_length : FieldKind → Bool
-is_content_length Host = false
-is_content_length Connection = false
-is_content_length ContentLength = true
-is_content_length TransferEncoding = false
-is_content_length Other = false
-
--- the kind of a field Transfer-Encoding
-abbrev pub is_transfer_encoding : FieldKind → Bool
-is_transfer_encoding Host = false
-is_transfer_encoding Connection = false
-is_transfer_encoding ContentLength = false
-is_transfer_encoding TransferEncoding = true
-is_transfer_encoding Other = false
+-- the two kinds are the same
+abbrev pub is_same_kind : FieldKind → FieldKind → Bool
+is_same_kind one other = number_of_kind one == number_of_kind other
 
 -- the kind is told by the name without regard to case in ASCII
 pub record IsKindOf (name : List ℕ) (kind : FieldKind) : Type 0 where
-  pub host : str_eq_ignore_ascii_case name (codes "Host") ≡ is_host kind
-  pub connection : str_eq_ignore_ascii_case name (codes "Connection") ≡ is_connection kind
-  pub content_length : str_eq_ignore_ascii_case name (codes "Content-Length") ≡ is_content_length kind
-  pub transfer_encoding : str_eq_ignore_ascii_case name (codes "Transfer-Encoding") ≡ is_transfer_encoding kind
+  pub host : str_eq_ignore_ascii_case name (codes "Host") ≡ is_same_kind Host kind
+  pub connection : str_eq_ignore_ascii_case name (codes "Connection") ≡ is_same_kind Connection kind
+  pub content_length : str_eq_ignore_ascii_case name (codes "Content-Length") ≡ is_same_kind ContentLength kind
+  pub transfer_encoding : str_eq_ignore_ascii_case name (codes "Transfer-Encoding") ≡ is_same_kind TransferEncoding kind

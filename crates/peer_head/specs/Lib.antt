@@ -9,5 +9,5 @@ pub mod Laws
 pub mod Lending
 pub mod Pairs
 pub mod Looks
-pub mod Tallies
+pub mod Summaries
 pub mod Views

@@ -20,7 +20,8 @@ pub record ShowsHead (t : List ℕ) (p : HeadParts) : Type 0 where
 pub data IsFault (t : List ℕ) : HeadFault → Bool → Type 0 where
   too_long : IsTooLong t → IsFault t TooLong false
   no_head : (block rest : List ℕ) → Begins t block rest → HasNoHead block → IsFault t NotAHead false
-  of_head : (block rest : List ℕ) → Begins t block rest → (p : HeadParts) → IsHead block p → (f : HeadFault) → head_fault p ≡ Some f → IsFault t f (is_bare p)
+  of_head : (block rest : List ℕ) → Begins t block rest → (p : HeadParts) → IsHead block p → (f : HeadFault) → head_fault p ≡ Some f
+      → IsFault t f (is_bare p)
 
 -- what the text is
 abbrev pub LooksAs : List ℕ → Look → Type 0

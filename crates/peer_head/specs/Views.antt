@@ -3,7 +3,7 @@ use Rattle.std.specs.Prelude.{◌≡◌, ℕ, Bool, List, length, map, take}
 use Rattle.httparse.specs.declared.spans.HeaderSpan.{HeaderSpan}
 use Rattle.httparse.specs.declared.spans.RequestSpans.{RequestSpans}
 use Rattle.httparse.specs.Spans.{span_bytes, IsRequestWithin}
-use Rattle.peer_head.specs.Heads.{HeadField, HeadParts, IsHead, MOST_FIELDS}
+use Rattle.peer_head.specs.Heads.{HeadField, HeadParts, IsHead, MAX_FIELDS}
 use Rattle.peer_head.specs.Faults.{is_closing}
 
 -- the field that the spans cover
@@ -27,5 +27,5 @@ pub record IsHeadAt (block : List ℕ) (fields : List HeaderSpan) (r : RequestSp
 -- what a view keeps: its spans lie in the block, among places for the most fields, and it knows whether the head closes
 pub record IsViewOf (block : List ℕ) (fields : List HeaderSpan) (r : RequestSpans) (closing : Bool) : Type 0 where
   pub within : IsRequestWithin block fields r
-  pub few : length fields ≡ MOST_FIELDS
+  pub few : length fields ≡ MAX_FIELDS
   pub closes : closing ≡ is_closing (parts_at block fields r)

@@ -29,7 +29,10 @@ impl Model for HeadBuf {
 
     ghost Value = { HeldBytes };
 
-    ghost view = { λ b. record { held = take (b.end - b.start) (drop b.start b.bytes.items); free = drop (b.end - b.start) b.bytes.items } };
+    ghost view = { λ b. record {
+      held = take (b.end - b.start) (drop b.start b.bytes.items);
+      free = drop (b.end - b.start) b.bytes.items;
+    } };
 
     ghost use Rattle.std.specs.Prelude.{length};
 

@@ -6,7 +6,7 @@ ghost use Rattle.std.specs.Prelude.{◌≡◌, ◌<◌, ◌≤◌, length, map, 
 ghost use Rattle.httparse.specs.Spans.{IsHeaderWithin, IsRequestWithin};
 ghost use Rattle.peer_head.specs.Views.{field_at, parts_at};
 
-use crate::parse::MOST_FIELDS;
+use crate::parse::MAX_FIELDS;
 use httparse::spans::{HeaderSpan, RequestSpans};
 use std::marker::Model;
 
@@ -42,7 +42,7 @@ impl<'b> HeadView<'b> {
         closing: bool,
     ) -> HeadView<'b>
         requires within { IsRequestWithin block.now fields.now spans }
-        requires few { length fields.now ≡ MOST_FIELDS }
+        requires few { length fields.now ≡ MAX_FIELDS }
         requires closes { closing ≡ is_closing (parts_at block.now fields.now spans) }
         ensures { result ≡ parts_at block.now fields.now spans }
     {
@@ -76,7 +76,7 @@ impl<'b> HeadView<'b> {
 
     pub fn field_count(&self) -> usize
         ensures count { result ≡ length self.now.fields }
-        ensures within { result ≤ MOST_FIELDS }
+        ensures within { result ≤ MAX_FIELDS }
     {
         self.spans.headers
     }

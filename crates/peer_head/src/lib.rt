@@ -19,7 +19,7 @@ pub mod laws;
 mod look;
 mod parse;
 mod places;
-mod tally;
+mod summary;
 
 pub use buffer::{HEAD_LIMIT, HeadBuf};
 pub use fault::HeadFault;

@@ -1,7 +1,7 @@
 //! What the bytes at the front of a stream are: the cut, the parser and the rules on heads in turn.
 ghost use Rattle.std.specs.Prelude.{◌≡◌, List, ℕ, length};
 ghost use Rattle.peer_head.specs.Blocks.{Begins, IsFrontLength};
-ghost use Rattle.peer_head.specs.Heads.{MOST_FIELDS};
+ghost use Rattle.peer_head.specs.Heads.{MAX_FIELDS};
 ghost use Rattle.peer_head.specs.Looks.{LooksAs};
 ghost use Rattle.peer_head.specs.Views.{IsHeadAt};
 
@@ -9,7 +9,7 @@ use crate::block::{Cut, find_block};
 use crate::fault::HeadFault;
 use crate::head::{HeadView, is_bare};
 use crate::parse::parse_head;
-use crate::tally::tally_of;
+use crate::summary::summary_of;
 use httparse::spans::{HeaderSpan, RequestSpans};
 
 /// What the bytes at the front of a stream are.
@@ -24,7 +24,7 @@ pub enum Look<'b> {
 
 /// Looks at the first block of the text, and tells how many bytes it takes with the pairs before it.
 pub fn look_at<'b>(text: &'b [u8], places: &'b mut [HeaderSpan]) -> (Look<'b>, usize)
-    requires { length places.old ≡ MOST_FIELDS }
+    requires { length places.old ≡ MAX_FIELDS }
     ensures look { LooksAs text.now result.0 }
     ensures front { IsFrontLength text.now result.1 }
 {
@@ -37,7 +37,7 @@ pub fn look_at<'b>(text: &'b [u8], places: &'b mut [HeaderSpan]) -> (Look<'b>, u
 
 /// Reads a block, and asks the rules on heads.
 fn look_at_block<'b>(block: &'b [u8], places: &'b mut [HeaderSpan]) -> Look<'b>
-    requires { length places.old ≡ MOST_FIELDS }
+    requires { length places.old ≡ MAX_FIELDS }
     ensures { (text rest : List ℕ) → Begins text block.now rest → LooksAs text result }
 {
     match parse_head(block, places) {
@@ -49,12 +49,12 @@ fn look_at_block<'b>(block: &'b [u8], places: &'b mut [HeaderSpan]) -> Look<'b>
 /// Asks the rules on heads of a block that is one.
 fn judge<'b>(block: &'b [u8], spans: RequestSpans, fields: &'b [HeaderSpan]) -> Look<'b>
     requires head { IsHeadAt block.now fields.now spans }
-    requires few { length fields.now ≡ MOST_FIELDS }
+    requires few { length fields.now ≡ MAX_FIELDS }
     ensures { (text rest : List ℕ) → Begins text block.now rest → LooksAs text result }
 {
-    let tally = tally_of(block, &fields[..spans.headers]);
-    match tally.fault(spans.version) {
+    let summary = summary_of(block, &fields[..spans.headers]);
+    match summary.fault(spans.version) {
         Some(fault) => Look::Fault(fault, is_bare(spans.method.of(block))),
-        None => Look::Head(HeadView::new(block, spans, fields, tally.is_closing(spans.version))),
+        None => Look::Head(HeadView::new(block, spans, fields, summary.is_closing(spans.version))),
     }
 }

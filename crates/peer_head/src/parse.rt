@@ -10,11 +10,11 @@ use httparse::Status;
 use httparse::spans::{HeaderSpan, RequestSpans, parse_request};
 
 /// How many fields a head may have.
-pub const MOST_FIELDS: usize = 64;
+pub const MAX_FIELDS: usize = 64;
 
 /// Where the parts of the head stand that the block is, if it is one.
 pub fn parse_head(block: &[u8], fields: &mut [HeaderSpan]) -> Option<RequestSpans>
-    requires { length fields.old ≡ MOST_FIELDS }
+    requires { length fields.old ≡ MAX_FIELDS }
     ensures { MatchOption result (HasNoHead block.now) (IsHeadAt block.now fields.new) }
 {
     if !is_paired(block) {

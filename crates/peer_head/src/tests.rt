@@ -2,7 +2,8 @@
 ghost use Rattle.std.specs.Prelude.{◌≡◌, ◌≤◌, ◌++◌, length, take};
 
 use crate::{FieldPlaces, HeadBuf, HeadFault, Look};
-use std::alloc::AllocError;
+use std::alloc::{AllocError, Global};
+use std::process::Abort;
 use std::test::Fail;
 
 // Puts all the bytes behind those held.
@@ -44,16 +45,16 @@ fn word_of(look: &Look) -> &'static str {
 }
 
 // What a text is in one piece, by as much of it as there is room for.
-fn seen_whole(rt: &HostRuntime, text: &[u8]) -> Result<&'static str, AllocError> {
-    let mut buf = HeadBuf::new(rt.alloc())?;
+fn look_whole(alloc: Global, text: &[u8]) -> Result<&'static str, AllocError> {
+    let mut buf = HeadBuf::new(alloc)?;
     let room = buf.room().len();
     feed(&mut buf, &text[..text.len().min(room)]);
     Ok(word_of(&buf.look(&mut FieldPlaces::new()).0))
 }
 
 // The same byte by byte, by the first look that needs no more.
-fn seen_by_bytes(rt: &HostRuntime, text: &[u8]) -> Result<&'static str, AllocError> {
-    let mut buf = HeadBuf::new(rt.alloc())?;
+fn look_by_bytes(alloc: Global, text: &[u8]) -> Result<&'static str, AllocError> {
+    let mut buf = HeadBuf::new(alloc)?;
     let mut places = FieldPlaces::new();
     for b in text {
         if buf.room().is_empty() {
@@ -79,8 +80,9 @@ fn a_new_buffer_has_room(rt: HostRuntime) -> Result<(), Fail> {
 
 #[test]
 fn a_head_is_seen_at_its_last_byte(rt: HostRuntime) -> Result<(), Fail> {
-    let text =
-        b"GET /_groupcache/echo/k HTTP/1.1\r\nHost: 10.0.0.2:8000\r\nUser-Agent: Go-http-client/1.1\r\nAccept-Encoding: gzip\r\n\r\n".as_slice();
+    let text = b"GET /_groupcache/echo/k HTTP/1.1\r\nHost: 10.0.0.2:8000\r\n\
+          User-Agent: Go-http-client/1.1\r\nAccept-Encoding: gzip\r\n\r\n"
+        .as_slice();
     let mut buf = HeadBuf::new(rt.alloc())?;
     let mut places = FieldPlaces::new();
     for b in text {
@@ -111,9 +113,24 @@ fn a_head_is_seen_at_its_last_byte(rt: HostRuntime) -> Result<(), Fail> {
     Ok(())
 }
 
+// Checks what a text is, in one piece and byte by byte.
+fn check_text(rt: &impl Abort, alloc: Global, text: &[u8], word: &str) -> Result<(), AllocError> {
+    assert_eq!(rt; look_whole(alloc, text)?, word, "{text:?}");
+    assert_eq!(rt; look_by_bytes(alloc, text)?, word, "{text:?}");
+    Ok(())
+}
+
+// Checks what each text is.
+fn check_texts(rt: &impl Abort, alloc: Global, rows: &[(&[u8], &str)]) -> Result<(), AllocError> {
+    for (text, word) in rows {
+        check_text(rt, alloc, text, word)?;
+    }
+    Ok(())
+}
+
 #[test]
-fn small_texts(rt: HostRuntime) -> Result<(), Fail> {
-    let rows: [(&[u8], &str); 34] = [
+fn a_head_ends_with_its_first_empty_line(rt: HostRuntime) -> Result<(), Fail> {
+    let rows: [(&[u8], &str); 9] = [
         (b"", "need"),
         (b"\r", "need"),
         (b"\r\n\r\n\r\n", "need"),
@@ -123,25 +140,53 @@ fn small_texts(rt: HostRuntime) -> Result<(), Fail> {
         (b"HEAD /k HTTP/1.1\r\nHost: h\r\n\r\n", "bare head"),
         (b"head /k HTTP/1.1\r\nHost: h\r\n\r\n", "head"),
         (b"POST /k HTTP/1.1\r\nHost: h\r\n\r\n", "head"),
-        // A CR or an LF alone.
+    ];
+    check_texts(&rt, rt.alloc(), &rows)?;
+    Ok(())
+}
+
+#[test]
+fn a_cr_or_an_lf_alone_ends_no_line(rt: HostRuntime) -> Result<(), Fail> {
+    let rows: [(&[u8], &str); 5] = [
         (b"GET /k HTTP/1.1\nHost: h\n\n", "need"),
         (b"GET /k HTTP/1.1\nHost: h\r\n\r\n", "not a head"),
         (b"GET /k HTTP/1.1\r\nHost: h\nA: b\r\n\r\n", "not a head"),
         (b"GET /k HTTP/1.1\r\nHost: h\rA: b\r\n\r\n", "not a head"),
         (b"\nGET /k HTTP/1.1\r\nHost: h\r\n\r\n", "not a head"),
-        // Bytes of a target that are not visible ASCII, a version, a name with a space.
+    ];
+    check_texts(&rt, rt.alloc(), &rows)?;
+    Ok(())
+}
+
+#[test]
+fn targets_are_visible_and_names_have_no_space(rt: HostRuntime) -> Result<(), Fail> {
+    let rows: [(&[u8], &str); 4] = [
         (b"GET /\xff HTTP/1.1\r\nHost: h\r\n\r\n", "not a head"),
         (b"GET /\x7f HTTP/1.1\r\nHost: h\r\n\r\n", "not a head"),
         (b"GET /k HTTP/2.0\r\nHost: h\r\n\r\n", "not a head"),
         (b"GET /k HTTP/1.1\r\nHost : h\r\n\r\n", "not a head"),
-        // Hosts.
+    ];
+    check_texts(&rt, rt.alloc(), &rows)?;
+    Ok(())
+}
+
+#[test]
+fn a_head_has_one_host(rt: HostRuntime) -> Result<(), Fail> {
+    let rows: [(&[u8], &str); 6] = [
         (b"GET /k HTTP/1.1\r\n\r\n", "host"),
         (b"GET /k HTTP/1.1\r\nHost: h\r\nhost: h\r\n\r\n", "host"),
         (b"HEAD /k HTTP/1.1\r\n\r\n", "bare host"),
         (b"GET /k HTTP/1.0\r\n\r\n", "closing head"),
         (b"GET /k HTTP/1.0\r\nHost: h\r\n\r\n", "closing head"),
         (b"GET /k HTTP/1.0\r\nHost: h\r\nHOST: i\r\n\r\n", "host"),
-        // Connections.
+    ];
+    check_texts(&rt, rt.alloc(), &rows)?;
+    Ok(())
+}
+
+#[test]
+fn close_is_an_element_of_connection(rt: HostRuntime) -> Result<(), Fail> {
+    let rows: [(&[u8], &str); 3] = [
         (
             b"GET /k HTTP/1.1\r\nHost: h\r\nConnection: Keep-Alive, CLOSE\r\n\r\n",
             "closing head",
@@ -154,7 +199,14 @@ fn small_texts(rt: HostRuntime) -> Result<(), Fail> {
             b"HEAD /k HTTP/1.1\r\nHost: h\r\nCONNECTION: a\r\nConnection:\tclose ,b\r\n\r\n",
             "bare closing head",
         ),
-        // Content lengths and transfer codings.
+    ];
+    check_texts(&rt, rt.alloc(), &rows)?;
+    Ok(())
+}
+
+#[test]
+fn a_head_announces_no_content(rt: HostRuntime) -> Result<(), Fail> {
+    let rows: [(&[u8], &str); 7] = [
         (
             b"GET /k HTTP/1.1\r\nHost: h\r\nContent-Length: 00\r\n\r\n",
             "head",
@@ -184,10 +236,7 @@ fn small_texts(rt: HostRuntime) -> Result<(), Fail> {
             "bare fault",
         ),
     ];
-    for (text, word) in rows {
-        assert_eq!(rt; seen_whole(&rt, text)?, word, "{text:?}");
-        assert_eq!(rt; seen_by_bytes(&rt, text)?, word, "{text:?}");
-    }
+    check_texts(&rt, rt.alloc(), &rows)?;
     Ok(())
 }
 
@@ -215,8 +264,7 @@ fn the_limit_counts_the_pairs(rt: HostRuntime) -> Result<(), Fail> {
     ];
     for (pairs, letters, word) in rows {
         let text = long_head(&rt, pairs, letters)?;
-        assert_eq!(rt; seen_whole(&rt, &text)?, word);
-        assert_eq!(rt; seen_by_bytes(&rt, &text)?, word);
+        check_text(&rt, rt.alloc(), &text, word)?;
     }
     Ok(())
 }
@@ -228,8 +276,7 @@ fn pairs_alone_are_too_long_in_the_end(rt: HostRuntime) -> Result<(), Fail> {
         for _ in 0..pairs {
             text.extend_from_slice(b"\r\n")?;
         }
-        assert_eq!(rt; seen_whole(&rt, &text)?, word);
-        assert_eq!(rt; seen_by_bytes(&rt, &text)?, word);
+        check_text(&rt, rt.alloc(), &text, word)?;
     }
     Ok(())
 }
@@ -243,8 +290,7 @@ fn a_head_has_64_fields_at_most(rt: HostRuntime) -> Result<(), Fail> {
             text.extend_from_slice(b"Name: value\r\n")?;
         }
         text.extend_from_slice(b"\r\n")?;
-        assert_eq!(rt; seen_whole(&rt, &text)?, word);
-        assert_eq!(rt; seen_by_bytes(&rt, &text)?, word);
+        check_text(&rt, rt.alloc(), &text, word)?;
     }
     Ok(())
 }
@@ -268,8 +314,10 @@ fn take_heads(buf: &mut HeadBuf, targets: &[&[u8]], mut taken: usize) -> usize {
 
 #[test]
 fn requests_are_cut_at_every_pair_of_places(rt: HostRuntime) -> Result<(), Fail> {
-    let text =
-        b"GET /_groupcache/echo/a HTTP/1.1\r\nHost: h\r\n\r\nGET /_groupcache/echo/b HTTP/1.1\r\nHost: h\r\n\r\nGET /_groupcache/echo/c HTTP/1.1\r\nHost: h\r\n\r\n".as_slice();
+    let text = b"GET /_groupcache/echo/a HTTP/1.1\r\nHost: h\r\n\r\n\
+          GET /_groupcache/echo/b HTTP/1.1\r\nHost: h\r\n\r\n\
+          GET /_groupcache/echo/c HTTP/1.1\r\nHost: h\r\n\r\n"
+        .as_slice();
     let targets = [
         b"/_groupcache/echo/a".as_slice(),
         b"/_groupcache/echo/b",

@@ -11,7 +11,7 @@ use peer_view::ByteView;
 use std::alloc::{AllocError, Global};
 
 // A ticket that bears this number as the name of a group.
-fn numbered(alloc: Global, number: u8) -> Result<Ticket<DemoSource>, AllocError> {
+fn ticket_with(alloc: Global, number: u8) -> Result<Ticket<DemoSource>, AllocError> {
     let name = ByteView::copy_of(alloc, &[number])?;
     Ok(Ticket {
         closing: false,
@@ -21,7 +21,7 @@ fn numbered(alloc: Global, number: u8) -> Result<Ticket<DemoSource>, AllocError>
 }
 
 // Whether there is a ticket, and it bears this number.
-fn bears(ticket: Option<Ticket<DemoSource>>, number: u8) -> bool {
+fn has_number(ticket: Option<Ticket<DemoSource>>, number: u8) -> bool {
     let Some(ticket) = ticket else {
         return false;
     };

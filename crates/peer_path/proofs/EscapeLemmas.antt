@@ -1,5 +1,6 @@
 -- What decoding does to a path, by its first `%`.
-use Rattle.std.proofs.Common.{◌≡◌, ℕ, true, false, List, [], ◌∷◌, ◌++◌, length, take, drop, All, Some, None, sym, refl, ap, ◌∙◌, arith, append-nil}
+use Rattle.std.proofs.Common.{◌≡◌, ℕ, true, false, List, [], ◌∷◌, ◌++◌, length, take, drop, All, Some, None}
+use Rattle.std.proofs.Common.{sym, refl, ap, ◌∙◌, arith, append-nil}
 use Rattle.std.specs.List.{list_all}
 use Rattle.std.proofs.lemmas.Bool.{false≢true, eq-eqb}
 use Rattle.std.proofs.lemmas.List.{take-append-drop}
@@ -26,12 +27,15 @@ percent_decode-plain_front (b ∷ front) rest plain =
 -- decoding leaves a path without `%` as it is
 pub percent_decode-plain : (path : List ℕ) → All IsPlain path → percent_decode path ≡ path
 percent_decode-plain path plain =
-    ap percent_decode (sym (append-nil path)) ∙ percent_decode-plain_front path [] plain ∙ ap (λ l. path ++ l) percent_decode-nil ∙ append-nil path
+    ap percent_decode (sym (append-nil path)) ∙ percent_decode-plain_front path [] plain ∙ ap (λ l. path ++ l) percent_decode-nil
+    ∙ append-nil path
 
 -- decoding begins at the first `%`
-pub percent_decode-found : (path : List ℕ) (k : ℕ) → IsFirstByte (is_byte percent_sign) path (Some k) → percent_decode path ≡ take k path ++ percent_decode (drop k path)
+pub percent_decode-found : (path : List ℕ) (k : ℕ) → IsFirstByte (is_byte percent_sign) path (Some k)
+    → percent_decode path ≡ take k path ++ percent_decode (drop k path)
 percent_decode-found path k found =
-    ap percent_decode (sym (take-append-drop k path)) ∙ percent_decode-plain_front (take k path) (drop k path) (All-before_found (is_byte percent_sign) path k found)
+    ap percent_decode (sym (take-append-drop k path))
+    ∙ percent_decode-plain_front (take k path) (drop k path) (All-before_found (is_byte percent_sign) path k found)
 
 -- a path without `%` has no bad escape
 pub has_good_escapes-plain : (path : List ℕ) → IsFirstByte (is_byte percent_sign) path None → has_good_escapes path ≡ true

@@ -1,5 +1,6 @@
 -- The parts of a decoded path, by the places that the code finds.
-use Rattle.std.proofs.Common.{◌≡◌, ℕ, ◌+◌, true, List, length, take, drop, nat_eq, Some, None, Result, Ok, Err, ◌-◌, sym, refl, ap, ◌∙◌, arith}
+use Rattle.std.proofs.Common.{◌≡◌, ℕ, ◌+◌, true, List, length, take, drop, nat_eq, Some, None, Result}
+use Rattle.std.proofs.Common.{Ok, Err, ◌-◌, sym, refl, ap, ◌∙◌, arith}
 use Rattle.std.specs.List.{starts_with}
 use Rattle.std.proofs.lemmas.List.{drop-drop}
 use Rattle.std.proofs.lemmas.Slice.Eq.{bytes_eq-Decides}
@@ -9,7 +10,8 @@ use Rattle.peer_path.specs.Places.{PlaceParts, Refusal, NoKey, slash, base_path,
 use Rattle.peer_path.proofs.Searches.{position_or_len-found, list_any-found, list_any-absent}
 
 -- a path that begins with the base path leads where what is left of it leads
-pub place_below_base-base : (path rest : List ℕ) → pointwise nat_eq (take (length base_path) path) base_path ≡ true → rest ≡ drop (length base_path) path → place_below_base path ≡ split_key rest
+pub place_below_base-base : (path rest : List ℕ) → pointwise nat_eq (take (length base_path) path) base_path ≡ true
+    → rest ≡ drop (length base_path) path → place_below_base path ≡ split_key rest
 place_below_base-base path rest begins behind =
     let starts : starts_with nat_eq path base_path ≡ true =
     (bytes_eq-Decides base_path _).1 (sym ((bytes_eq-Decides (take (length base_path) path) base_path).0 begins)) in
@@ -20,7 +22,8 @@ abbrev parts_of : List ℕ → List ℕ → Result PlaceParts Refusal
 parts_of g k = Ok (record { group = g; key = k })
 
 -- the first `/` of what is left parts group and key
-pub split_key-found : (rest : List ℕ) (k : ℕ) → IsFirstByte (is_byte slash) rest (Some k) → split_key rest ≡ parts_of (take k rest) (drop (k + 1) rest)
+pub split_key-found : (rest : List ℕ) (k : ℕ) → IsFirstByte (is_byte slash) rest (Some k)
+    → split_key rest ≡ parts_of (take k rest) (drop (k + 1) rest)
 split_key-found rest k found = rw (list_any-found (is_byte slash) rest k found, position_or_len-found (is_byte slash) rest k found) refl
 
 -- with no `/` left there is no key
@@ -28,7 +31,8 @@ pub split_key-absent : (rest : List ℕ) → IsFirstByte (is_byte slash) rest No
 split_key-absent rest absent = rw (list_any-absent (is_byte slash) rest absent) refl
 
 -- the parts as a place keeps them: by the index of that `/` in the whole path
-pub parts_at : (path rest : List ℕ) (k : ℕ) → rest ≡ drop 13 path → parts_of (take k rest) (drop (k + 1) rest) ≡ parts_of (take (13 + k - 13) (drop 13 path)) (drop (13 + k + 1) path)
+pub parts_at : (path rest : List ℕ) (k : ℕ) → rest ≡ drop 13 path
+    → parts_of (take k rest) (drop (k + 1) rest) ≡ parts_of (take (13 + k - 13) (drop 13 path)) (drop (13 + k + 1) path)
 parts_at path rest k behind =
     let back : 13 + k - 13 ≡ k = omega arith in
     let ahead : 13 + (k + 1) ≡ 13 + k + 1 = omega arith in

@@ -1,6 +1,7 @@
 -- The place that a request target names: a group and a key, or the first reason why it names none.
 -- RFC 9112, section 3.2; RFC 3986, section 2.1; groupcache `http.go`, `ServeHTTP`.
-use Rattle.std.specs.Prelude.{ℕ, ◌+◌, Bool, false, ◌&&◌, List, ◌∷◌, length, drop, map, slice_index, nat_eq, codes, Option, Some, None, Result, Ok, Err, if◌then◌else◌}
+use Rattle.std.specs.Prelude.{ℕ, ◌+◌, Bool, false, ◌&&◌, List, ◌∷◌, length, drop, map, slice_index, nat_eq, codes}
+use Rattle.std.specs.Prelude.{Option, Some, None, Result, Ok, Err, if◌then◌else◌}
 use Rattle.std.specs.Char.{to_ascii_lowercase}
 use Rattle.std.specs.List.{starts_with, before_first, after_first, list_any, list_all}
 use Rattle.std.specs.Option.{option_map_or}
@@ -45,7 +46,8 @@ before_query target = before_first (is_byte question_mark) target
 abbrev pub path_of : List ℕ → Option (List ℕ)
 path_of target =
     if starts_with nat_eq target (codes "/") then Some target
-    else (if starts_with nat_eq (map to_ascii_lowercase target) http then Some (slash ∷ after_first (is_byte slash) (drop (length http) target))
+    else (if starts_with nat_eq (map to_ascii_lowercase target) http then Some
+    (slash ∷ after_first (is_byte slash) (drop (length http) target))
     else None)
 
 -- place k of the path has `%` and two hexadecimal digits of either case (RFC 3986, section 2.1)

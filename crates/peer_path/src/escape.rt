@@ -30,7 +30,7 @@ fn has_good_escapes(path: &[u8]) -> bool
 }
 
 /// The path with each escape decoded, which is the path itself where it has none.
-pub fn decoded<'t>(alloc: Global, path: &'t [u8]) -> Result<CowSlice<'t, u8>, PathFault>
+pub fn decode_path<'t>(alloc: Global, path: &'t [u8]) -> Result<CowSlice<'t, u8>, PathFault>
     ensures good { IfOk result (λ _. IsTrue (spec.has_good_escapes path.now)) }
     ensures bytes { IfOk result (λ d. cow_slice_items d ≡ percent.percent_decode path.now) }
     ensures fault { IfErr result (IsDecodeFault path.now) }
@@ -41,14 +41,14 @@ pub fn decoded<'t>(alloc: Global, path: &'t [u8]) -> Result<CowSlice<'t, u8>, Pa
     if !has_good_escapes(path) {
         return Err(PathFault::Escape);
     }
-    match decoded_from(alloc, path, first) {
+    match decode_from(alloc, path, first) {
         Ok(bytes) => Ok(CowSlice::Owned(bytes)),
         Err(_) => Err(PathFault::Memory),
     }
 }
 
 // The decoded bytes of a path whose first `%` stands at this place.
-fn decoded_from(alloc: Global, path: &[u8], first: usize) -> Result<Vec<u8>, AllocError>
+fn decode_from(alloc: Global, path: &[u8], first: usize) -> Result<Vec<u8>, AllocError>
     requires { IsFirstByte (is_byte percent.percent_sign) path.now (Some first) }
     ensures { IfOk result (λ v. v.items ≡ percent.percent_decode path.now) }
 {

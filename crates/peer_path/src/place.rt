@@ -2,7 +2,7 @@
 ghost use Rattle.std.specs.Prelude.{◌≡◌, IfOk, IfErr, Ok};
 ghost use Rattle.std.specs.Cow.{cow_slice_items};
 
-use crate::escape::decoded;
+use crate::escape::decode_path;
 use crate::fault::PathFault;
 use crate::target::{before_query, path_of};
 use memchr::memchr;
@@ -86,5 +86,5 @@ pub fn locate<'t>(alloc: Global, target: &'t [u8]) -> Result<Place<'t>, PathFaul
     let Some(path) = path_of(before_query(target)) else {
         return Err(PathFault::Target);
     };
-    Place::of_path(decoded(alloc, path)?)
+    Place::of_path(decode_path(alloc, path)?)
 }

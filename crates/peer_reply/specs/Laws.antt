@@ -8,7 +8,9 @@ use Rattle.peer_reply.specs.declared.response.PbFault.{PbFault}
 
 -- no body is a proper prefix of another, and equal bodies have equal values
 abbrev pub BodiesDiffer : Type 0
-BodiesDiffer = (value other more : List ℕ) → length value ≤ MAX_VALUE → length other ≤ MAX_VALUE → body_of value ++ more ≡ body_of other → (more ≡ []) × (value ≡ other)
+BodiesDiffer =
+    (value other more : List ℕ) → length value ≤ MAX_VALUE → length other ≤ MAX_VALUE → body_of value ++ more ≡ body_of other
+    → (more ≡ []) × (value ≡ other)
 
 -- at most one fault applies ..
 abbrev pub HasOneFault : Type 0

@@ -3,7 +3,8 @@ use Rattle.std.specs.Prelude.{ℕ, Bool, cond, List, [], ◌∷◌, ◌++◌, le
 use Rattle.std.specs.Borrow.{Bor}
 use Rattle.peer_source.specs.Answers.{Answer, Found, Failed}
 use Rattle.peer_reply.specs.declared.fault.Fault.{Fault}
-use Rattle.peer_reply.specs.declared.fault.Fault.TheVariants.{TooLong, NotAHead, TransferCoding, BadLength, Content, Host, Method, Target, Escape, Outside, NoKey, NoGroup}
+use Rattle.peer_reply.specs.declared.fault.Fault.TheVariants.{TooLong, NotAHead, TransferCoding, BadLength, Content, Host, Method, Target}
+use Rattle.peer_reply.specs.declared.fault.Fault.TheVariants.{Escape, Outside, NoKey, NoGroup}
 use Rattle.peer_reply.specs.Bodies.{body_of}
 
 abbrev pub crlf : List ℕ
@@ -31,7 +32,8 @@ value_start = status_line (codes "200 OK") ++ field (codes "Content-Type") (code
 
 abbrev pub text_start : List ℕ → List ℕ
 text_start status =
-    status_line status ++ field (codes "Content-Type") (codes "text/plain; charset=utf-8") ++ field (codes "X-Content-Type-Options") (codes "nosniff")
+    status_line status ++ field (codes "Content-Type") (codes "text/plain; charset=utf-8")
+    ++ field (codes "X-Content-Type-Options") (codes "nosniff")
 
 abbrev pub method_start : List ℕ
 method_start = status_line (codes "405 Method Not Allowed") ++ field (codes "Allow") (codes "GET, HEAD")

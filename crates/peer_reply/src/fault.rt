@@ -65,7 +65,8 @@ impl Fault {
         ensures text { length result.text.now ≤ 40 }
         ensures ending { length result.ending.now ≤ 1 }
         ensures reply { (closing bare : Bool) → let content = result.text.now ++ group_name self.now ++ result.ending.now in
-            fault_reply closing bare self.now ≡ result.start.now ++ decimal (length content) ++ crlf ++ connection_field closing ++ crlf ++ cond bare [] content }
+            fault_reply closing bare self.now ≡ result.start.now ++ decimal (length content) ++ crlf ++ connection_field closing ++ crlf
+            ++ cond bare [] content }
     {
         match self {
             Fault::TooLong => text_line(HEAD_TOO_LARGE, b"head too long"),

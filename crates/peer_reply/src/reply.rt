@@ -60,7 +60,12 @@ fn reply_of<'a>(
 }
 
 // Four slices, lent for no longer than the first.
-fn four<'s>(head: &'s [u8], opening: &'s [u8], value: &'s [u8], ending: &'s [u8]) -> [&'s [u8]; 4]
+fn array_of_parts<'s>(
+    head: &'s [u8],
+    opening: &'s [u8],
+    value: &'s [u8],
+    ending: &'s [u8],
+) -> [&'s [u8]; 4]
     ensures { joined result ≡ head.now ++ (opening.now ++ value.now ++ ending.now) }
 {
     [head, opening, value, ending]
@@ -127,6 +132,6 @@ impl<'a> Reply<'a> {
     pub fn parts(&self) -> [&[u8]; 4]
         ensures { joined result ≡ self.now }
     {
-        four(self.head, self.opening.as_slice(), self.value, self.ending)
+        array_of_parts(self.head, self.opening.as_slice(), self.value, self.ending)
     }
 }

@@ -41,13 +41,13 @@ fn read_value(bytes: &[u8]) -> Result<&[u8], PbFault>
     ensures { ReadsAs (10 ∷ bytes.now) result }
 {
     match read_length(bytes) {
-        Ok(length) => exactly(length.rest, length.value),
+        Ok(length) => check_length(length.rest, length.value),
         Err(fault) => Err(fault),
     }
 }
 
 // The bytes, where they are so many.
-fn exactly(bytes: &[u8], count: usize) -> Result<&[u8], PbFault>
+fn check_length(bytes: &[u8], count: usize) -> Result<&[u8], PbFault>
     ensures { HoldsExactly count bytes.now result }
 {
     if bytes.len() < count {

@@ -69,7 +69,9 @@ fn replies_with_an_error_of_the_source(rt: HostRuntime) -> Result<(), Fail> {
     let reply = Reply::of_fill(&mut room, &fill, false, false).expect(&rt, "a reply");
     assert_eq!(rt;
         text_of(alloc, &reply)?.as_slice(),
-        b"HTTP/1.1 500 Internal Server Error\r\nContent-Type: text/plain; charset=utf-8\r\nX-Content-Type-Options: nosniff\r\nContent-Length: 13\r\n\r\nnot a number\n".as_slice()
+        b"HTTP/1.1 500 Internal Server Error\r\nContent-Type: text/plain; charset=utf-8\r\n\
+          X-Content-Type-Options: nosniff\r\nContent-Length: 13\r\n\r\nnot a number\n"
+            .as_slice()
     );
     Ok(())
 }

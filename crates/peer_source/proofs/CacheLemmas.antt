@@ -8,7 +8,8 @@ use Rattle.std.proofs.lemmas.List.{length-take}
 use Rattle.std.proofs.lemmas.List.Elements.{All-cons, All-take}
 use Rattle.lru.specs.LruCache.{LruCache, lru_cache, promoted}
 use Rattle.peer_source.specs.Answers.{Answer}
-use Rattle.peer_source.specs.Caches.{MAX_ENTRIES, Cache, Entry, IsAnswer, Keeps, bytes_of, bytes_in, brought_to_front, fitting, looked_up, put_first, without}
+use Rattle.peer_source.specs.Caches.{MAX_ENTRIES, Cache, Entry, IsAnswer, Keeps, bytes_of, bytes_in, brought_to_front}
+use Rattle.peer_source.specs.Caches.{fitting, looked_up, put_first, without}
 use Rattle.peer_source.proofs.EntryLemmas.{IsThere, All-there, All-without, first_of, promoted_there, take_first}
 use Rattle.peer_source.proofs.FittingLemmas.{All-fitting, length-fitting}
 
@@ -20,15 +21,18 @@ abbrev pub cache_of : ℕ → ℕ → Kept → Cache
 cache_of group limit kept = record { group = group; limit = limit; entries = kept.entries }
 
 -- a look-up in the entries finds what the cache has
-pub not_missing : (group limit : ℕ) (kept : Kept) (k v : List ℕ) (c : Cache) → cache_of group limit kept ≡ c → Some v ≡ lookup (bytes_eq k) kept.entries → looked_up k c ≡ None → ⊥
+pub not_missing : (group limit : ℕ) (kept : Kept) (k v : List ℕ) (c : Cache) → cache_of group limit kept ≡ c
+    → Some v ≡ lookup (bytes_eq k) kept.entries → looked_up k c ≡ None → ⊥
 not_missing group limit kept k v c is found missing = none-some v (sym missing ∙ ap (looked_up k) (sym is) ∙ sym found)
 
-module _ (kept new : Kept) (k v : List ℕ) (there : IsThere k kept.entries v) (moved : new ≡ lru_cache (promoted (bytes_eq k) kept.entries) kept.cap) where
+module _ (kept new : Kept) (k v : List ℕ) (there : IsThere k kept.entries v)
+    (moved : new ≡ lru_cache (promoted (bytes_eq k) kept.entries) kept.cap) where
   in_front : new ≡ lru_cache ((k, v) ∷ without k kept.entries) kept.cap
   in_front = moved ∙ ap (λ es. lru_cache es kept.cap) (promoted_there k kept.entries v there)
 
   -- what is kept is the same in another order
-  pub Keeps-front : (allowed : ℕ → List ℕ → Answer → Type 0) (group limit bytes : ℕ) → Keeps allowed group limit bytes kept → Keeps allowed group limit bytes new
+  pub Keeps-front : (allowed : ℕ → List ℕ → Answer → Type 0) (group limit bytes : ℕ) → Keeps allowed group limit bytes kept
+      → Keeps allowed group limit bytes new
   Keeps-front allowed group limit bytes old =
       subst (Keeps allowed group limit bytes) (sym in_front) (record {
         sum = old.sum ∙ sym there.sum;
@@ -36,7 +40,9 @@ module _ (kept new : Kept) (k v : List ℕ) (there : IsThere k kept.entries v) (
         room = old.room;
         most = omega (arith, old.most, there.size);
         off = λ zero. absurd (none-some v (ap (lookup (bytes_eq k)) (sym (old.off zero)) ∙ there.value));
-        answers = All-cons (IsAnswer allowed group) (k, v) (without k kept.entries) (All-there (IsAnswer allowed group) k kept.entries v old.answers there) (All-without (IsAnswer allowed group) k kept.entries old.answers);
+        answers = All-cons (IsAnswer allowed group) (k, v) (without k kept.entries)
+            (All-there (IsAnswer allowed group) k kept.entries v old.answers there)
+            (All-without (IsAnswer allowed group) k kept.entries old.answers);
       })
 
   pub cache_of-front : (group limit : ℕ) → cache_of group limit new ≡ brought_to_front k (cache_of group limit kept)
@@ -74,7 +80,8 @@ module _ (kept put new : Kept) (k v : List ℕ) (limit room others : ℕ)
   cache_of-put group = ap (cache_of group limit) new_is ∙ ap (λ es. cache_of group limit (lru_cache es kept.cap)) (sym fits_is)
 
   -- what is kept is the entry, and behind it what fits beside it
-  pub Keeps-put : (allowed : ℕ → List ℕ → Answer → Type 0) (group bytes : ℕ) → Keeps allowed group limit bytes kept → IsAnswer allowed group (k, v) → 0 < limit → others ≤ room → Keeps allowed group limit (others + (limit - room)) new
+  pub Keeps-put : (allowed : ℕ → List ℕ → Answer → Type 0) (group bytes : ℕ) → Keeps allowed group limit bytes kept
+      → IsAnswer allowed group (k, v) → 0 < limit → others ≤ room → Keeps allowed group limit (others + (limit - room)) new
   Keeps-put allowed group bytes old answer on small =
       let P = IsAnswer allowed group in
       let rest = take (kept.cap - 1) (without k kept.entries) in
@@ -85,5 +92,6 @@ module _ (kept put new : Kept) (k v : List ℕ) (limit room others : ℕ)
         room = most;
         off = λ zero. absurd (omega (arith, on, zero));
         most = omega (arith, length-fitting room rest, length-take (kept.cap - 1) (without k kept.entries), most);
-        answers = All-cons P (k, v) (fitting room rest) answer (All-fitting P room rest (All-take P (kept.cap - 1) (without k kept.entries) (All-without P k kept.entries old.answers)));
+        answers = All-cons P (k, v) (fitting room rest) answer
+            (All-fitting P room rest (All-take P (kept.cap - 1) (without k kept.entries) (All-without P k kept.entries old.answers)));
       })

@@ -1,5 +1,6 @@
 -- What the words on the entries of a map give where keys are bytes.
-use Rattle.std.proofs.Common.{◌≡◌, ℕ, zero, suc, ◌+◌, ◌-◌, ◌<◌, ◌≤◌, true, false, ◌⊎◌, List, [], ◌∷◌, length, take, slice_get, All, Contains, Option, Some, None, refl, sym, ap, ◌∙◌, subst, inl, inr, arith}
+use Rattle.std.proofs.Common.{◌≡◌, ℕ, zero, suc, ◌+◌, ◌-◌, ◌<◌, ◌≤◌, true, false, ◌⊎◌, List, [], ◌∷◌, length, take, slice_get, All}
+use Rattle.std.proofs.Common.{Contains, Option, Some, None, refl, sym, ap, ◌∙◌, subst, inl, inr, arith}
 use Rattle.std.specs.Prelude.{bytes_eq}
 use Rattle.std.specs.Map.{lookup, lookup_entry}
 use Rattle.std.proofs.lemmas.Slice.Eq.{bytes_eq-Decides}
@@ -66,7 +67,8 @@ cases_key k (e ∷ es) =
 -- what holds of each entry holds of the others than the one with the key
 pub All-without : (P : Entry → Type 0) (k : List ℕ) (es : List Entry) → All P es → All P (without k es)
 All-without P k es all =
-    All-weaker (Contains (without k es)) P (λ e here. All-contains P es e all (Contains-remove_entry (bytes_eq k) es e here)) (without k es) (All-contains_itself (without k es))
+    All-weaker (Contains (without k es)) P (λ e here. All-contains P es e all (Contains-remove_entry (bytes_eq k) es e here)) (without k es)
+    (All-contains_itself (without k es))
 
 -- what holds of each entry holds of the one with the key
 pub All-there : (P : Entry → Type 0) (k : List ℕ) (es : List Entry) (v : List ℕ) → All P es → IsThere k es v → P (k, v)
@@ -107,7 +109,8 @@ pushes c k v most some =
         others = rw (none.value, none.others) (at_end (c.cap - 1) c.entries (omega arith));
       }
       | inr there ↦
-          let all : take (c.cap - 1) (without k c.entries) ≡ without k c.entries = take_all (c.cap - 1) (without k c.entries) (omega (arith, there.1.size)) in
+          let all : take (c.cap - 1) (without k c.entries) ≡ without k c.entries =
+          take_all (c.cap - 1) (without k c.entries) (omega (arith, there.1.size)) in
           record {
             entries = rw there.1.entry (sym (take_first c.cap (k, v) (without k c.entries) some ∙ ap (λ l. (k, v) ∷ l) all));
             first = ap bytes_in (take_first c.cap (k, v) (without k c.entries) some);

@@ -1,5 +1,6 @@
 -- What fits a room, and what the last entry takes away.
-use Rattle.std.proofs.Common.{◌≡◌, ℕ, suc, ◌+◌, ◌-◌, ◌<◌, ◌≤◌, true, false, cond, List, [], ◌∷◌, ◌++◌, length, take, drop, slice_get, All, Some, None, refl, sym, ap, ◌∙◌, arith}
+use Rattle.std.proofs.Common.{◌≡◌, ℕ, suc, ◌+◌, ◌-◌, ◌<◌, ◌≤◌, true, false, cond, List, [], ◌∷◌, ◌++◌, length, take, drop}
+use Rattle.std.proofs.Common.{slice_get, All, Some, None, refl, sym, ap, ◌∙◌, arith}
 use Rattle.std.specs.Prelude.{nat_le}
 use Rattle.std.proofs.lemmas.Bool.{le-leb, leb-true}
 use Rattle.std.proofs.lemmas.Option.{none-some, same_Some}
@@ -19,7 +20,8 @@ fitting_all room (e ∷ es) small =
 pub bytes_in-fitting : (room : ℕ) (es : List Entry) → bytes_in (fitting room es) ≤ room
 bytes_in-fitting room [] = omega arith
 bytes_in-fitting room (e ∷ es) =
-    (elim (nat_le (bytes_of e) room) as (λ b. nat_le (bytes_of e) room ≡ b → bytes_in (cond b (e ∷ fitting (room - bytes_of e) es) []) ≤ room) [
+    (elim (nat_le (bytes_of e) room) as (λ b. nat_le (bytes_of e) room ≡ b
+    → bytes_in (cond b (e ∷ fitting (room - bytes_of e) es) []) ≤ room) [
       | true ↦ λ fits. omega (arith, leb-true (bytes_of e) room fits, bytes_in-fitting (room - bytes_of e) es)
       | false ↦ λ _. omega arith
     ]) refl
@@ -38,7 +40,8 @@ pub All-fitting : (P : Entry → Type 0) (room : ℕ) (es : List Entry) → All 
 All-fitting P room [] all = all
 All-fitting P room (e ∷ es) all =
     elim (nat_le (bytes_of e) room) as (λ b. All P (cond b (e ∷ fitting (room - bytes_of e) es) [])) [
-      | true ↦ All-cons P e (fitting (room - bytes_of e) es) (All-head P e es all) (All-fitting P (room - bytes_of e) es (All-tail P e es all))
+      | true ↦ All-cons P e (fitting (room - bytes_of e) es) (All-head P e es all)
+          (All-fitting P (room - bytes_of e) es (All-tail P e es all))
       | false ↦ All-nil P
     ]
 
@@ -66,7 +69,8 @@ fitting-but_last room (e ∷ []) large =
     ]) refl
 fitting-but_last room (e ∷ f ∷ es) large =
     rw (but_last-cons e f es)
-    ((elim (nat_le (bytes_of e) room) as (λ b. nat_le (bytes_of e) room ≡ b → cond b (e ∷ fitting (room - bytes_of e) (but_last (f ∷ es))) [] ≡ cond b (e ∷ fitting (room - bytes_of e) (f ∷ es)) []) [
+    ((elim (nat_le (bytes_of e) room) as (λ b. nat_le (bytes_of e) room ≡ b
+    → cond b (e ∷ fitting (room - bytes_of e) (but_last (f ∷ es))) [] ≡ cond b (e ∷ fitting (room - bytes_of e) (f ∷ es)) []) [
       | true ↦ λ fits. ap (λ l. e ∷ l) (fitting-but_last (room - bytes_of e) (f ∷ es) (omega (arith, leb-true (bytes_of e) room fits)))
       | false ↦ λ _. refl
     ]) refl)
@@ -95,7 +99,8 @@ popped room [] x large last = absurd (none-some x last)
 popped room (e ∷ []) x large last = absurd (omega arith)
 popped room (e ∷ f ∷ es) x large last = record {
   first = ap (take 1) (but_last-cons e f es);
-  others = ap (λ l. bytes_in (drop 1 l) + bytes_of x) (but_last-cons e f es) ∙ bytes_in-but_last (f ∷ es) x (sym (last_entry-cons e f es) ∙ last);
+  others = ap (λ l. bytes_in (drop 1 l) + bytes_of x) (but_last-cons e f es)
+      ∙ bytes_in-but_last (f ∷ es) x (sym (last_entry-cons e f es) ∙ last);
   fits = ap (λ l. fitting room (drop 1 l)) (but_last-cons e f es) ∙ fitting-but_last room (f ∷ es) large;
   less = omega (arith, length-but_last e (f ∷ es));
 }
@@ -115,7 +120,8 @@ pub same_cache : {c : LruCache (List ℕ) (List ℕ)} {es : List Entry} {n : ℕ
 same_cache entries cap = λ i. record { entries = entries i; cap = cap i }
 
 -- all behind the first fit, so this is what fits
-pub fits_all : (room : ℕ) (es from : List Entry) → take 1 es ≡ take 1 from → fitting room (drop 1 es) ≡ fitting room (drop 1 from) → bytes_in (drop 1 es) ≤ room
+pub fits_all : (room : ℕ) (es from : List Entry) → take 1 es ≡ take 1 from → fitting room (drop 1 es) ≡ fitting room (drop 1 from)
+    → bytes_in (drop 1 es) ≤ room
     → (es ≡ take 1 from ++ fitting room (drop 1 from)) × (drop 1 es ≡ fitting room (drop 1 from))
 fits_all room es from first same small =
     let rest : drop 1 es ≡ fitting room (drop 1 from) = sym (fitting_all room (drop 1 es) small) ∙ same in

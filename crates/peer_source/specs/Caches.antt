@@ -1,5 +1,6 @@
 -- The main cache of a group (groupcache, `groupcache.go` and `lru/lru.go`).
-use Rattle.std.specs.Prelude.{◌≡◌, ℕ, ◌+◌, ◌-◌, ◌≤◌, List, [], ◌∷◌, length, take, All, cond, nat_lt, nat_le, ◌==◌, ◌&&◌, bytes_eq, Option, Some, None, option_map}
+use Rattle.std.specs.Prelude.{◌≡◌, ℕ, ◌+◌, ◌-◌, ◌≤◌, List, [], ◌∷◌, length, take, All, cond, nat_lt, nat_le, ◌==◌}
+use Rattle.std.specs.Prelude.{◌&&◌, bytes_eq, Option, Some, None, option_map}
 use Rattle.std.specs.List.{slice_get}
 use Rattle.std.specs.Option.{option_map_or}
 use Rattle.std.specs.Map.{lookup, remove_entry}

@@ -1,5 +1,6 @@
 -- The groups and answers of the source for demonstrations.
-use Rattle.std.specs.Prelude.{◌≡◌, ℕ, ◌+◌, ◌-◌, ◌*◌, List, [], ◌∷◌, length, codes, cond, nat_lt, nat_le, ◌==◌, ◌&&◌, Option, Some, None, bytes_eq, replicate, decimal}
+use Rattle.std.specs.Prelude.{◌≡◌, ℕ, ◌+◌, ◌-◌, ◌*◌, List, [], ◌∷◌, length, codes, cond, nat_lt, nat_le, ◌==◌, ◌&&◌}
+use Rattle.std.specs.Prelude.{Option, Some, None, bytes_eq, replicate, decimal}
 use Rattle.std.proofs.Common.{◌<◌, refl, arith}
 use Rattle.std.specs.List.{list_all}
 use Rattle.std.specs.Char.{is_ascii_digit}
@@ -33,12 +34,14 @@ fill_answer key = elim (number_in 7 key) as (λ _. Answer) [
 -- the one answer for a group's number and a key
 abbrev pub demo_answer : ℕ → List ℕ → Answer
 demo_answer group key =
-    cond (group == 0) (echo_answer key) (cond (group == 1) (square_answer key) (cond (group == 2) (fill_answer key) (Failed (codes "no group"))))
+    cond (group == 0) (echo_answer key) (cond (group == 1) (square_answer key)
+    (cond (group == 2) (fill_answer key) (Failed (codes "no group"))))
 
 -- the numbers of the groups
 abbrev pub demo_number : List ℕ → Option ℕ
 demo_number name =
-    cond (bytes_eq name (codes "echo")) (Some 0) (cond (bytes_eq name (codes "square")) (Some 1) (cond (bytes_eq name (codes "fill")) (Some 2) None))
+    cond (bytes_eq name (codes "echo")) (Some 0) (cond (bytes_eq name (codes "square")) (Some 1)
+    (cond (bytes_eq name (codes "fill")) (Some 2) None))
 
 -- an answer of the source is the one answer
 abbrev pub DemoAnswers : ℕ → List ℕ → Answer → Type 0

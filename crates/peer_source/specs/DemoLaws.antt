@@ -1,5 +1,6 @@
 -- The law of the source for demonstrations: what it finds is within the limit.
-use Rattle.std.proofs.Common.{◌≡◌, ℕ, ◌+◌, ◌-◌, ◌*◌, ◌^◌, ◌<◌, ◌≤◌, Bool, true, false, List, [], ◌∷◌, length, Option, Some, None, sym, ap, ◌∙◌, subst, refl, arith, lit<}
+use Rattle.std.proofs.Common.{◌≡◌, ℕ, ◌+◌, ◌-◌, ◌*◌, ◌^◌, ◌<◌, ◌≤◌, Bool, true, false, List, [], ◌∷◌, length, Option}
+use Rattle.std.proofs.Common.{Some, None, sym, ap, ◌∙◌, subst, refl, arith, lit<}
 use Rattle.std.proofs.Math.Nat.{mul-le-mul, mul-le-mul_right, mul_assoc, pow-le-pow_right}
 use Rattle.std.specs.Prelude.{nat_le, leb, nat_lt, cond, codes, decimal, ◌==◌, ◌&&◌, replicate}
 use Rattle.std.proofs.lemmas.Bool.{and_parts, leb-true}
@@ -30,7 +31,8 @@ after_below n (d ∷ ds) digits =
     let more : n * 10 + (d - 48) + 1 ≤ (n + 1) * 10 = omega (arith, digit) in
     let whole : (n * 10 + (d - 48) + 1) * 10 ^ length ds ≤ ((n + 1) * 10) * 10 ^ length ds = mul-le-mul_right (10 ^ length ds) more in
     let power : 10 ^ length (d ∷ ds) ≡ 10 * 10 ^ length ds = grind arith in
-    let product : (n + 1) * 10 ^ length (d ∷ ds) ≡ ((n + 1) * 10) * 10 ^ length ds = ap (λ p. (n + 1) * p) power ∙ sym (mul_assoc (n + 1) 10 (10 ^ length ds)) in
+    let product : (n + 1) * 10 ^ length (d ∷ ds) ≡ ((n + 1) * 10) * 10 ^ length ds =
+    ap (λ p. (n + 1) * p) power ∙ sym (mul_assoc (n + 1) 10 (10 ^ length ds)) in
     omega (arith, rest, whole, product)
 
 some_from : (b : Bool) (x n : ℕ) → cond b (Some x) None ≡ Some n → (b ≡ true) × (x ≡ n)
@@ -49,7 +51,8 @@ number_small text n e =
 
 short_square : (text : List ℕ) → IsShort (square_answer text)
 short_square text =
-    (elim (number_in 9 text) as (λ o. number_in 9 text ≡ o → IsShort (elim o as (λ _. Answer) [ Some n ↦ Found (decimal (n * n)) | None ↦ Failed (codes "not a number") ])) [
+    (elim (number_in 9 text) as (λ o. number_in 9 text ≡ o
+    → IsShort (elim o as (λ _. Answer) [ Some n ↦ Found (decimal (n * n)) | None ↦ Failed (codes "not a number") ])) [
       | Some n ↦ λ e. short n (number_small text n e)
       | None ↦ λ e. tt
     ]) refl
@@ -58,13 +61,19 @@ short_square text =
     short n small =
         let most : n ≤ 999999999 = omega (arith, small) in
         let product : n * n ≤ 999999999 * 999999999 = mul-le-mul {n₁ = n} {m₁ = n} {n₂ = 999999999} {m₂ = 999999999} most most in
-        let few : length (decimal (n * n)) ≤ 18 = length-decimal-le 18 (n * n) (lit< tt) (omega (arith, product)) (omega (arith, product)) in
+        let few : length (decimal (n * n)) ≤ 18 =
+        length-decimal-le 18 (n * n) (lit< tt) (omega (arith, product)) (omega (arith, product)) in
         omega (arith, few)
 
 short_fill : (text : List ℕ) → IsShort (fill_answer text)
 short_fill text =
-    (elim (number_in 7 text) as (λ o. IsShort (elim o as (λ _. Answer) [ Some n ↦ cond (nat_le n 2000000) (found_within (replicate n 120)) (Failed (codes "not a size")) | None ↦ Failed (codes "not a size") ])) [
-      | Some n ↦ short_cond (nat_le n 2000000) (found_within (replicate n 120)) (Failed (codes "not a size")) (found_is_within (replicate n 120)) tt
+    (elim (number_in 7 text) as (λ o. IsShort (elim o as (λ _. Answer) [
+      | Some n ↦ cond (nat_le n 2000000) (found_within (replicate n 120)) (Failed (codes "not a size"))
+      | None ↦
+          Failed (codes "not a size")
+    ])) [
+      | Some n ↦ short_cond (nat_le n 2000000) (found_within (replicate n 120)) (Failed (codes "not a size"))
+          (found_is_within (replicate n 120)) tt
       | None ↦ tt
     ])
 

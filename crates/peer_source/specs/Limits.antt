@@ -7,7 +7,8 @@ use Rattle.peer_source.specs.Answers.{Found, Failed, IsWithinLimit, found_within
 
 pub found_is_within : (value : List ℕ) → IsWithinLimit (Some (found_within value))
 found_is_within value =
-    (elim (leb (length value) MAX_VALUE) as (λ b. leb (length value) MAX_VALUE ≡ b → IsWithinLimit (Some (cond b (Found value) (Failed too_long_text)))) [
+    (elim (leb (length value) MAX_VALUE) as (λ b. leb (length value) MAX_VALUE ≡ b
+    → IsWithinLimit (Some (cond b (Found value) (Failed too_long_text)))) [
       | true ↦ λ fits. leb-true (length value) MAX_VALUE fits
       | false ↦ λ _. tt
     ]) refl

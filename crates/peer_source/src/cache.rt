@@ -4,7 +4,8 @@
 ghost use Rattle.std.specs.Prelude.{◌≡◌, ◌==◌, ℕ, ◌<◌, ◌≤◌, [], None, IfOk, OnOk, OnErr, IsOk, All, length, bytes_eq};
 ghost use Rattle.std.specs.List.{IsDistinct};
 ghost use Rattle.std.specs.Map.{keys_of};
-ghost use Rattle.peer_source.specs.Caches.{IsAnswer, added, bytes_in, brought_to_front, empty_cache, fill_of, looked_up, put_first, value_to_keep};
+ghost use Rattle.peer_source.specs.Caches.{IsAnswer, added, bytes_in, brought_to_front, empty_cache, fill_of};
+ghost use Rattle.peer_source.specs.Caches.{looked_up, put_first, value_to_keep};
 
 use crate::entries::{
     Entries, Evicted, bring_to_front, evict, look_up, no_entries, put_in_front, remove_all,
@@ -75,7 +76,7 @@ impl<S: Source> MainCache<S> {
             return Ok(None);
         };
         let in_front = found.in_front;
-        let fill = Fill::found(self.group, key.share()?, found.value.share()?);
+        let fill = Fill::of_value(self.group, key.share()?, found.value.share()?);
         bring_to_front(&mut self.entries, key, in_front);
         Ok(Some(fill))
     }

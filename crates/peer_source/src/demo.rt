@@ -1,7 +1,8 @@
 //! The source for demonstrations: `echo`, `square` and `fill`.
 ghost use Rattle.std.specs.Prelude.{◌≡◌, ◌⊎◌, ◌<◌, ◌≤◌, ℕ, [], None, Some, Ok, Err, IfSome, IfOk, refl, replicate};
 ghost use Rattle.peer_source.specs.Answers.{Failed, found_within};
-ghost use Rattle.peer_source.specs.Demo.{DemoAnswers, demo_number, demo_answer, square_answer, fill_answer, number_in, demo_answered, demo_numbered};
+ghost use Rattle.peer_source.specs.Demo.{DemoAnswers, demo_number, demo_answer, square_answer, fill_answer, number_in};
+ghost use Rattle.peer_source.specs.Demo.{demo_answered, demo_numbered};
 ghost use Rattle.peer_source.specs.DemoLaws.{demo_limited};
 ghost use Rattle.peer_source.specs.Reports.{reported};
 
@@ -14,7 +15,7 @@ use peer_view::{AllocSink, ByteView, SinkFault, VALUE_LIMIT};
 use std::alloc::{AllocError, Global};
 
 // The largest number of bytes that `fill` knows; above `VALUE_LIMIT` they are too long.
-const LARGEST_FILL: u64 = 2_000_000;
+const MAX_FILL: u64 = 2_000_000;
 
 /// Three groups, in this order: `echo` finds the key, `square` the square of a number of at most 9 digits, `fill` so
 /// many bytes `x`, up to 2,000,000.
@@ -87,7 +88,7 @@ fn fill(alloc: Global, key: &[u8], sink: &mut AllocSink) -> Result<(), GetFault>
     ensures { IfSome (reported result sink.new) (λ a. a ≡ fill_answer key.now) }
 {
     match number_of(key, 7) {
-        Some(number) if number <= LARGEST_FILL => find_letters(alloc, number as usize, sink),
+        Some(number) if number <= MAX_FILL => find_letters(alloc, number as usize, sink),
         _ => Err(error(alloc, b"not a size")),
     }
 }

@@ -1,7 +1,8 @@
 //! The entries of a cache, on the kit's `lru`: how one is put first, and how those behind it make room (`lru/lru.go`).
 //! Each function says what it leaves, and counts the bytes that are left.
 ghost use Rattle.std.specs.Map.{lookup};
-ghost use Rattle.std.specs.Prelude.{◌≡◌, None, Some, IsTrue, bytes_eq, ◌+◌, ◌^◌, ◌<◌, ◌≤◌, [], ◌∷◌, ◌++◌, length, take, drop, IfSome, IfNone, IfOk, OnOk, OnErr};
+ghost use Rattle.std.specs.Prelude.{◌≡◌, None, Some, IsTrue, bytes_eq, ◌+◌, ◌^◌, ◌<◌, ◌≤◌, [], ◌∷◌, ◌++◌, length};
+ghost use Rattle.std.specs.Prelude.{take, drop, IfSome, IfNone, IfOk, OnOk, OnErr};
 ghost use Rattle.std.specs.NonZero.{non_zero_usize_get};
 ghost use Rattle.lru.specs.LruCache.{lru_cache, promoted};
 ghost use Rattle.peer_source.specs.Caches.{IsFirst, bytes_of, bytes_in, fitting, without};
@@ -108,7 +109,8 @@ pub(crate) fn put_in_front(
     requires bytes { bytes ≡ bytes_in entries.old.entries }
     requires most { length entries.old.entries ≤ entries.old.cap }
     requires some { 0 < entries.old.cap }
-    ensures front { OnOk result (entries.new ≡ lru_cache (take entries.old.cap ((key, value) ∷ without key entries.old.entries)) entries.old.cap) }
+    ensures front { OnOk result (entries.new ≡ lru_cache (take entries.old.cap ((key, value) ∷ without key entries.old.entries))
+        entries.old.cap) }
     ensures others { IfOk result (λ others. others + bytes_of (key, value) ≡ bytes_in entries.new.entries) }
     ensures err { OnErr result (entries.new ≡ entries.old) }
 {

@@ -52,7 +52,7 @@ fn outcome_of(got: Result<(), GetFault>, sink: AllocSink) -> Outcome
     match got {
         Ok(()) => Outcome::Found(sink.into_view()),
         Err(GetFault::Text(text)) => failure_of(text),
-        Err(GetFault::TooLong) => Outcome::Failed(too_long()),
+        Err(GetFault::TooLong) => Outcome::Failed(too_long_text()),
         Err(GetFault::Memory) => Outcome::NoMemory,
     }
 }
@@ -69,7 +69,7 @@ fn failure_of(text: Vec<u8>) -> Outcome
 }
 
 // The text of the failure of a value over the limit.
-fn too_long() -> ByteView
+fn too_long_text() -> ByteView
     ensures { result ≡ too_long_text }
 {
     ByteView::from_shared(Bytes::from_static(b"value too long"))
@@ -121,7 +121,7 @@ impl<S: Source> Fill<S> {
     }
 
     // The fill of a value that the type of the source allows.
-    pub(crate) fn found(group: GroupId, key: ByteView, value: ByteView) -> Fill<S>
+    pub(crate) fn of_value(group: GroupId, key: ByteView, value: ByteView) -> Fill<S>
         requires { IsAnswer S.allowed group.number (key, value) }
         ensures { result ≡ found_fill group.number key value }
     {

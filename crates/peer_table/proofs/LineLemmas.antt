@@ -1,5 +1,6 @@
 -- A line behind the lines that an index holds.
-use Rattle.std.proofs.Common.{◌≡◌, ℕ, ◌+◌, ◌-◌, ◌<◌, ◌≤◌, Bool, true, false, ◌||◌, ◌&&◌, cond, List, [], ◌∷◌, ◌++◌, length, take, drop, Option, Some, None, refl, sym, ap, ◌∙◌, subst, arith, length-drop}
+use Rattle.std.proofs.Common.{◌≡◌, ℕ, ◌+◌, ◌-◌, ◌<◌, ◌≤◌, Bool, true, false, ◌||◌, ◌&&◌, cond, List, [], ◌∷◌, ◌++◌, length, take, drop}
+use Rattle.std.proofs.Common.{Option, Some, None, refl, sym, ap, ◌∙◌, subst, arith, length-drop}
 use Rattle.std.specs.Prelude.{bytes_eq, is_some, is_none, slice_range, option_map, nat_lt, ◌==◌}
 use Rattle.std.specs.List.{list_any}
 use Rattle.std.specs.HashMap.{get}
@@ -48,12 +49,14 @@ joined_test g g' k k' plain plain' =
     elim (same_or_other (joined g k) (joined g' k')) [
       | same e passes ↦
           let parts = joined_apart g g' k k' plain plain' e in
-          passes ∙ sym (rw (← parts.0, ← parts.1) (both (bytes_eq g g) (bytes_eq k k) (nat_list_eq_equiv.refl g) (nat_list_eq_equiv.refl k)))
+          passes ∙ sym (rw (← parts.0, ← parts.1) (both (bytes_eq g g) (bytes_eq k k) (nat_list_eq_equiv.refl g)
+          (nat_list_eq_equiv.refl k)))
       | other fails _ ↦ elim (same_or_other g g') [
         | other apart _ ↦ fails ∙ rw apart
         | same e1 p1 ↦ elim (same_or_other k k') [
           | other apart _ ↦ fails ∙ rw (p1, apart)
-          | same e2 p2 ↦ absurd (let h : bytes_eq (joined g k) (joined g' k') ≡ true = rw (← e1, ← e2) (nat_list_eq_equiv.refl (joined g k)) in cc)
+          | same e2 p2 ↦
+              absurd (let h : bytes_eq (joined g k) (joined g' k') ≡ true = rw (← e1, ← e2) (nat_list_eq_equiv.refl (joined g k)) in cc)
         ]
       ]
     ] where
@@ -67,10 +70,14 @@ value_joined (line ∷ lines) g k plain all =
     rw (joined_test g line.group k line.key plain all.0, value_joined lines g k plain all.1)
 
 -- one line more
-pub value_push : (lines : List Line) (line : Line) (q : List ℕ) → value_of_joined (lines ++ line ∷ []) q ≡ or_else (value_of_joined lines q) (cond (bytes_eq q (joined line.group line.key)) (Some line.value) None)
+pub value_push : (lines : List Line) (line : Line) (q : List ℕ)
+    → value_of_joined (lines ++ line ∷ []) q ≡ or_else (value_of_joined lines q)
+    (cond (bytes_eq q (joined line.group line.key)) (Some line.value) None)
 value_push [] line q = refl
 value_push (l ∷ lines) line q =
-    elim (bytes_eq q (joined l.group l.key)) as (λ v. cond v (Some l.value) (value_of_joined (lines ++ line ∷ []) q) ≡ or_else (cond v (Some l.value) (value_of_joined lines q)) (cond (bytes_eq q (joined line.group line.key)) (Some line.value) None)) [
+    elim (bytes_eq q (joined l.group l.key)) as (λ v. cond v (Some l.value) (value_of_joined (lines ++ line ∷ []) q)
+    ≡ or_else (cond v (Some l.value) (value_of_joined lines q))
+    (cond (bytes_eq q (joined line.group line.key)) (Some line.value) None)) [
       | true ↦ refl
       | false ↦ value_push lines line q
     ]
@@ -79,7 +86,8 @@ pub plain_push : (lines : List Line) (line : Line) → ArePlain lines → IsPlai
 plain_push [] line all plain = (plain, tt)
 plain_push (l ∷ lines) line all plain = (all.0, plain_push lines line all.1 plain)
 
-pub names_push : (names : List (List ℕ)) (lines : List Line) (line : Line) → names_behind names (lines ++ line ∷ []) ≡ with_name (names_behind names lines) line.group
+pub names_push : (names : List (List ℕ)) (lines : List Line) (line : Line)
+    → names_behind names (lines ++ line ∷ []) ≡ with_name (names_behind names lines) line.group
 names_push names [] line = refl
 names_push names (l ∷ lines) line = names_push (with_name names l.group) lines line
 
@@ -96,28 +104,39 @@ some_of : {A B : Type 0} (f : A → B) (o : Option A) → false ≡ is_none o �
 some_of f None h = cc
 some_of f (Some x) h = refl
 
-at_cond : (text : List ℕ) (b : Bool) (place : Place) (o n : Option Place) → n ≡ cond b (Some place) o → b ≡ true → option_map (part_of text) n ≡ Some (part_of text place)
+at_cond : (text : List ℕ) (b : Bool) (place : Place) (o n : Option Place) → n ≡ cond b (Some place) o → b ≡ true
+    → option_map (part_of text) n ≡ Some (part_of text place)
 at_cond text b place o n put passes = rw (put, passes)
 
-past_cond : (text : List ℕ) (b : Bool) (place : Place) (o n : Option Place) → n ≡ cond b (Some place) o → b ≡ false → option_map (part_of text) n ≡ option_map (part_of text) o
+past_cond : (text : List ℕ) (b : Bool) (place : Place) (o n : Option Place) → n ≡ cond b (Some place) o → b ≡ false
+    → option_map (part_of text) n ≡ option_map (part_of text) o
 past_cond text b place o n put fails = rw (put, fails)
 
-inside_put : (text : List ℕ) (b : Bool) (place p : Place) (o n : Option Place) → n ≡ cond b (Some place) o → ((r : Place) → o ≡ Some r → (r.from ≤ r.to) × (r.to ≤ length text)) → place.from ≤ place.to → place.to ≤ length text → n ≡ Some p → (p.from ≤ p.to) × (p.to ≤ length text)
-inside_put text true place p o n put old low high found = let same : place ≡ p = same_Some place p (sym put ∙ found) in (subst (λ (r : Place). r.from ≤ r.to) same low, subst (λ (r : Place). r.to ≤ length text) same high)
+inside_put : (text : List ℕ) (b : Bool) (place p : Place) (o n : Option Place) → n ≡ cond b (Some place) o
+    → ((r : Place) → o ≡ Some r → (r.from ≤ r.to) × (r.to ≤ length text)) → place.from ≤ place.to → place.to ≤ length text → n ≡ Some p
+    → (p.from ≤ p.to) × (p.to ≤ length text)
+inside_put text true place p o n put old low high found = let same : place ≡ p = same_Some place p (sym put ∙ found) in
+    (subst (λ (r : Place). r.from ≤ r.to) same low, subst (λ (r : Place). r.to ≤ length text) same high)
 inside_put text false place p o n put old low high found = old p (sym put ∙ found)
 
 -- the places with one more
-pub places_push : (text : List ℕ) (old new : Places) (lines : List Line) (line : Line) (place : Place) (named : List ℕ) → ArePlaces text old lines → named ≡ joined line.group line.key → part_of text place ≡ line.value → true ≡ is_none (get bytes_eq old named)
-    → ((q : List ℕ) → get bytes_eq new q ≡ cond (bytes_eq named q) (Some place) (get bytes_eq old q)) → ArePlaces text new (lines ++ line ∷ [])
+pub places_push : (text : List ℕ) (old new : Places) (lines : List Line) (line : Line) (place : Place) (named : List ℕ)
+    → ArePlaces text old lines → named ≡ joined line.group line.key → part_of text place ≡ line.value
+    → true ≡ is_none (get bytes_eq old named)
+    → ((q : List ℕ) → get bytes_eq new q ≡ cond (bytes_eq named q) (Some place) (get bytes_eq old q))
+    → ArePlaces text new (lines ++ line ∷ [])
 places_push text old new lines line place named are is part fresh put q =
     elim (same_or_other named q) [
       | same e passes ↦
-          let here : value_of_joined lines q ≡ None = ap (value_of_joined lines) (sym e) ∙ sym (are named) ∙ none_of (part_of text) (get bytes_eq old named) fresh in
+          let here : value_of_joined lines q ≡ None =
+          ap (value_of_joined lines) (sym e) ∙ sym (are named) ∙ none_of (part_of text) (get bytes_eq old named) fresh in
           let hit : bytes_eq q (joined line.group line.key) ≡ true = ap (bytes_eq q) (sym is) ∙ nat_list_eq_equiv.symm q named ∙ passes in
-          at_cond text (bytes_eq named q) place (get bytes_eq old q) (get bytes_eq new q) (put q) passes ∙ ap (λ v. Some v) part ∙ sym (value_push lines line q ∙ rw (here, hit))
+          at_cond text (bytes_eq named q) place (get bytes_eq old q) (get bytes_eq new q) (put q) passes ∙ ap (λ v. Some v) part
+          ∙ sym (value_push lines line q ∙ rw (here, hit))
       | other fails fails' ↦
           let miss : bytes_eq q (joined line.group line.key) ≡ false = ap (bytes_eq q) (sym is) ∙ fails' in
-          past_cond text (bytes_eq named q) place (get bytes_eq old q) (get bytes_eq new q) (put q) fails ∙ are q ∙ sym (value_push lines line q ∙ rw miss (stays (value_of_joined lines q)))
+          past_cond text (bytes_eq named q) place (get bytes_eq old q) (get bytes_eq new q) (put q) fails ∙ are q
+          ∙ sym (value_push lines line q ∙ rw miss (stays (value_of_joined lines q)))
     ] where
       stays : (o : Option (List ℕ)) → or_else o None ≡ o
       stays None = refl
@@ -125,9 +144,11 @@ places_push text old new lines line place named are is part fresh put q =
 
 -- the line round two bytes 09
 abbrev pub line_at : List ℕ → ℕ → ℕ → Line
-line_at bytes first second = record { group = take first bytes; key = slice_range bytes (first + 1) second; value = drop (second + 1) bytes }
+line_at bytes first second =
+    record { group = take first bytes; key = slice_range bytes (first + 1) second; value = drop (second + 1) bytes }
 
-module _ (text bytes : List ℕ) (from to first second : ℕ) (order : from ≤ to) (within : to ≤ length text) (is : bytes ≡ slice_range text from to) (tabs : AreTabs bytes first second) where
+module _ (text bytes : List ℕ) (from to first second : ℕ) (order : from ≤ to) (within : to ≤ length text)
+    (is : bytes ≡ slice_range text from to) (tabs : AreTabs bytes first second) where
   size : length bytes ≡ to - from
   size = omega (arith, ap length is, length-take (to - from) (drop from text), length-drop from text)
 
@@ -164,43 +185,60 @@ module _ (n : ℕ) (seen : List Line) (line : Line) where
   pub is_repeated : is_some (value_in seen line.group line.key) ≡ true → fault_behind n seen line ≡ Some (fault.Repeated n)
   is_repeated h = rw h
 
-  pub is_group_too_many : is_some (value_in seen line.group line.key) ≡ false → MAX_GROUPS < length (with_name (names_of seen) line.group) → fault_behind n seen line ≡ Some (fault.Groups n)
+  pub is_group_too_many : is_some (value_in seen line.group line.key) ≡ false → MAX_GROUPS < length (with_name (names_of seen) line.group)
+      → fault_behind n seen line ≡ Some (fault.Groups n)
   is_group_too_many h many = rw (h, lt-ltb MAX_GROUPS (length (with_name (names_of seen) line.group)) many)
 
-  pub is_too_long : is_some (value_in seen line.group line.key) ≡ false → length (with_name (names_of seen) line.group) ≤ MAX_GROUPS → MAX_VALUE < length line.value → fault_behind n seen line ≡ Some (fault.Value n)
-  is_too_long h few long = rw (h, not_below MAX_GROUPS (length (with_name (names_of seen) line.group)) few, lt-ltb MAX_VALUE (length line.value) long)
+  pub is_too_long : is_some (value_in seen line.group line.key) ≡ false → length (with_name (names_of seen) line.group) ≤ MAX_GROUPS
+      → MAX_VALUE < length line.value → fault_behind n seen line ≡ Some (fault.Value n)
+  is_too_long h few long =
+      rw (h, not_below MAX_GROUPS (length (with_name (names_of seen) line.group)) few, lt-ltb MAX_VALUE (length line.value) long)
 
-  pub is_good : is_some (value_in seen line.group line.key) ≡ false → length (with_name (names_of seen) line.group) ≤ MAX_GROUPS → length line.value ≤ MAX_VALUE → fault_behind n seen line ≡ None
-  is_good h few short = rw (h, not_below MAX_GROUPS (length (with_name (names_of seen) line.group)) few, not_below MAX_VALUE (length line.value) short)
+  pub is_good : is_some (value_in seen line.group line.key) ≡ false → length (with_name (names_of seen) line.group) ≤ MAX_GROUPS
+      → length line.value ≤ MAX_VALUE → fault_behind n seen line ≡ None
+  is_good h few short =
+      rw (h, not_below MAX_GROUPS (length (with_name (names_of seen) line.group)) few, not_below MAX_VALUE (length line.value) short)
 
 -- a line between two places of the text, behind the lines that an index holds
-module _ (text bytes : List ℕ) (from to first second n : ℕ) (order : from ≤ to) (within : to ≤ length text) (is : bytes ≡ slice_range text from to) (tabs : AreTabs bytes first second)
-    (index : Index) (seen : List Line) (plain : ArePlain seen) (holds : Holds text index seen) (named : List ℕ) (named_at : named ≡ slice_range text from (from + second)) where
-  bad_is : (f : Option TableFault) → fault_behind n seen (line_at bytes first second) ≡ f → bad_line n seen (line_of (slice_range text from to)) ≡ f
+module _ (text bytes : List ℕ) (from to first second n : ℕ) (order : from ≤ to) (within : to ≤ length text)
+    (is : bytes ≡ slice_range text from to) (tabs : AreTabs bytes first second)
+    (index : Index) (seen : List Line) (plain : ArePlain seen) (holds : Holds text index seen) (named : List ℕ)
+    (named_at : named ≡ slice_range text from (from + second)) where
+  bad_is : (f : Option TableFault) → fault_behind n seen (line_at bytes first second) ≡ f
+      → bad_line n seen (line_of (slice_range text from to)) ≡ f
   bad_is f h = ap (λ b. bad_line n seen (line_of b)) (sym is) ∙ ap (bad_line n seen) tabs.line ∙ h
 
   joined_is : named ≡ joined (take first bytes) (slice_range bytes (first + 1) second)
   joined_is = named_at ∙ named_is text bytes from to first second order within is tabs
 
-  stood : option_map (part_of text) (get bytes_eq index.places named) ≡ value_in seen (take first bytes) (slice_range bytes (first + 1) second)
-  stood = holds.places named ∙ ap (value_of_joined seen) joined_is ∙ value_joined seen (take first bytes) (slice_range bytes (first + 1) second) tabs.plain plain
+  stood : option_map (part_of text) (get bytes_eq index.places named)
+      ≡ value_in seen (take first bytes) (slice_range bytes (first + 1) second)
+  stood = holds.places named ∙ ap (value_of_joined seen) joined_is
+      ∙ value_joined seen (take first bytes) (slice_range bytes (first + 1) second) tabs.plain plain
 
-  pub repeated : false ≡ is_none (get bytes_eq index.places named) → bad_line n seen (line_of (slice_range text from to)) ≡ Some (fault.Repeated n)
-  repeated there = bad_is (Some (fault.Repeated n)) (is_repeated n seen (line_at bytes first second) (ap is_some (sym stood) ∙ some_of (part_of text) (get bytes_eq index.places named) there))
+  pub repeated : false ≡ is_none (get bytes_eq index.places named)
+      → bad_line n seen (line_of (slice_range text from to)) ≡ Some (fault.Repeated n)
+  repeated there =
+      bad_is (Some (fault.Repeated n)) (is_repeated n seen (line_at bytes first second)
+      (ap is_some (sym stood) ∙ some_of (part_of text) (get bytes_eq index.places named) there))
 
-  new_line : true ≡ is_none (get bytes_eq index.places named) → is_some (value_in seen (take first bytes) (slice_range bytes (first + 1) second)) ≡ false
+  new_line : true ≡ is_none (get bytes_eq index.places named)
+      → is_some (value_in seen (take first bytes) (slice_range bytes (first + 1) second)) ≡ false
   new_line fresh = ap is_some (sym stood ∙ none_of (part_of text) (get bytes_eq index.places named) fresh)
 
-  module _ (fresh : true ≡ is_none (get bytes_eq index.places named)) (name : List ℕ) (name_at : name ≡ slice_range text from (from + first)) (numbers' : Numbers) (names' : List (List ℕ)) where
+  module _ (fresh : true ≡ is_none (get bytes_eq index.places named)) (name : List ℕ)
+      (name_at : name ≡ slice_range text from (from + first)) (numbers' : Numbers) (names' : List (List ℕ)) where
     group_is : name ≡ take first bytes
     group_is = name_at ∙ name_is text bytes from to first second order within is tabs
 
     with_is : with_name index.names.items name ≡ with_name (names_of seen) (take first bytes)
     with_is = ap (λ l. with_name l name) holds.names ∙ ap (with_name (names_of seen)) group_is
 
-    pub too_many : PutsName index.numbers numbers' index.names.items names' name false → bad_line n seen (line_of (slice_range text from to)) ≡ Some (fault.Groups n)
+    pub too_many : PutsName index.numbers numbers' index.names.items names' name false
+        → bad_line n seen (line_of (slice_range text from to)) ≡ Some (fault.Groups n)
     too_many put =
-        let many : MAX_GROUPS < length (with_name (names_of seen) (take first bytes)) = subst (λ l. MAX_GROUPS < length l) with_is (put holds.numbers) in
+        let many : MAX_GROUPS < length (with_name (names_of seen) (take first bytes)) =
+        subst (λ l. MAX_GROUPS < length l) with_is (put holds.numbers) in
         bad_is (Some (fault.Groups n)) (is_group_too_many n seen (line_at bytes first second) (new_line fresh) many)
 
     module _ (put : PutsName index.numbers numbers' index.names.items names' name true) where
@@ -212,24 +250,32 @@ module _ (text bytes : List ℕ) (from to first second n : ℕ) (order : from �
 
       pub too_long : MAX_VALUE < to - (from + second + 1) → bad_line n seen (line_of (slice_range text from to)) ≡ Some (fault.Value n)
       too_long long =
-          bad_is (Some (fault.Value n)) (is_too_long n seen (line_at bytes first second) (new_line fresh) few (omega (arith, value_size text bytes from to first second order within is tabs)))
+          bad_is (Some (fault.Value n)) (is_too_long n seen (line_at bytes first second) (new_line fresh) few
+          (omega (arith, value_size text bytes from to first second order within is tabs)))
 
       -- the index with the line
-      pub adds : (index' : Index) (place : Place) → index'.numbers ≡ numbers' → index'.names.items ≡ names' → place.from ≡ from + second + 1 → place.to ≡ to
-          → ((q : List ℕ) → get bytes_eq index'.places q ≡ cond (bytes_eq named q) (Some place) (get bytes_eq index.places q)) → to - (from + second + 1) ≤ MAX_VALUE → Adds text n seen (slice_range text from to) index'
+      pub adds : (index' : Index) (place : Place) → index'.numbers ≡ numbers' → index'.names.items ≡ names' → place.from ≡ from + second + 1
+          → place.to ≡ to
+          → ((q : List ℕ) → get bytes_eq index'.places q ≡ cond (bytes_eq named q) (Some place) (get bytes_eq index.places q))
+          → to - (from + second + 1) ≤ MAX_VALUE → Adds text n seen (slice_range text from to) index'
       adds index' place numbers_are same_names place_from place_to put_there short =
           record {
             line = line_at bytes first second;
             is = ap line_of (sym is) ∙ tabs.line;
-            good = is_good n seen (line_at bytes first second) (new_line fresh) few (omega (arith, value_size text bytes from to first second order within is tabs));
+            good = is_good n seen (line_at bytes first second) (new_line fresh) few
+                (omega (arith, value_size text bytes from to first second order within is tabs));
             plain = plain_push seen (line_at bytes first second) plain tabs.plain;
             holds = record {
               names = same_names ∙ names_are ∙ sym (names_push [] seen (line_at bytes first second));
-              numbers = subst (λ (m : Numbers). AreNumbers m index'.names.items) (sym numbers_are) (subst (AreNumbers numbers') (sym same_names) (put holds.numbers).0);
+              numbers = subst (λ (m : Numbers). AreNumbers m index'.names.items) (sym numbers_are)
+                  (subst (AreNumbers numbers') (sym same_names) (put holds.numbers).0);
               places = places_push text index.places index'.places seen (line_at bytes first second) place named holds.places joined_is
-                  (ap (λ m. slice_range text m place.to) place_from ∙ ap (slice_range text (from + second + 1)) place_to ∙ value_is text bytes from to first second order within is tabs) fresh put_there;
-              inside = λ q p found. inside_put text (bytes_eq named q) place p (get bytes_eq index.places q) (get bytes_eq index'.places q) (put_there q) (holds.inside q)
-                  (omega (arith, place_from, place_to, tabs.within, size text bytes from to first second order within is tabs)) (omega (arith, place_to)) found;
+                  (ap (λ m. slice_range text m place.to) place_from ∙ ap (slice_range text (from + second + 1)) place_to
+                  ∙ value_is text bytes from to first second order within is tabs) fresh put_there;
+              inside = λ q p found. inside_put text (bytes_eq named q) place p (get bytes_eq index.places q) (get bytes_eq index'.places q)
+                  (put_there q) (holds.inside q)
+                  (omega (arith, place_from, place_to, tabs.within, size text bytes from to first second order within is tabs))
+                  (omega (arith, place_to)) found;
               few = subst (λ l. length l ≤ MAX_GROUPS) (sym (same_names ∙ names_are)) few;
             };
           }

@@ -2,7 +2,8 @@
 use Rattle.std.proofs.Common.{◌≡◌, ℕ, ◌+◌, ◌<◌, ◌≤◌, List, [], ◌++◌, length, Option, refl, ap, ◌∙◌, subst, arith, append-nil}
 use Rattle.std.proofs.KnownBytes.{Appends-nil, Appends-trans}
 use Rattle.std.specs.Io.KnownBytes.{Appends}
-use Rattle.peer_table.specs.Reads.{Reading, Gave, GaveAll, IsReadFault, IsTooLarge}
+use Rattle.peer_view.specs.ReadWrite.{Reading}
+use Rattle.peer_table.specs.Reads.{Gave, GaveAll, IsReadFault, IsTooLarge}
 use Rattle.peer_table.specs.Tables.{MAX_TEXT}
 
 -- a reader after one more call
@@ -10,10 +11,12 @@ abbrev pub after : Reading → Option (List ℕ) → ℕ → ℕ → ℕ → Rea
 after r g k e f = record r { given' = g; calls' = k; ends' = e; failures' = f }
 
 -- no read was made
-pub gave_none : (g : Option (List ℕ)) (k e f : ℕ) → Gave (record { given = g; given' = g; calls = k; calls' = k; ends = e; ends' = e; failures = f; failures' = f }) 0 []
+pub gave_none : (g : Option (List ℕ)) (k e f : ℕ)
+    → Gave (record { given = g; given' = g; calls = k; calls' = k; ends = e; ends' = e; failures = f; failures' = f }) 0 []
 gave_none g k e f = record { bytes = Appends-nil g; calls = omega arith; ends = refl; fine = refl }
 
-module _ (r : Reading) (made reads : ℕ) (text p : List ℕ) (g : Option (List ℕ)) (k e f : ℕ) (h : Gave r made text) (more : Appends r.given' g p) (called : k ≡ r.calls' + 1) where
+module _ (r : Reading) (made reads : ℕ) (text p : List ℕ) (g : Option (List ℕ)) (k e f : ℕ) (h : Gave r made text)
+    (more : Appends r.given' g p) (called : k ≡ r.calls' + 1) where
   -- a read that gave bytes
   pub gave_more : e ≡ r.ends' → f ≡ r.failures' → Gave (after r g k e f) (made + 1) (text ++ p)
   gave_more quiet fine = record {
@@ -45,7 +48,8 @@ module _ (r : Reading) (made reads : ℕ) (text p : List ℕ) (g : Option (List 
   }
 
   -- a read that gave too much
-  pub too_large : made < reads → length text ≤ MAX_TEXT → MAX_TEXT < length (text ++ p) → e ≡ r.ends' → f ≡ r.failures' → IsTooLarge (after r g k e f) reads
+  pub too_large : made < reads → length text ≤ MAX_TEXT → MAX_TEXT < length (text ++ p) → e ≡ r.ends' → f ≡ r.failures'
+      → IsTooLarge (after r g k e f) reads
   too_large below within over quiet fine = record {
     text = text;
     more = p;

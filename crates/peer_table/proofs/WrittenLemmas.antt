@@ -1,11 +1,14 @@
 -- A text without a bad line is that of its lines.
-use Rattle.std.proofs.Common.{◌≡◌, ℕ, ◌+◌, Bool, true, false, cond, List, [], ◌∷◌, ◌++◌, length, All, Option, Some, None, refl, sym, ap, ◌∙◌, subst, arith, append_assoc, append-nil}
+use Rattle.std.proofs.Common.{◌≡◌, ℕ, ◌+◌, Bool, true, false, cond, List, [], ◌∷◌, ◌++◌, length, All, Option, Some, None}
+use Rattle.std.proofs.Common.{refl, sym, ap, ◌∙◌, subst, arith, append_assoc, append-nil}
 use Rattle.std.specs.Prelude.{is_some, nat_lt, ◌==◌}
 use Rattle.std.proofs.lemmas.Bool.{eqb-true, ltb-false}
 use Rattle.std.proofs.lemmas.Option.{none-some, same_Some}
 use Rattle.std.proofs.lemmas.List.Elements.{All-nil, All-append, All-cons}
 use Rattle.peer_view.specs.Sinks.{MAX_VALUE}
-use Rattle.peer_table.specs.Tables.{IsShort, Line, bad_line, before_pieces, fault_behind, first_bad, first_bad_from, first_of, line_bytes, line_of, lines_behind, lines_of, names_of, pieces, three_of, value_in, with_line, with_name, written, MAX_GROUPS}
+use Rattle.peer_table.specs.Tables.{IsShort, Line, bad_line, before_pieces, fault_behind, first_bad, first_bad_from, first_of, line_bytes}
+use Rattle.peer_table.specs.Tables.{line_of, lines_behind, lines_of, names_of, pieces, three_of, value_in, with_line, with_name, written}
+use Rattle.peer_table.specs.Tables.{MAX_GROUPS}
 use Rattle.peer_table.specs.declared.fault.TableFault.{TableFault}
 use Rattle.peer_table.specs.declared.fault.TableFault.TheVariants as fault
 use Rattle.peer_table.proofs.PieceLemmas.{some_piece}
@@ -43,11 +46,13 @@ three_joined (a ∷ b ∷ x ∷ d ∷ ps) line e = absurd (none-some line e)
 line_joined : (bytes : List ℕ) (line : Line) → line_of bytes ≡ Some line → line_bytes line ≡ bytes ++ 10 ∷ []
 line_joined bytes line e =
     let h : bytes ≡ line.group ++ 9 ∷ (line.key ++ 9 ∷ line.value) = sym (join-pieces 9 bytes) ∙ three_joined (pieces 9 bytes) line e in
-    sym (ap (λ l. l ++ 10 ∷ []) h ∙ append_assoc line.group (9 ∷ (line.key ++ 9 ∷ line.value)) (10 ∷ []) ∙ ap (λ l. line.group ++ 9 ∷ l) (append_assoc line.key (9 ∷ line.value) (10 ∷ [])))
+    sym (ap (λ l. l ++ 10 ∷ []) h ∙ append_assoc line.group (9 ∷ (line.key ++ 9 ∷ line.value)) (10 ∷ [])
+    ∙ ap (λ l. line.group ++ 9 ∷ l) (append_assoc line.key (9 ∷ line.value) (10 ∷ [])))
 
 written_push : (lines : List Line) (line : Line) → written (lines ++ line ∷ []) ≡ written lines ++ line_bytes line
 written_push [] line = append-nil (line_bytes line)
-written_push (l ∷ lines) line = ap (λ t. line_bytes l ++ t) (written_push lines line) ∙ sym (append_assoc (line_bytes l) (written lines) (line_bytes line))
+written_push (l ∷ lines) line =
+    ap (λ t. line_bytes l ++ t) (written_push lines line) ∙ sym (append_assoc (line_bytes l) (written lines) (line_bytes line))
 
 both_none : (a b : Option TableFault) → first_of a b ≡ None → (a ≡ None) × (b ≡ None)
 both_none None b e = (refl, e)
@@ -55,8 +60,10 @@ both_none (Some f) b e = absurd (none-some f (sym e))
 
 value_short : (n : ℕ) (before : List Line) (line : Line) → fault_behind n before line ≡ None → IsShort line
 value_short n before line e =
-    go (is_some (value_in before line.group line.key)) (nat_lt MAX_GROUPS (length (with_name (names_of before) line.group))) (nat_lt MAX_VALUE (length line.value)) refl e where
-      go : (a b d : Bool) → nat_lt MAX_VALUE (length line.value) ≡ d → cond a (Some (fault.Repeated n)) (cond b (Some (fault.Groups n)) (cond d (Some (fault.Value n)) None)) ≡ None → IsShort line
+    go (is_some (value_in before line.group line.key)) (nat_lt MAX_GROUPS (length (with_name (names_of before) line.group)))
+    (nat_lt MAX_VALUE (length line.value)) refl e where
+      go : (a b d : Bool) → nat_lt MAX_VALUE (length line.value) ≡ d
+          → cond a (Some (fault.Repeated n)) (cond b (Some (fault.Groups n)) (cond d (Some (fault.Value n)) None)) ≡ None → IsShort line
       go true b d is h = absurd (none-some (fault.Repeated n) (sym h))
       go false true d is h = absurd (none-some (fault.Groups n) (sym h))
       go false false true is h = absurd (none-some (fault.Value n) (sym h))
@@ -73,7 +80,8 @@ whole_left n before (x ∷ xs) e =
     let more : (length (x ∷ xs) == 0) ≡ false = grind arith in
     absurd (none-some (fault.Line n) (sym (rw more at e)))
 
-whole_line : (n : ℕ) (before : List Line) (bytes : List ℕ) (q : List ℕ) (ps : List (List ℕ)) (o : Option Line) → line_of bytes ≡ o → bad_line n before o ≡ None → Whole (with_line before o) (q ∷ ps) → Whole before (bytes ∷ q ∷ ps)
+whole_line : (n : ℕ) (before : List Line) (bytes : List ℕ) (q : List ℕ) (ps : List (List ℕ)) (o : Option Line) → line_of bytes ≡ o
+    → bad_line n before o ≡ None → Whole (with_line before o) (q ∷ ps) → Whole before (bytes ∷ q ∷ ps)
 whole_line n before bytes q ps None is good on = absurd (none-some (fault.Line n) (sym good))
 whole_line n before bytes q ps (Some line) is good on =
     let with : with_line before (line_of bytes) ≡ before ++ line ∷ [] = ap (with_line before) is in
@@ -83,7 +91,9 @@ whole_line n before bytes q ps (Some line) is good on =
           ∙ ap (λ t. t ++ join 10 (q ∷ ps)) (written_push before line ∙ ap (λ t. written before ++ t) (line_joined bytes line is))
           ∙ append_assoc (written before) (bytes ++ 10 ∷ []) (join 10 (q ∷ ps))
           ∙ ap (λ t. written before ++ t) (append_assoc bytes (10 ∷ []) (join 10 (q ∷ ps)));
-      short = λ all. subst (λ l. All IsShort (lines_behind l (q ∷ ps))) (sym with) (on.short (All-append IsShort before (line ∷ []) all (All-cons IsShort line [] (value_short n before line good) (All-nil IsShort))));
+      short = λ all. subst (λ l. All IsShort (lines_behind l (q ∷ ps))) (sym with)
+          (on.short (All-append IsShort before (line ∷ []) all
+          (All-cons IsShort line [] (value_short n before line good) (All-nil IsShort))));
     }
 
 pub whole : (n : ℕ) (before : List Line) (ps : List (List ℕ)) → first_bad_from n before ps ≡ None → Whole before ps

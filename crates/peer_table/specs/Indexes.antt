@@ -1,5 +1,6 @@
 -- What an index over a text holds of its lines.
-use Rattle.std.specs.Prelude.{◌≡◌, ℕ, Bool, true, false, ◌+◌, ◌<◌, ◌≤◌, List, [], ◌∷◌, ◌++◌, length, take, drop, bytes_eq, cond, slice_range, Option, Some, None, option_map, Vec}
+use Rattle.std.specs.Prelude.{◌≡◌, ℕ, Bool, true, false, ◌+◌, ◌<◌, ◌≤◌, List, [], ◌∷◌, ◌++◌, length, take, drop, bytes_eq}
+use Rattle.std.specs.Prelude.{cond, slice_range, Option, Some, None, option_map, Vec}
 use Rattle.std.specs.declared.alloc.Global.{Global}
 use Rattle.std.specs.declared.hash.FoldHasher.{FoldHasher}
 use Rattle.std.specs.declared.hash.BuildHasherDefault.{BuildHasherDefault}
@@ -45,13 +46,20 @@ ArePlaces text places lines = (q : List ℕ) → option_map (part_of text) (get 
 pub record AreTabs (bytes : List ℕ) (first second : ℕ) : Type 0 where
   pub order : first < second
   pub within : second < length bytes
-  pub line : line_of bytes ≡ Some (record { group = take first bytes; key = slice_range bytes (first + 1) second; value = drop (second + 1) bytes })
+  pub line : line_of bytes ≡ Some (record {
+    group = take first bytes;
+    key = slice_range bytes (first + 1) second;
+    value =
+        drop (second + 1) bytes;
+  })
   pub front : take second bytes ≡ joined (take first bytes) (slice_range bytes (first + 1) second)
   pub plain : IsPlain (take first bytes)
 
 -- a name is numbered, unless it would be one too many
 abbrev pub PutsName : Numbers → Numbers → List (List ℕ) → List (List ℕ) → List ℕ → Bool → Type 0
-PutsName old new names names' name true = AreNumbers old names → AreNumbers new names' × (names' ≡ with_name names name) × (length names ≤ MAX_GROUPS → length names' ≤ MAX_GROUPS)
+PutsName old new names names' name true =
+    AreNumbers old names → AreNumbers new names' × (names' ≡ with_name names name)
+    × (length names ≤ MAX_GROUPS → length names' ≤ MAX_GROUPS)
 PutsName old new names names' name false = AreNumbers old names → MAX_GROUPS < length (with_name names name)
 
 -- each place lies in the text

@@ -1,33 +1,11 @@
 -- What reading a table answers.
-use Rattle.std.specs.Prelude.{◌≡◌, ℕ, ◌+◌, ◌<◌, ◌≤◌, List, ◌++◌, length, Option, Some, None, Result, Ok, Err, Vec}
+use Rattle.std.specs.Prelude.{◌≡◌, ℕ, ◌+◌, ◌<◌, ◌≤◌, List, ◌++◌, length, Some, None, Result, Ok, Err, Vec}
 use Rattle.std.specs.declared.alloc.Global.{Global}
 use Rattle.std.specs.Io.KnownBytes.{Appends}
+use Rattle.peer_view.specs.ReadWrite.{Reading}
 use Rattle.peer_table.specs.Tables.{first_bad, MAX_TEXT}
 use Rattle.peer_table.specs.declared.fault.TableFault.{TableFault}
 use Rattle.peer_table.specs.declared.fault.TableFault.TheVariants as fault
-
--- a reader before and after a call: the bytes that it gave, where it tells them, and its counts
-pub record Reading : Type 0 where
-  pub given : Option (List ℕ)
-  pub given' : Option (List ℕ)
-  pub calls : ℕ
-  pub calls' : ℕ
-  pub ends : ℕ
-  pub ends' : ℕ
-  pub failures : ℕ
-  pub failures' : ℕ
-
-abbrev pub reading : {R : Type 0} → (R → Option (List ℕ)) → (R → ℕ) → (R → ℕ) → (R → ℕ) → R → R → Reading
-reading given calls ends failures old new = record {
-  given = given old;
-  given' = given new;
-  calls = calls old;
-  calls' = calls new;
-  ends = ends old;
-  ends' = ends new;
-  failures = failures old;
-  failures' = failures new;
-}
 
 -- so many reads gave the text, and none told the end or failed
 pub record Gave (r : Reading) (made : ℕ) (text : List ℕ) : Type 0 where

@@ -1,5 +1,6 @@
 -- A table: a text of lines, each a group, a key and a value.
-use Rattle.std.specs.Prelude.{◌≡◌, ℕ, ◌+◌, ◌<◌, ◌≤◌, Bool, true, List, [], ◌∷◌, ◌++◌, length, codes, false, cond, nat_lt, nat_le, ◌==◌, ◌&&◌, bytes_eq, is_some, Option, Some, None, slice_get, refl}
+use Rattle.std.specs.Prelude.{◌≡◌, ℕ, ◌+◌, ◌<◌, ◌≤◌, Bool, true, List, [], ◌∷◌, ◌++◌, length, codes, false, cond, nat_lt, nat_le}
+use Rattle.std.specs.Prelude.{◌==◌, ◌&&◌, bytes_eq, is_some, Option, Some, None, slice_get, refl}
 use Rattle.std.proofs.Common.{sym, subst, arith}
 use Rattle.std.proofs.lemmas.Bool.{leb-true}
 use Rattle.std.proofs.lemmas.Option.{none-some, same_Some}
@@ -107,7 +108,8 @@ abbrev pub IsTableAnswer : ℕ → List ℕ → Answer → Type 0
 IsTableAnswer number key (Found value) = length value ≤ MAX_VALUE
 IsTableAnswer number key (Failed text) = text ≡ no_such_key
 
--- what is wrong with the n-th line behind those before it: its group and key stood before, its group is one too many, or its value is too long
+-- what is wrong with the n-th line behind those before it: its group and key stood before, its group is one too many,
+-- or its value is too long
 abbrev pub fault_behind : ℕ → List Line → Line → Option TableFault
 fault_behind n before line =
     cond (is_some (value_in before line.group line.key)) (Some (fault.Repeated n))
@@ -124,7 +126,8 @@ abbrev pub first_of : Option TableFault → Option TableFault → Option TableFa
 first_of None later = later
 first_of (Some now) later = Some now
 
--- the first bad line among pieces from the n-th on, behind the lines before them. The last piece is what is left behind the last 0A: it is a line
+-- the first bad line among pieces from the n-th on, behind the lines before them. The last piece is what is left
+-- behind the last 0A: it is a line
 -- without its end, unless nothing is left behind a line
 abbrev pub first_bad_from : ℕ → List Line → List (List ℕ) → Option TableFault
 first_bad_from n before [] = None
@@ -152,7 +155,8 @@ IsShort line = length line.value ≤ MAX_VALUE
 found_allowed : (g : ℕ) (k : List ℕ) (o : Option (List ℕ)) → IsTableAnswer g k (found_or_missing o)
 found_allowed g k None = refl
 found_allowed g k (Some value) =
-    (elim (nat_le (length value) MAX_VALUE) as (λ b. nat_le (length value) MAX_VALUE ≡ b → IsTableAnswer g k (cond b (Found value) (Failed no_such_key))) [
+    (elim (nat_le (length value) MAX_VALUE) as (λ b. nat_le (length value) MAX_VALUE ≡ b
+    → IsTableAnswer g k (cond b (Found value) (Failed no_such_key))) [
       | true ↦ λ fits. leb-true (length value) MAX_VALUE fits
       | false ↦ λ _. refl
     ]) refl

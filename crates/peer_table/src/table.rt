@@ -1,12 +1,15 @@
 //! The source whose answers are the lines of a text.
-ghost use Rattle.std.specs.Prelude.{◌≡◌, ℕ, ◌+◌, ◌-◌, ◌^◌, ◌<◌, ◌≤◌, List, [], ◌∷◌, ◌++◌, length, Some, None, Ok, Err, ◌⊎◌, refl, IfOk, IfErr, IfSome, IsErr, All};
+ghost use Rattle.std.specs.Prelude.{◌≡◌, ℕ, ◌+◌, ◌-◌, ◌^◌, ◌<◌, ◌≤◌, List, [], ◌∷◌, ◌++◌, length, Some, None, Ok, Err};
+ghost use Rattle.std.specs.Prelude.{◌⊎◌, refl, IfOk, IfErr, IfSome, IsErr, All};
 ghost use Rattle.peer_table.specs.Holds.{Holds};
-ghost use Rattle.peer_table.specs.Reads.{IsFirstBad, ReadsAs, reading};
-ghost use Rattle.peer_table.specs.Tables.{IsShort, IsTableAnswer, first_bad, found_or_missing, lines_of, names_of, no_such_key, number_below, number_in, table_allowed, table_answer, table_limited, written};
+ghost use Rattle.peer_table.specs.Reads.{IsFirstBad, ReadsAs};
+ghost use Rattle.peer_view.specs.ReadWrite.{reading};
+ghost use Rattle.peer_table.specs.Tables.{IsShort, IsTableAnswer, first_bad, found_or_missing, lines_of, names_of, no_such_key};
+ghost use Rattle.peer_table.specs.Tables.{number_below, number_in, table_allowed, table_answer, table_limited, written};
 ghost use Rattle.peer_source.specs.Answers.{Failed};
 ghost use Rattle.peer_source.specs.Reports.{reported};
 
-use crate::fault::{TableFault, refused};
+use crate::fault::{TableFault, memory_fault};
 use crate::fields::next_of;
 use crate::index::{Index, add_line, find};
 use crate::intake::read_all;
@@ -65,7 +68,7 @@ impl TableSource {
         reads: u64,
     ) -> Result<TableSource, TableFault>
         requires { R.calls reader.old + reads < 2 ^ 64 }
-        ensures { ReadsAs (reading R.given R.calls R.ends R.failures reader.old reader.new) reads result }
+        ensures { ReadsAs (reading R.PeerRead reader.old reader.new) reads result }
     {
         let bytes = read_all(alloc, reader, reads)?;
         let text = match Bytes::from_vec(bytes) {
@@ -89,7 +92,7 @@ impl TableSource {
 }
 
 // The error of a key that no line has.
-fn missing(alloc: Global) -> GetFault
+fn missing_key_fault(alloc: Global) -> GetFault
     ensures { (reported (Err result) [] ≡ Some (Failed no_such_key)) ⊎ (reported (Err result) [] ≡ None) }
 {
     match b"no such key".to_vec(alloc) {
@@ -110,10 +113,10 @@ fn put(
     match found {
         Ok(Some(view)) => match sink.set_view(&view) {
             Ok(()) => Ok(()),
-            Err(SinkFault::TooLong) => Err(missing(alloc)),
+            Err(SinkFault::TooLong) => Err(missing_key_fault(alloc)),
             Err(SinkFault::Memory) => Err(GetFault::Memory),
         },
-        Ok(None) => Err(missing(alloc)),
+        Ok(None) => Err(missing_key_fault(alloc)),
         Err(_) => Err(GetFault::Memory),
     }
 }

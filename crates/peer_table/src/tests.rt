@@ -165,7 +165,7 @@ fn takes_sixty_four_groups(rt: HostRuntime) -> Result<(), Fail> {
 }
 
 // A text of one line with a value of so many bytes.
-fn valued(alloc: Global, count: usize) -> Result<Vec<u8>, Fail> {
+fn line_with(alloc: Global, count: usize) -> Result<Vec<u8>, Fail> {
     let mut text = b"a\tk\t".to_vec(alloc)?;
     for _ in 0..count {
         text.push(b'x')?;
@@ -177,8 +177,8 @@ fn valued(alloc: Global, count: usize) -> Result<Vec<u8>, Fail> {
 #[test]
 fn takes_values_up_to_the_limit(rt: HostRuntime) -> Result<(), Fail> {
     let alloc = rt.alloc();
-    assert_eq!(rt; fault_of(alloc, &valued(alloc, 1_048_576)?)?, None);
-    assert!(rt; fails(alloc, &valued(alloc, 1_048_577)?, TableFault::Value(1))?);
+    assert_eq!(rt; fault_of(alloc, &line_with(alloc, 1_048_576)?)?, None);
+    assert!(rt; fails(alloc, &line_with(alloc, 1_048_577)?, TableFault::Value(1))?);
     Ok(())
 }
 

@@ -1,5 +1,6 @@
 -- Laws of pieces that are given one after another.
-use Rattle.std.proofs.Common.{◌≡◌, ◌≢◌, min, ℕ, zero, suc, ◌+◌, ◌<◌, ◌≤◌, List, [], ◌∷◌, ◌++◌, length, take, drop, get_or, Vec, refl, sym, ◌∙◌, ap, arith, append_assoc, append-nil, take-add}
+use Rattle.std.proofs.Common.{◌≡◌, ◌≢◌, min, ℕ, zero, suc, ◌+◌, ◌<◌, ◌≤◌, List, [], ◌∷◌, ◌++◌, length, take, drop, get_or, Vec}
+use Rattle.std.proofs.Common.{refl, sym, ◌∙◌, ap, arith, append_assoc, append-nil, take-add}
 use Rattle.std.proofs.lemmas.List.{take_all, drop_all, drop-drop, length-drop}
 use Rattle.std.proofs.lemmas.Grind.{common_steps}
 use Rattle.std.specs.declared.alloc.Global.{Global}
@@ -40,10 +41,13 @@ used_up_left (q ∷ ps) zero o lt le = all_left ps ∙ ap (λ v. put_piece v (pi
 used_up_left (q ∷ ps) (suc i) o lt le = used_up_left ps i o (omega arith) le
 
 -- n bytes more of a piece were given ..
-pub given_more : (ps : List (Vec ℕ Global)) (i o n : ℕ) → i < length ps → given_of ps i (o + n) ≡ given_of ps i o ++ take n (drop o (piece_at ps i))
+pub given_more : (ps : List (Vec ℕ Global)) (i o n : ℕ) → i < length ps
+    → given_of ps i (o + n) ≡ given_of ps i o ++ take n (drop o (piece_at ps i))
 given_more [] i o n lt = absurd (omega (arith, lt))
 given_more (q ∷ ps) zero o n lt = take-add o n q.items
-given_more (q ∷ ps) (suc i) o n lt = ap (λ v. q.items ++ v) (given_more ps i o n (omega arith)) ∙ sym (append_assoc q.items (given_of ps i o) (take n (drop o (piece_at ps i))))
+given_more (q ∷ ps) (suc i) o n lt =
+    ap (λ v. q.items ++ v) (given_more ps i o n (omega arith))
+    ∙ sym (append_assoc q.items (given_of ps i o) (take n (drop o (piece_at ps i))))
 
 -- a piece that is not empty stands before the others
 put_some : (xs : List ℕ) (ps : List (List ℕ)) → 0 < length xs → put_piece xs ps ≡ xs ∷ ps
@@ -55,16 +59,19 @@ pub some_left : (xs : List ℕ) (o : ℕ) → o < length xs → 0 < length (drop
 some_left xs o lt = omega (arith, length-drop o xs, lt)
 
 -- the place has the rest of a piece as its first piece
-pub first_left : (ps : List (Vec ℕ Global)) (i o : ℕ) → i < length ps → o < length (piece_at ps i) → first_piece (left_of ps i o) ≡ drop o (piece_at ps i)
+pub first_left : (ps : List (Vec ℕ Global)) (i o : ℕ) → i < length ps → o < length (piece_at ps i)
+    → first_piece (left_of ps i o) ≡ drop o (piece_at ps i)
 first_left [] i o lt le = absurd (omega (arith, lt))
 first_left (p ∷ ps) zero o lt le = ap first_piece (put_some (drop o p.items) (pieces_of ps) (some_left p.items o le))
 first_left (p ∷ ps) (suc i) o lt le = first_left ps i o (omega arith) le
 
 -- .. and are not left
-pub left_more : (ps : List (Vec ℕ Global)) (i o n : ℕ) → i < length ps → o < length (piece_at ps i) → left_of ps i (o + n) ≡ after_read n (left_of ps i o)
+pub left_more : (ps : List (Vec ℕ Global)) (i o n : ℕ) → i < length ps → o < length (piece_at ps i)
+    → left_of ps i (o + n) ≡ after_read n (left_of ps i o)
 left_more [] i o n lt le = absurd (omega (arith, lt))
 left_more (p ∷ ps) zero o n lt le =
-    ap (λ v. put_piece v (pieces_of ps)) (sym (drop-drop n o p.items)) ∙ ap (after_read n) (sym (put_some (drop o p.items) (pieces_of ps) (some_left p.items o le)))
+    ap (λ v. put_piece v (pieces_of ps)) (sym (drop-drop n o p.items))
+    ∙ ap (after_read n) (sym (put_some (drop o p.items) (pieces_of ps) (some_left p.items o le)))
 left_more (p ∷ ps) (suc i) o n lt le = left_more ps i o n (omega arith) le
 
 -- what a room for m bytes takes of a list, and what it leaves
@@ -80,8 +87,10 @@ some_piece [] xs e lt h = absurd (omega (arith, ap length e, lt))
 some_piece (p ∷ ps) xs e lt h = cc
 
 -- a read into room for m bytes leaves what is behind them
-pub give_left : (ps : List (Vec ℕ Global)) (i o m : ℕ) → i < length ps → o < length (piece_at ps i) → left_of ps i (o + min m (length (drop o (piece_at ps i)))) ≡ after_read m (left_of ps i o)
+pub give_left : (ps : List (Vec ℕ Global)) (i o m : ℕ) → i < length ps → o < length (piece_at ps i)
+    → left_of ps i (o + min m (length (drop o (piece_at ps i)))) ≡ after_read m (left_of ps i o)
 give_left [] i o m lt le = absurd (omega (arith, lt))
 give_left (p ∷ ps) zero o m lt le =
-    ap (λ v. put_piece v (pieces_of ps)) (sym (drop-drop (min m (length (drop o p.items))) o p.items) ∙ drop_room m (drop o p.items)) ∙ ap (after_read m) (sym (put_some (drop o p.items) (pieces_of ps) (some_left p.items o le)))
+    ap (λ v. put_piece v (pieces_of ps)) (sym (drop-drop (min m (length (drop o p.items))) o p.items) ∙ drop_room m (drop o p.items))
+    ∙ ap (after_read m) (sym (put_some (drop o p.items) (pieces_of ps) (some_left p.items o le)))
 give_left (p ∷ ps) (suc i) o m lt le = give_left ps i o m (omega arith) le

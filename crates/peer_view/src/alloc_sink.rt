@@ -2,7 +2,7 @@
 ghost use Rattle.std.specs.Prelude.{◌≡◌, ◌↔◌, ◌<◌, ◌≤◌, [], length, None, OnOk, OnErr, Err};
 ghost use Rattle.peer_view.specs.Sinks.{MAX_VALUE};
 
-use crate::sink::{Sink, SinkFault, copied, shared};
+use crate::sink::{Sink, SinkFault, copy_for_sink, share_for_sink};
 use crate::view::ByteView;
 use bytes::Bytes;
 use std::alloc::Global;
@@ -41,7 +41,7 @@ impl AllocSink {
         ensures err { OnErr result (self.new ≡ self.old) }
         ensures too_long { (result ≡ Err SinkFault.TooLong) ↔ (MAX_VALUE < length bytes.now) }
     {
-        self.value = copied(alloc, bytes)?;
+        self.value = copy_for_sink(alloc, bytes)?;
         Ok(())
     }
 
@@ -60,7 +60,7 @@ impl AllocSink {
         ensures err { OnErr result (self.new ≡ self.old) }
         ensures too_long { (result ≡ Err SinkFault.TooLong) ↔ (MAX_VALUE < length view.now) }
     {
-        self.value = shared(view)?;
+        self.value = share_for_sink(view)?;
         Ok(())
     }
 

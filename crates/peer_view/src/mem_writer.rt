@@ -74,7 +74,8 @@ impl PeerWrite for MemWriter {
         ensures bytes { Appends (Some self.old.taken) (Some self.new.taken) (moved result bytes.now) }
         ensures failed { self.new.failures ≡ self.old.failures + failure_count result }
         ensures count { IfOk result (λ n. n ≡ page_room (length self.old.taken) self.old.step self.old.limit (length bytes.now)) }
-        ensures full { 0 < length bytes.now → page_room (length self.old.taken) self.old.step self.old.limit (length bytes.now) ≡ 0 → IsErr result }
+        ensures full { 0 < length bytes.now → page_room (length self.old.taken) self.old.step self.old.limit (length bytes.now) ≡ 0
+            → IsErr result }
         ensures same { (self.new.step ≡ self.old.step) × (self.new.limit ≡ self.old.limit) }
     {
         let n = count_taken(self.taken.len(), bytes.len(), self.step, self.limit);

@@ -58,7 +58,7 @@ pub trait Sink {
 }
 
 // A view of a copy of the bytes, for a sink to hold.
-pub(crate) fn copied(alloc: Global, bytes: &[u8]) -> Result<ByteView, SinkFault>
+pub(crate) fn copy_for_sink(alloc: Global, bytes: &[u8]) -> Result<ByteView, SinkFault>
     ensures ok { IfOk result (λ v. v ≡ bytes.now) }
     ensures fits { OnOk result (length bytes.now ≤ MAX_VALUE) }
     ensures too_long { (result ≡ Err SinkFault.TooLong) ↔ (MAX_VALUE < length bytes.now) }
@@ -66,11 +66,11 @@ pub(crate) fn copied(alloc: Global, bytes: &[u8]) -> Result<ByteView, SinkFault>
     if bytes.len() > VALUE_LIMIT {
         return Err(SinkFault::TooLong);
     }
-    ByteView::copy_of(alloc, bytes).map_err(refused)
+    ByteView::copy_of(alloc, bytes).map_err(memory_fault)
 }
 
 // A second view of the bytes, for a sink to hold.
-pub(crate) fn shared(view: &ByteView) -> Result<ByteView, SinkFault>
+pub(crate) fn share_for_sink(view: &ByteView) -> Result<ByteView, SinkFault>
     ensures ok { IfOk result (λ v. v ≡ view.now) }
     ensures fits { OnOk result (length view.now ≤ MAX_VALUE) }
     ensures too_long { (result ≡ Err SinkFault.TooLong) ↔ (MAX_VALUE < length view.now) }
@@ -78,11 +78,11 @@ pub(crate) fn shared(view: &ByteView) -> Result<ByteView, SinkFault>
     if view.len() > VALUE_LIMIT {
         return Err(SinkFault::TooLong);
     }
-    view.share().map_err(refused)
+    view.share().map_err(memory_fault)
 }
 
 // What refused memory is for a sink.
-fn refused(_: AllocError) -> SinkFault
+fn memory_fault(_: AllocError) -> SinkFault
     ensures { result ≡ SinkFault.Memory }
 {
     SinkFault::Memory

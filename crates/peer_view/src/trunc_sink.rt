@@ -42,7 +42,8 @@ impl<'a> TruncSink<'a> {
     pub fn set_bytes(&mut self, bytes: &[u8])
         ensures len { kept_len self.new ≡ min (length (destination_of self.old)) (length bytes.now) }
         ensures value { kept_value self.new ≡ take (length (destination_of self.old)) bytes.now }
-        ensures destination { destination_of self.new ≡ placed (Some (length (destination_of self.old))) bytes.now (destination_of self.old) }
+        ensures destination { destination_of self.new
+            ≡ placed (Some (length (destination_of self.old))) bytes.now (destination_of self.old) }
         ensures room { length (destination_of self.new) ≡ length (destination_of self.old) }
         ensures loan { destination_loan self.new ≡ destination_loan self.old }
     {
@@ -53,7 +54,8 @@ impl<'a> TruncSink<'a> {
     pub fn set_str(&mut self, text: &str)
         ensures len { kept_len self.new ≡ min (length (destination_of self.old)) (length text.now) }
         ensures value { kept_value self.new ≡ take (length (destination_of self.old)) text.now }
-        ensures destination { destination_of self.new ≡ placed (Some (length (destination_of self.old))) text.now (destination_of self.old) }
+        ensures destination { destination_of self.new
+            ≡ placed (Some (length (destination_of self.old))) text.now (destination_of self.old) }
         ensures room { length (destination_of self.new) ≡ length (destination_of self.old) }
         ensures loan { destination_loan self.new ≡ destination_loan self.old }
     {
@@ -64,7 +66,8 @@ impl<'a> TruncSink<'a> {
     pub fn set_view(&mut self, view: &ByteView)
         ensures len { kept_len self.new ≡ min (length (destination_of self.old)) (length view.now) }
         ensures value { kept_value self.new ≡ take (length (destination_of self.old)) view.now }
-        ensures destination { destination_of self.new ≡ placed (Some (length (destination_of self.old))) view.now (destination_of self.old) }
+        ensures destination { destination_of self.new
+            ≡ placed (Some (length (destination_of self.old))) view.now (destination_of self.old) }
         ensures room { length (destination_of self.new) ≡ length (destination_of self.old) }
         ensures loan { destination_loan self.new ≡ destination_loan self.old }
     {

@@ -2,7 +2,7 @@
 ghost use Rattle.std.specs.Prelude.{◌≡◌, None, Some};
 ghost use Rattle.peer_view.specs.Loans.{lent_view, view_loan};
 
-use crate::sink::{Sink, SinkFault, copied, shared};
+use crate::sink::{Sink, SinkFault, copy_for_sink, share_for_sink};
 use crate::view::ByteView;
 use std::alloc::Global;
 
@@ -32,7 +32,7 @@ impl Sink for ViewSink<'_> {
     ghost loan = { λ s. Some (view_loan s) };
 
     fn set_bytes(&mut self, alloc: Global, bytes: &[u8]) -> Result<(), SinkFault> {
-        *self.view = copied(alloc, bytes)?;
+        *self.view = copy_for_sink(alloc, bytes)?;
         Ok(())
     }
 
@@ -41,7 +41,7 @@ impl Sink for ViewSink<'_> {
     }
 
     fn set_view(&mut self, view: &ByteView) -> Result<(), SinkFault> {
-        *self.view = shared(view)?;
+        *self.view = share_for_sink(view)?;
         Ok(())
     }
 }

@@ -33,7 +33,8 @@ pub trait PeerWrite {
 pub fn write_all<W: PeerWrite>(writer: &mut W, bytes: &[u8]) -> Result<(), WriteFault>
     requires { W.failures writer.old < 2 ^ 64 - 1 }
     ensures sends { Sends result (W.failures writer.old) (W.failures writer.new) (W.taken writer.old) (W.taken writer.new) bytes.now [] }
-    ensures written { IfErr result (λ e. (e.written ≤ length bytes.now) × Appends (W.taken writer.old) (W.taken writer.new) (take e.written bytes.now)) }
+    ensures written { IfErr result (λ e. (e.written ≤ length bytes.now)
+        × Appends (W.taken writer.old) (W.taken writer.new) (take e.written bytes.now)) }
 {
     let mut at = 0;
     while at < bytes.len() {

@@ -46,11 +46,11 @@ fn hand_over<R: Threads + Wait + Sync>(rt: &R) -> u32 {
         number: AtomicU32::new(0),
         changed: Notice::new(),
     };
-    let both = &turns;
+    let shared = &turns;
     join(
         rt,
-        move || take_turns(rt, both, 0),
-        move || take_turns(rt, both, 1),
+        move || take_turns(rt, shared, 0),
+        move || take_turns(rt, shared, 1),
     );
     turns.number.load(SeqCst)
 }

@@ -22,7 +22,7 @@ struct Shown {
 }
 
 // What a claim shows that waits for its flight.
-fn led(last: u8) -> Shown {
+fn lead(last: u8) -> Shown {
     Shown { ready: false, last }
 }
 
@@ -156,7 +156,7 @@ fn a_key_used_lately_is_a_hit(rt: HostRuntime) -> Result<(), Fail> {
         b"abcac",
         Blank::new(16),
     );
-    let shown = [led(b'a'), led(b'b'), led(b'c'), led(b'a'), hit(b'c')];
+    let shown = [lead(b'a'), lead(b'b'), lead(b'c'), lead(b'a'), hit(b'c')];
     assert_eq!(rt; seen, Some((shown, report_with(1))));
     Ok(())
 }
@@ -171,7 +171,7 @@ fn a_pool_with_cache_0_keeps_nothing(rt: HostRuntime) -> Result<(), Fail> {
         b"aabba",
         Blank::new(16),
     );
-    let shown = [led(b'a'), led(b'a'), led(b'b'), led(b'b'), led(b'a')];
+    let shown = [lead(b'a'), lead(b'a'), lead(b'b'), lead(b'b'), lead(b'a')];
     assert_eq!(rt; seen, Some((shown, report_with(0))));
     Ok(())
 }
@@ -181,12 +181,12 @@ fn an_error_is_never_kept(rt: HostRuntime) -> Result<(), Fail> {
     let seen = five_asks::<Numbering, Brand, HostRuntime>(
         &rt,
         rt.alloc(),
-        Numbering::failing(2),
+        Numbering::with_failures(2),
         100,
         b"kkkkk",
         Blank::new(16),
     );
-    let shown = [led(0), led(0), led(b'3'), hit(b'3'), hit(b'3')];
+    let shown = [lead(0), lead(0), lead(b'3'), hit(b'3'), hit(b'3')];
     assert_eq!(rt; seen, Some((shown, report_with(2))));
     Ok(())
 }
@@ -196,12 +196,12 @@ fn a_kept_answer_is_repeated_until_it_is_evicted(rt: HostRuntime) -> Result<(), 
     let seen = five_asks::<Numbering, Brand, HostRuntime>(
         &rt,
         rt.alloc(),
-        Numbering::failing(0),
+        Numbering::with_failures(0),
         4,
         b"kkabk",
         Blank::new(16),
     );
-    let shown = [led(b'1'), hit(b'1'), led(b'2'), led(b'3'), led(b'4')];
+    let shown = [lead(b'1'), hit(b'1'), lead(b'2'), lead(b'3'), lead(b'4')];
     assert_eq!(rt; seen, Some((shown, report_with(1))));
     Ok(())
 }

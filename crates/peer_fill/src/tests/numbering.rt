@@ -17,7 +17,7 @@ pub struct Numbering {
 
 impl Numbering {
     // One that was not called, and fails so often.
-    pub fn failing(failures: u64) -> Numbering {
+    pub fn with_failures(failures: u64) -> Numbering {
         Numbering {
             calls: AtomicU64::new(0),
             failures,

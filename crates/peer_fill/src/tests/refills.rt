@@ -13,7 +13,7 @@ use std::sync::ledger::{Blank, Ledger};
 use std::test::Fail;
 
 // The value that a refill finds where this key's fill of the group came, and none where the refill was none.
-fn refilled<L: Ledger>(
+fn refill_value<L: Ledger>(
     alloc: Global,
     pool: &Pool<DemoSource, L>,
     claim: &Claim<DemoSource>,
@@ -39,9 +39,9 @@ fn refills<L: Ledger, R: Wait>(rt: &R, alloc: Global, blank: Blank) -> Option<[b
         two: _,
     } = small;
     let claim = ask(rt, alloc, &pool, &mut one, b"12")?;
-    let own = refilled(alloc, &pool, &claim, SQUARE, b"12");
-    let of_key = refilled(alloc, &pool, &claim, SQUARE, b"13");
-    let of_group = refilled(alloc, &pool, &claim, ECHO, b"12");
+    let own = refill_value(alloc, &pool, &claim, SQUARE, b"12");
+    let of_key = refill_value(alloc, &pool, &claim, SQUARE, b"13");
+    let of_group = refill_value(alloc, &pool, &claim, ECHO, b"12");
     Some([
         own.is_none(),
         is_value(&of_key, b"144"),

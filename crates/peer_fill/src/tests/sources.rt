@@ -40,7 +40,7 @@ struct Run {
 }
 
 // What was seen after both asked.
-fn seen<L: Ledger>(
+fn run_of<L: Ledger>(
     small: &Small<Numbering, L>,
     gate: &Counting,
     values: &[Option<ByteView>; 2],
@@ -65,11 +65,11 @@ fn two_runs<L: Ledger, R: Wait>(rt: &R, alloc: Global, blank: Blank) -> Option<[
         before: AtomicU64::new(0),
         after: AtomicU64::new(0),
     };
-    let small = Small::<Numbering, L>::open(alloc, Numbering::failing(0), 0, blank)?;
+    let small = Small::<Numbering, L>::open(alloc, Numbering::with_failures(0), 0, blank)?;
     let (small, values) = small.both_ask(rt, alloc, b"k", &gate)?;
-    let first = seen(&small, &gate, &values, b'1');
+    let first = run_of(&small, &gate, &values, b'1');
     let (small, values) = small.both_ask(rt, alloc, b"k", &gate)?;
-    let second = seen(&small, &gate, &values, b'2');
+    let second = run_of(&small, &gate, &values, b'2');
     Some([first, second])
 }
 
@@ -120,7 +120,7 @@ impl<'a, L: Ledger + Send + Sync> Gate for AskingAgain<'a, L> {
 }
 
 // What was led first, led and joined by the second ask, and called.
-fn asked_again<L: Ledger + Send + Sync, R: Wait>(
+fn ask_again<L: Ledger + Send + Sync, R: Wait>(
     rt: &R,
     alloc: Global,
     blank: Blank,
@@ -128,7 +128,7 @@ fn asked_again<L: Ledger + Send + Sync, R: Wait>(
     requires name { blank.name ≡ L.name }
     requires parts { (blank.parts ≡ L.parts) × (blank.parts ≡ 16) }
 {
-    let small = Small::<Numbering, L>::open(alloc, Numbering::failing(0), 0, blank)?;
+    let small = Small::<Numbering, L>::open(alloc, Numbering::with_failures(0), 0, blank)?;
     let Small {
         pool,
         fill,
@@ -158,7 +158,7 @@ fn asked_again<L: Ledger + Send + Sync, R: Wait>(
 
 #[test]
 fn a_flight_is_open_until_its_fill_was_put(rt: HostRuntime) -> Result<(), Fail> {
-    let seen = asked_again::<Brand, HostRuntime>(&rt, rt.alloc(), Blank::new(16));
+    let seen = ask_again::<Brand, HostRuntime>(&rt, rt.alloc(), Blank::new(16));
     assert_eq!(rt; seen, Some([1, 0, 1, 1]));
     Ok(())
 }

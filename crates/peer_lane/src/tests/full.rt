@@ -2,7 +2,7 @@
 ghost use Rattle.std.specs.Prelude.{◌≡◌};
 ghost use Rattle.peer_lane.specs.Lanes.{free_places, IsSameIn};
 
-use super::{bears, numbered};
+use super::{has_number, ticket_with};
 use crate::{Body, LaneIn, LaneOut, Ticket, beside, lane};
 use peer_flight::Claim;
 use peer_source::{DemoSource, Fill, GroupId};
@@ -16,7 +16,7 @@ pub(super) fn fill_up(alloc: Global, put: &mut LaneIn<DemoSource>) -> Result<(),
     ensures { IsSameIn put.old put.new }
 {
     for number in 0..64 {
-        match put.put(numbered(alloc, number)?) {
+        match put.put(ticket_with(alloc, number)?) {
             Ok(()) => {}
             Err(_) => unreachable!(),
         }
@@ -28,14 +28,14 @@ pub(super) fn fill_up(alloc: Global, put: &mut LaneIn<DemoSource>) -> Result<(),
 fn hands_back(alloc: Global, put: &mut LaneIn<DemoSource>, number: u8) -> Result<bool, AllocError>
     ensures { IsSameIn put.old put.new }
 {
-    let ticket = numbered(alloc, number)?;
-    Ok(bears(put.put(ticket).err(), number))
+    let ticket = ticket_with(alloc, number)?;
+    Ok(has_number(put.put(ticket).err(), number))
 }
 
 // Whether the tickets from 2 on come in order, and none behind them.
 fn ends_in_order(taken: &mut LaneOut<DemoSource>) -> bool {
     for number in 2..65 {
-        if !bears(taken.take(), number) {
+        if !has_number(taken.take(), number) {
             return false;
         }
     }
@@ -48,10 +48,10 @@ fn a_full_lane_hands_the_65th_ticket_back(rt: HostRuntime) -> Result<(), Fail> {
     let (mut put, mut taken) = lane(alloc)?;
     fill_up(alloc, &mut put)?;
     assert!(rt; hands_back(alloc, &mut put, 64)?);
-    assert!(rt; bears(taken.take(), 0));
+    assert!(rt; has_number(taken.take(), 0));
     assert!(rt; !hands_back(alloc, &mut put, 64)?);
     assert_eq!(rt; beside(&mut put, &mut taken), 64);
-    assert!(rt; bears(Some(taken.take_known()), 1));
+    assert!(rt; has_number(Some(taken.take_known()), 1));
     assert!(rt; ends_in_order(&mut taken));
     Ok(())
 }

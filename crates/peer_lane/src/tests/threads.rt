@@ -1,6 +1,6 @@
 //! A lane between two threads: tickets come in order, and each thread sleeps and is woken.
 use super::full::fill_up;
-use super::{bears, numbered};
+use super::{has_number, ticket_with};
 use crate::{LaneIn, LaneOut, Signal, lane};
 use peer_source::DemoSource;
 use std::alloc::{AllocError, Global};
@@ -23,7 +23,7 @@ fn put_many<R: Wait + Clock>(
 ) -> Result<(), AllocError> {
     thread::sleep(rt, late);
     for number in 0..MANY {
-        put.put_waiting(rt, signal, numbered(alloc, number)?);
+        put.put_waiting(rt, signal, ticket_with(alloc, number)?);
     }
     Ok(())
 }
@@ -37,7 +37,7 @@ fn take_many<R: Wait + Clock>(
 ) -> bool {
     thread::sleep(rt, late);
     for number in 0..MANY {
-        if !bears(taken.take_waiting(rt, signal), number) {
+        if !has_number(taken.take_waiting(rt, signal), number) {
             return false;
         }
     }
@@ -82,21 +82,21 @@ fn take_and_notify<R: Wait + Clock>(
     taken: &mut LaneOut<DemoSource>,
 ) -> bool {
     thread::sleep(rt, Duration::from_micros(3000));
-    let first = bears(taken.take(), 0);
+    let first = has_number(taken.take(), 0);
     signal.notify();
     for number in 1..64 {
-        if !bears(taken.take(), number) {
+        if !has_number(taken.take(), number) {
             return false;
         }
     }
-    first && bears(taken.take_waiting(rt, signal), 64)
+    first && has_number(taken.take_waiting(rt, signal), 64)
 }
 
 // Whether a notice after a `take` wakes the thread that waits to put a ticket into a full lane.
 fn wakes<R: Threads + Wait + Clock + Sync>(rt: &R, alloc: Global) -> Result<bool, AllocError> {
     let (mut put, mut taken) = lane(alloc)?;
     fill_up(alloc, &mut put)?;
-    let ticket = numbered(alloc, 64)?;
+    let ticket = ticket_with(alloc, 64)?;
     let signal = Signal::new();
     let signal = &signal;
     let (_, woken) = thread::join(

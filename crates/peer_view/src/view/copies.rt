@@ -1,5 +1,6 @@
 //! The bytes of a view, copied out, compared or sent.
-ghost use Rattle.std.specs.Prelude.{◌≡◌, ℕ, ◌+◌, ◌-◌, ◌^◌, ◌<◌, ◌≤◌, ◌⊎◌, ◌↔◌, [], ◌++◌, length, take, drop, min, Err, IsTrue, IfOk, IfErr, IsUtf8, string_bytes};
+ghost use Rattle.std.specs.Prelude.{◌≡◌, ℕ, ◌+◌, ◌-◌, ◌^◌, ◌<◌, ◌≤◌, ◌⊎◌, ◌↔◌, [], ◌++◌, length, take, drop, min};
+ghost use Rattle.std.specs.Prelude.{Err, IsTrue, IfOk, IfErr, IsUtf8, string_bytes};
 ghost use Rattle.std.specs.Io.KnownBytes.{Appends};
 ghost use Rattle.peer_view.specs.Moves.{Sends};
 
@@ -73,7 +74,8 @@ impl ByteView {
     pub fn write_to<W: PeerWrite>(&self, writer: &mut W) -> Result<(), WriteFault>
         requires { W.failures writer.old < 2 ^ 64 - 1 }
         ensures sends { Sends result (W.failures writer.old) (W.failures writer.new) (W.taken writer.old) (W.taken writer.new) self.now [] }
-        ensures written { IfErr result (λ e. (e.written ≤ length self.now) × Appends (W.taken writer.old) (W.taken writer.new) (take e.written self.now)) }
+        ensures written { IfErr result (λ e. (e.written ≤ length self.now)
+            × Appends (W.taken writer.old) (W.taken writer.new) (take e.written self.now)) }
     {
         write_all(writer, self.as_slice())
     }

@@ -6,7 +6,7 @@ use Rattle.peer_fill.proofs.close.gather_conns.Goals as goal
 pub loop-seat-init : goal.loop-seat-init
 loop-seat-init g c =
     let e = c.in-Some.ensures.items in
-    let k = c.of-tally.ensures in
+    let k = c.of-totals.ensures in
     record {
       own = rw k.pass (of_last (λ s. IsPassOf c.args.jobs.now s.pass) _ _ _ e c.requires.pass);
       others = of_front (λ s. IsPassOf c.args.jobs.now s.pass) _ _ _ e c.requires.pass;
@@ -19,14 +19,17 @@ loop-seat-init g c =
       strangers = rw k.asks (omega (arith, sum_last (λ s. s.asks.strangers) _ _ _ e));
     }
 
-pub add_conn-tally-requires-clause-pass : goal.add_conn-tally-requires-clause-pass
-add_conn-tally-requires-clause-pass g c κs within =
-    (c.loop-seat.invariant.own, of_last (λ s. IsPassOf c.args.jobs.now s.pass) _ _ _ c.in-Some-pop.ensures.items c.loop-seat.invariant.others)
+pub add_conn-totals-requires-clause-pass : goal.add_conn-totals-requires-clause-pass
+add_conn-totals-requires-clause-pass g c κs within = (
+  c.loop-seat.invariant.own,
+  of_last (λ s. IsPassOf c.args.jobs.now s.pass) _ _ _ c.in-Some-pop.ensures.items
+      c.loop-seat.invariant.others,
+)
 
 pub loop-seat-preserved : goal.loop-seat-preserved
 loop-seat-preserved g c =
     let e = c.in-Some-pop.ensures.items in
-    let k = c.add_conn-tally.ensures in
+    let k = c.add_conn-totals.ensures in
     let i = c.loop-seat.invariant in
     record {
       own = k.pass;

@@ -5,15 +5,15 @@ use Rattle.peer_fill.proofs.close.gather_conns.Given as goal
 
 abbrev pub invariant-loop-seat : goal.invariant-loop-seat
 invariant-loop-seat g l = record {
-  own : IsPassOf l.jobs l.tally.pass;
+  own : IsPassOf l.jobs l.totals.pass;
   others : All (λ s. IsPassOf l.jobs s.pass) l.conns.items;
-  parts : l.tally.conn_parts + sum_by (λ s. s.parts) l.conns.items ≡ 16;
-  no_fills : (l.tally.fill_parts ≡ 0) × (l.tally.fills ≡ no_fills);
-  asked : l.tally.asks.asked + sum_by (λ s. s.asks.asked) l.conns.items ≡ sum_by (λ s. s.asks.asked) l.fn.conns.items;
-  hits : l.tally.asks.hits + sum_by (λ s. s.asks.hits) l.conns.items ≡ sum_by (λ s. s.asks.hits) l.fn.conns.items;
-  led : l.tally.asks.led + sum_by (λ s. s.asks.led) l.conns.items ≡ sum_by (λ s. s.asks.led) l.fn.conns.items;
-  joined : l.tally.asks.joined + sum_by (λ s. s.asks.joined) l.conns.items ≡ sum_by (λ s. s.asks.joined) l.fn.conns.items;
-  strangers : l.tally.asks.strangers + sum_by (λ s. s.asks.strangers) l.conns.items ≡ sum_by (λ s. s.asks.strangers) l.fn.conns.items;
+  parts : l.totals.conn_parts + sum_by (λ s. s.parts) l.conns.items ≡ 16;
+  no_fills : (l.totals.fill_parts ≡ 0) × (l.totals.fills ≡ no_fills);
+  asked : l.totals.asks.asked + sum_by (λ s. s.asks.asked) l.conns.items ≡ sum_by (λ s. s.asks.asked) l.fn.conns.items;
+  hits : l.totals.asks.hits + sum_by (λ s. s.asks.hits) l.conns.items ≡ sum_by (λ s. s.asks.hits) l.fn.conns.items;
+  led : l.totals.asks.led + sum_by (λ s. s.asks.led) l.conns.items ≡ sum_by (λ s. s.asks.led) l.fn.conns.items;
+  joined : l.totals.asks.joined + sum_by (λ s. s.asks.joined) l.conns.items ≡ sum_by (λ s. s.asks.joined) l.fn.conns.items;
+  strangers : l.totals.asks.strangers + sum_by (λ s. s.asks.strangers) l.conns.items ≡ sum_by (λ s. s.asks.strangers) l.fn.conns.items;
 }
 
 abbrev pub decreases-loop-seat : goal.decreases-loop-seat

@@ -6,7 +6,7 @@ use Rattle.peer_fill.proofs.close.gather_fills.Goals as goal
 pub loop-seat-preserved : goal.loop-seat-preserved
 loop-seat-preserved g c =
     let e = c.in-Some.ensures.items in
-    let k = c.add_fill-tally.ensures in
+    let k = c.add_fill-totals.ensures in
     let i = c.loop-seat.invariant in
     record {
       own = k.pass;

@@ -4,13 +4,13 @@ use Rattle.peer_fill.proofs.close.gather_fills.Given as goal
 
 abbrev pub invariant-loop-seat : goal.invariant-loop-seat
 invariant-loop-seat g l = record {
-  own : IsPassOf l.jobs l.tally.pass;
+  own : IsPassOf l.jobs l.totals.pass;
   others : All (λ s. IsPassOf l.jobs s.pass) l.fills.items;
-  parts : l.tally.fill_parts + sum_by (λ s. s.parts) l.fills.items ≡ 16;
-  conn_parts : l.tally.conn_parts ≡ l.fn.tally.conn_parts;
-  asks : l.tally.asks ≡ l.fn.tally.asks;
-  calls : l.tally.fills.calls + sum_by (λ s. s.fills.calls) l.fills.items ≡ sum_by (λ s. s.fills.calls) l.fn.fills.items;
-  rehits : l.tally.fills.rehits + sum_by (λ s. s.fills.rehits) l.fills.items ≡ sum_by (λ s. s.fills.rehits) l.fn.fills.items;
+  parts : l.totals.fill_parts + sum_by (λ s. s.parts) l.fills.items ≡ 16;
+  conn_parts : l.totals.conn_parts ≡ l.fn.totals.conn_parts;
+  asks : l.totals.asks ≡ l.fn.totals.asks;
+  calls : l.totals.fills.calls + sum_by (λ s. s.fills.calls) l.fills.items ≡ sum_by (λ s. s.fills.calls) l.fn.fills.items;
+  rehits : l.totals.fills.rehits + sum_by (λ s. s.fills.rehits) l.fills.items ≡ sum_by (λ s. s.fills.rehits) l.fn.fills.items;
 }
 
 abbrev pub decreases-loop-seat : goal.decreases-loop-seat

@@ -13,7 +13,10 @@ loop-handle-preserved g c =
     let of : c.in-Some.handle.promise.pool.now ≡ pool = of_last (λ h. h.promise.pool.now ≡ pool) _ _ _ last i.serving in
     record {
       serving = of_front (λ h. h.promise.pool.now ≡ pool) _ _ _ last i.serving;
-      seats = all_push (IsConnSeatOf pool) _ _ _ c.in-Ok.ensures.items i.seats (subst (λ p. IsConnSeatOf p c.join.result) of c.join.ensures.0);
+      seats = all_push (IsConnSeatOf pool) _ _ _ c.in-Ok.ensures.items i.seats
+          (subst (λ p. IsConnSeatOf p c.join.result) of c.join.ensures.0);
       room = omega (arith, c.in-Some.ensures.cases, c.in-Ok.ensures.len, c.in-Ok.ensures.capacity, i.room);
-      parts = moves (λ h. conn_parts h.promise.seat.value) conn_parts c.loop-handle.serving.items c.pop.new.self.items c.loop-handle.seats.items c.push.new.self.items c.join.result (conn_parts c.in-Some.handle.promise.seat.value) _ (sum_last (λ h. conn_parts h.promise.seat.value) _ _ _ last) c.in-Ok.ensures.items c.join.ensures.1 i.parts;
+      parts = moves (λ h. conn_parts h.promise.seat.value) conn_parts c.loop-handle.serving.items c.pop.new.self.items
+          c.loop-handle.seats.items c.push.new.self.items c.join.result (conn_parts c.in-Some.handle.promise.seat.value) _
+          (sum_last (λ h. conn_parts h.promise.seat.value) _ _ _ last) c.in-Ok.ensures.items c.join.ensures.1 i.parts;
     }

@@ -8,7 +8,8 @@ invariant-loop-handle g l = record {
   working : All (λ h. h.promise.pool.now ≡ l.pool) l.working.items;
   seats : All (IsFillSeatOf l.pool) l.seats.items;
   room : vec_len l.seats + vec_len l.working ≤ vec_capacity l.seats;
-  parts : sum_by (λ h. fill_parts h.promise.seat.value) l.working.items + sum_by fill_parts l.seats.items ≡ sum_by (λ h. fill_parts h.promise.seat.value) l.initial.working.items + sum_by fill_parts l.fn.seats.items;
+  parts : sum_by (λ h. fill_parts h.promise.seat.value) l.working.items + sum_by fill_parts l.seats.items
+      ≡ sum_by (λ h. fill_parts h.promise.seat.value) l.initial.working.items + sum_by fill_parts l.fn.seats.items;
 }
 
 abbrev pub decreases-loop-handle : goal.decreases-loop-handle

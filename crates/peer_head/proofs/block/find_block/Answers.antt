@@ -14,7 +14,11 @@ pub returns-then-text-lt-HEAD_LIMIT : goal.returns-then-text-lt-HEAD_LIMIT
 returns-then-text-lt-HEAD_LIMIT c =
     let t = c.args.text.now in
     let s = c.skip_pairs-start.result in
-    record { short = c.if-text-lt-HEAD_LIMIT.true; none = no_blank_line t s c.skip_pairs-start.ensures (rw (take_rest t s) at c.in-None.ensures) }
+    record {
+      short = c.if-text-lt-HEAD_LIMIT.true;
+      none =
+          no_blank_line t s c.skip_pairs-start.ensures (rw (take_rest t s) at c.in-None.ensures);
+    }
 
 pub returns-else-end-le-HEAD_LIMIT : goal.returns-else-end-le-HEAD_LIMIT
 returns-else-end-le-HEAD_LIMIT c =
@@ -30,4 +34,8 @@ pub returns-else-text-lt-HEAD_LIMIT : goal.returns-else-text-lt-HEAD_LIMIT
 returns-else-text-lt-HEAD_LIMIT c =
     let t = c.args.text.now in
     let s = c.skip_pairs-start.result in
-    record { long = c.if-text-lt-HEAD_LIMIT.false; none = no_blank_line t s c.skip_pairs-start.ensures (rw (take_rest t s) at c.in-None.ensures) }
+    record {
+      long = c.if-text-lt-HEAD_LIMIT.false;
+      none =
+          no_blank_line t s c.skip_pairs-start.ensures (rw (take_rest t s) at c.in-None.ensures);
+    }

@@ -24,6 +24,7 @@ all_past t at h p =
 
 pub returns : goal.returns
 returns c = (
-  λ same. let e : c.skip_pairs.result ≡ length c.args.text.now = grind (arith, common_steps, same) in only_pairs c.args.text.now c.skip_pairs.result c.skip_pairs.ensures e,
+  λ same. let e : c.skip_pairs.result ≡ length c.args.text.now = grind (arith, common_steps, same) in
+      only_pairs c.args.text.now c.skip_pairs.result c.skip_pairs.ensures e,
   λ p. let e = all_past c.args.text.now c.skip_pairs.result c.skip_pairs.ensures p in grind (arith, common_steps, e),
 )

@@ -6,4 +6,5 @@ use Rattle.peer_path.proofs.escape.has_good_escapes.Goals as goal
 
 pub returns : goal.returns
 returns c =
-    all_from_yields_List (is_escape_at c.args.path.now) _ _ _ c.all.ensures.ran (YieldsList-from_first (λ x. x) (λ rest. rest) _ c.memchr_iter.ensures.value) (λ x b q k. search (rules, tests))
+    all_from_yields_List (is_escape_at c.args.path.now) _ _ _ c.all.ensures.ran
+    (YieldsList-from_first (λ x. x) (λ rest. rest) _ c.memchr_iter.ensures.value) (λ x b q k. search (rules, tests))

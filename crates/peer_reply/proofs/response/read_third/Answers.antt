@@ -6,4 +6,5 @@ use Rattle.peer_reply.proofs.response.read_third.Goals as goal
 pub returns-in-empty : goal.returns-in-empty
 returns-in-empty c =
     let P : List ℕ → Type 0 = λ v. IsCutLength (c.args.low ∷ c.args.middle ∷ v) in
-    subst P (sym (nothing c.args.bytes.now c.in-empty.len_below)) (cut_two c.args.low c.args.middle c.requires.low (omega arith) c.requires.middle (omega arith))
+    subst P (sym (nothing c.args.bytes.now c.in-empty.len_below))
+    (cut_two c.args.low c.args.middle c.requires.low (omega arith) c.requires.middle (omega arith))

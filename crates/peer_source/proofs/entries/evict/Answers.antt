@@ -21,7 +21,13 @@ loop-others-preserved c =
     record {
       cap = ap (λ (m : LruCache (List ℕ) (List ℕ)). m.cap) left ∙ now.cap;
       first = ap (λ (m : LruCache (List ℕ) (List ℕ)). take 1 m.entries) left ∙ gone.first ∙ now.first;
-      others = omega (arith, c.bytes_without-others.ensures, now.others, gone.others, ap (λ (m : LruCache (List ℕ) (List ℕ)). bytes_in (drop 1 m.entries)) left);
+      others = omega (
+        arith,
+        c.bytes_without-others.ensures,
+        now.others,
+        gone.others,
+        ap (λ (m : LruCache (List ℕ) (List ℕ)). bytes_in (drop 1 m.entries)) left,
+      );
       fits = ap (λ (m : LruCache (List ℕ) (List ℕ)). fitting c.args.room (drop 1 m.entries)) left ∙ gone.fits ∙ now.fits;
     }
 

@@ -24,7 +24,16 @@ pub returns-in-Some-clause-others : goal.returns-in-Some-clause-others
 returns-in-Some-clause-others c =
     let pushed = pushes c.args.entries.now c.args.key c.args.value c.requires.most c.requires.some in
     let new = ap (λ (m : LruCache (List ℕ) (List ℕ)). bytes_in m.entries) c.in-Ok.ensures.entries ∙ ap bytes_in pushed.entries in
-    omega (arith, new, pushed.first, pushed.others, c.requires.bytes, ap bytes_left c.in-Some.is, ap bytes_left c.in-Ok.ensures.old, c.bytes_without.ensures)
+    omega (
+      arith,
+      new,
+      pushed.first,
+      pushed.others,
+      c.requires.bytes,
+      ap bytes_left c.in-Some.is,
+      ap bytes_left c.in-Ok.ensures.old,
+      c.bytes_without.ensures,
+    )
 
 pub returns-in-None-clause-others : goal.returns-in-None-clause-others
 returns-in-None-clause-others c =

@@ -1,7 +1,7 @@
 use Rattle.std.proofs.Common.{◌≡◌, ◌<◌, ◌++◌, [], length, take, refl, arith, length-append}
 use Rattle.std.proofs.lemmas.List.{length-take}
 use Rattle.std.proofs.lemmas.Grind.{common_steps}
-use Rattle.peer_table.specs.Reads.{reading}
+use Rattle.peer_view.specs.ReadWrite.{reading}
 use Rattle.peer_table.specs.Tables.{MAX_TEXT}
 use Rattle.peer_table.proofs.ReadLemmas.{read_failed, too_large}
 use Rattle.peer_table.proofs.intake.read_all.Goals as goal
@@ -14,8 +14,10 @@ returns-then-n-len g c =
     let p = take c.in-Ok.n c.read.new.room in
     let quiet : R.ends c.read.new.self ≡ R.ends c.loop-made.reader = grind (arith, common_steps, r.end_told) in
     let fine : R.failures c.read.new.self ≡ R.failures c.loop-made.reader = grind (arith, r.failed) in
-    let over : MAX_TEXT < length (c.loop-made.text.items ++ p) = omega (arith, length-append c.loop-made.text.items p, length-take c.in-Ok.n c.read.new.room, r.bound) in
-    too_large (reading R.given R.calls R.ends R.failures c.args.reader.now c.loop-made.reader) c.loop-made._made c.args.reads c.loop-made.text.items p
+    let over : MAX_TEXT < length (c.loop-made.text.items ++ p) =
+    omega (arith, length-append c.loop-made.text.items p, length-take c.in-Ok.n c.read.new.room, r.bound) in
+    too_large (reading R c.args.reader.now c.loop-made.reader) c.loop-made._made c.args.reads
+    c.loop-made.text.items p
     (R.given c.read.new.self) (R.calls c.read.new.self) (R.ends c.read.new.self) (R.failures c.read.new.self) i.gave r.bytes r.called
     c.loop-made-test.true i.within over quiet fine
 
@@ -24,6 +26,7 @@ returns-in-Err g c =
     let R = g.R.PeerRead in
     let i = c.loop-made.invariant in
     let r = c.in-Err.ensures in
-    read_failed (reading R.given R.calls R.ends R.failures c.args.reader.now c.loop-made.reader) c.loop-made._made c.args.reads c.loop-made.text.items []
+    read_failed (reading R c.args.reader.now c.loop-made.reader) c.loop-made._made c.args.reads
+    c.loop-made.text.items []
     (R.given c.read.new.self) (R.calls c.read.new.self) (R.ends c.read.new.self) (R.failures c.read.new.self) i.gave r.bytes r.called
     c.loop-made-test.true i.within refl (grind (arith, common_steps, r.end_told)) r.failed

@@ -14,7 +14,8 @@ returns-clause-given c =
     let at = c.args.at in
     let n = c.copy_front.result in
     given_more ps at.index at.offset n c.requires.within
-    ∙ ap (λ v. given_of ps at.index at.offset ++ take n v) (sym (rest_is (piece_at ps at.index) c.piece-piece.result.now at.offset c.piece-piece.ensures))
+    ∙ ap (λ v. given_of ps at.index at.offset ++ take n v)
+    (sym (rest_is (piece_at ps at.index) c.piece-piece.result.now at.offset c.piece-piece.ensures))
     ∙ ap (λ v. given_of ps at.index at.offset ++ v) (sym c.copy_front.ensures.copied)
 
 pub returns-clause-piece : goal.returns-clause-piece
@@ -26,12 +27,15 @@ returns-clause-piece c =
     c.copy_front.ensures.copied
     ∙ ap (λ n. take n rest) c.copy_front.ensures.count
     ∙ take_room m rest
-    ∙ ap (take m) (rest_is (piece_at ps at.index) c.piece-piece.result.now at.offset c.piece-piece.ensures ∙ sym (first_left ps at.index at.offset c.requires.within c.requires.left))
+    ∙ ap (take m) (rest_is (piece_at ps at.index) c.piece-piece.result.now at.offset c.piece-piece.ensures
+    ∙ sym (first_left ps at.index at.offset c.requires.within c.requires.left))
 
 pub returns-clause-left : goal.returns-clause-left
 returns-clause-left c =
     let ps = c.args.pieces.now in
     let at = c.args.at in
     let m = length c.args.room.now in
-    ap (λ n. left_of ps at.index (at.offset + n)) (c.copy_front.ensures.count ∙ ap (λ v. min m (length v)) (rest_is (piece_at ps at.index) c.piece-piece.result.now at.offset c.piece-piece.ensures))
+    ap (λ n. left_of ps at.index (at.offset + n))
+    (c.copy_front.ensures.count ∙ ap (λ v. min m (length v))
+    (rest_is (piece_at ps at.index) c.piece-piece.result.now at.offset c.piece-piece.ensures))
     ∙ give_left ps at.index at.offset m c.requires.within c.requires.left

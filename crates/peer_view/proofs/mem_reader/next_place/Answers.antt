@@ -20,7 +20,8 @@ returns-then-at-piece-clause-some c within nothing =
     let ps = c.args.pieces.now in
     let at = c.loop-at.at in
     let inside : at.offset < length (piece_at ps at.index) = grind (arith, common_steps) in
-    some_piece (left_of ps at.index at.offset) _ (first_left ps at.index at.offset within inside) (some_left (piece_at ps at.index) at.offset inside) (c.loop-at.invariant.left ∙ nothing)
+    some_piece (left_of ps at.index at.offset) _ (first_left ps at.index at.offset within inside)
+    (some_left (piece_at ps at.index) at.offset inside) (c.loop-at.invariant.left ∙ nothing)
 
 pub returns-clause-none : goal.returns-clause-none
 returns-clause-none c behind = sym c.loop-at.invariant.left ∙ none_left c.args.pieces.now c.loop-at.at.index c.loop-at.at.offset behind

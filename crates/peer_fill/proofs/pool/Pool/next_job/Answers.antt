@@ -4,4 +4,5 @@ use Rattle.peer_fill.proofs.Balancing.{pops}
 use Rattle.peer_fill.proofs.pool.Pool.next_job.Goals as goal
 
 pub pop_as-requires-clause-rule : goal.pop_as-requires-clause-rule
-pop_as-requires-clause-rule g c = (pops _ _ (omega (arith, ap (λ (v : Hand). v.parts) c.loop.invariant.same, c.requires.part)), λ items views held at. tt)
+pop_as-requires-clause-rule g c =
+    (pops _ _ (omega (arith, ap (λ (v : Hand). v.parts) c.loop.invariant.same, c.requires.part)), λ items views held at. tt)

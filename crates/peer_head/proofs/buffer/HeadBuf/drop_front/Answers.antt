@@ -6,13 +6,17 @@ use Rattle.peer_head.proofs.buffer.HeadBuf.drop_front.Goals as goal
 pub overflow_add-self : goal.overflow_add-self
 overflow_add-self c =
     let front = c.requires.len c.requires.block.0 c.requires.block.1.0 c.requires.block.1.1 in
-    let within = piece_within c.self.inside.bytes.items c.args.self.now.held c.self.inside.start (c.self.inside.end - c.self.inside.start) c.args.len (omega (arith, c.self.invariant)) (ap (λ v. v.held) c.self.view_is) front.0 in
+    let within =
+    piece_within c.self.inside.bytes.items c.args.self.now.held c.self.inside.start (c.self.inside.end - c.self.inside.start) c.args.len
+    (omega (arith, c.self.invariant)) (ap (λ v. v.held) c.self.view_is) front.0 in
     omega (arith, within, c.self.invariant)
 
 pub invariant_of-self : goal.invariant_of-self
 invariant_of-self c =
     let front = c.requires.len c.requires.block.0 c.requires.block.1.0 c.requires.block.1.1 in
-    let within = piece_within c.self.inside.bytes.items c.args.self.now.held c.self.inside.start (c.self.inside.end - c.self.inside.start) c.args.len (omega (arith, c.self.invariant)) (ap (λ v. v.held) c.self.view_is) front.0 in
+    let within =
+    piece_within c.self.inside.bytes.items c.args.self.now.held c.self.inside.start (c.self.inside.end - c.self.inside.start) c.args.len
+    (omega (arith, c.self.invariant)) (ap (λ v. v.held) c.self.view_is) front.0 in
     record { ordered = omega (arith, within, c.self.invariant); within = c.self.invariant.within; room_is = c.self.invariant.room_is }
 
 pub returns-clause-rest : goal.returns-clause-rest

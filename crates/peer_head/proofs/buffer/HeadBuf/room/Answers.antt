@@ -19,13 +19,16 @@ returns c =
     let moved : xs ≡ held ++ free = c.move_to_front.ensures in
     let long : i ≡ length held = piece_length all s i fits in
     let within : i ≤ length xs = omega (arith, ap length moved, length-append held free, long) in
-    let value = c.slice_mut.ensures.value ∙ ap (λ k. take (k - i) (drop i xs)) size ∙ take_rest xs i ∙ back_part xs held free i moved long in (
+    let value = c.slice_mut.ensures.value ∙ ap (λ k. take (k - i) (drop i xs)) size ∙ take_rest xs i
+    ∙ back_part xs held free i moved long in (
       (
         refl,
         λ w.
             let z = drop (length (take i xs ++ (w ++ drop (length w) (drop i xs)))) xs in
-            let parts = lent_parts xs (take n ((take i xs ++ (w ++ drop (length w) (drop i xs))) ++ z)) held free w i long moved (lent xs w z i n within size) in
-            let H : List ℕ → HeldBytes = λ v. record { held = v; free = drop (i - 0) (take n ((take i xs ++ (w ++ drop (length w) (drop i xs))) ++ z)) } in
+            let parts = lent_parts xs (take n ((take i xs ++ (w ++ drop (length w) (drop i xs))) ++ z)) held free w i long moved
+            (lent xs w z i n within size) in
+            let H : List ℕ → HeldBytes =
+            λ v. record { held = v; free = drop (i - 0) (take n ((take i xs ++ (w ++ drop (length w) (drop i xs))) ++ z)) } in
             let K : List ℕ → HeldBytes = λ v. record { held = held; free = v } in
             let F : HeldBytes → HeldBytes = λ v. record { held = v.held; free = fitted v.free w } in
             ap H parts.0 ∙ ap K parts.1 ∙ ap F c.self.view_is,

@@ -9,7 +9,8 @@ invariant_of-self-2 g c =
     let key = c.args.key.now in
     let value = c.args.value.now in
     let first = rw (c.in_ok-share.ensures, c.in_ok-share-2.ensures) at c.in_ok-others.ensures.front in
-    let answer = subst (λ n. IsAnswer g.S.Source.allowed n (key, value)) (sym (ap (λ (x : Cache). x.group) c.self.view_is)) c.requires.answer in
+    let answer =
+    subst (λ n. IsAnswer g.S.Source.allowed n (key, value)) (sym (ap (λ (x : Cache). x.group) c.self.view_is)) c.requires.answer in
     let on : 0 < kept.limit = omega (arith, ap (λ (x : Cache). x.limit) c.self.view_is, c.requires.on) in
     Keeps-put kept.entries c.put_in_front-2.new.entries c.evict.new.entries key value kept.limit c.in-Some.room c.evict.result
     c.self.invariant.room first c.evict.ensures.entries c.evict.ensures.others c.in-Some.ensures.room

@@ -14,5 +14,7 @@ loop-seat-preserved g c =
       conns = search rules;
       asking = all_push (λ h. h.promise.pool.now ≡ c.captures.pool.now) _ _ _ c.in-Ok-push.ensures.items i.asking at;
       room = omega (arith, c.in-Some.ensures.fewer, c.in-Some.ensures.capacity, c.in-Ok-push.ensures.len, i.room);
-      parts = moves conn_parts (λ h. conn_parts h.promise.seat.value) c.loop-seat.conns.items c.pop_conn.new.seats.items c.loop-seat.asking.items c.push.new.self.items c.in-Ok.handle (conn_parts c.in-Some.seat) 16 c.in-Some.ensures.parts c.in-Ok-push.ensures.items same i.parts;
+      parts = moves conn_parts (λ h. conn_parts h.promise.seat.value) c.loop-seat.conns.items c.pop_conn.new.seats.items
+          c.loop-seat.asking.items c.push.new.self.items c.in-Ok.handle (conn_parts c.in-Some.seat) 16 c.in-Some.ensures.parts
+          c.in-Ok-push.ensures.items same i.parts;
     }

@@ -14,5 +14,7 @@ loop-seat-preserved g c =
       fills = search rules;
       working = all_push (λ h. h.promise.pool.now ≡ c.captures.pool.now) _ _ _ c.in-Ok-push.ensures.items i.working at;
       room = omega (arith, c.in-Some.ensures.fewer, c.in-Some.ensures.capacity, c.in-Ok-push.ensures.len, i.room);
-      parts = moves fill_parts (λ h. fill_parts h.promise.seat.value) c.loop-seat.fills.items c.pop_fill.new.seats.items c.loop-seat.working.items c.push.new.self.items c.in-Ok.handle (fill_parts c.in-Some.seat) 16 c.in-Some.ensures.parts c.in-Ok-push.ensures.items same i.parts;
+      parts = moves fill_parts (λ h. fill_parts h.promise.seat.value) c.loop-seat.fills.items c.pop_fill.new.seats.items
+          c.loop-seat.working.items c.push.new.self.items c.in-Ok.handle (fill_parts c.in-Some.seat) 16 c.in-Some.ensures.parts
+          c.in-Ok-push.ensures.items same i.parts;
     }

@@ -1,11 +1,11 @@
--- What a tally of fields tells of them.
+-- What a summary of fields tells of them.
 use Rattle.std.specs.Prelude.{◌≡◌, ℕ, ◌<◌, nat_lt, true, false, List, [], length, All}
 use Rattle.std.specs.List.{list_any}
-use Rattle.peer_head.specs.declared.tally.Lengths.{Lengths}
-use Rattle.peer_head.specs.declared.tally.Lengths.TheVariants.{Missing as no_length, Agreed, Bad}
-use Rattle.peer_head.specs.declared.tally.Hosts.{Hosts}
-use Rattle.peer_head.specs.declared.tally.Hosts.TheVariants.{Missing as no_host, Single, Repeated}
-use Rattle.peer_head.specs.declared.tally.Tally.{Tally}
+use Rattle.peer_head.specs.declared.summary.Lengths.{Lengths}
+use Rattle.peer_head.specs.declared.summary.Lengths.TheVariants.{Missing as no_length, Agreed, Bad}
+use Rattle.peer_head.specs.declared.summary.Hosts.{Hosts}
+use Rattle.peer_head.specs.declared.summary.Hosts.TheVariants.{Missing as no_host, Single, Repeated}
+use Rattle.peer_head.specs.declared.summary.FieldSummary.{FieldSummary}
 use Rattle.peer_head.specs.Heads.{HeadField}
 use Rattle.peer_head.specs.Fields.{is_digits, asks_close}
 use Rattle.peer_head.specs.Faults.{codings, lengths, hosts, connections, is_length}
@@ -29,7 +29,7 @@ IsHostsOf count Single = count ≡ 1
 IsHostsOf count Repeated = 1 < count
 
 -- what the rules on heads ask of the fields
-pub record IsTallyOf (fields : List HeadField) (t : Tally) : Type 0 where
+pub record IsSummaryOf (fields : List HeadField) (t : FieldSummary) : Type 0 where
   pub coding : t.has_coding ≡ nat_lt 0 (length (codings fields))
   pub lengths_are : IsLengthsOf (lengths fields) t.lengths
   pub hosts_are : IsHostsOf (length (hosts fields)) t.hosts

@@ -1,6 +1,6 @@
 use Rattle.std.proofs.Common.{sym}
-use Rattle.peer_head.proofs.TallyLemmas.{agreed_fault}
-use Rattle.peer_head.proofs.tally.content_fault.Goals as goal
+use Rattle.peer_head.proofs.SummaryLemmas.{agreed_fault}
+use Rattle.peer_head.proofs.summary.content_fault.Goals as goal
 
 pub returns-then-is_zero : goal.returns-then-is_zero
 returns-then-is_zero c = λ vs h. sym (agreed_fault vs _ _ h c.if-is_zero.ensures)

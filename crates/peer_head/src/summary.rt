@@ -1,11 +1,11 @@
 //! What the rules on heads ask of the fields, gathered in one pass over them.
 //!
-//! A tally of fields is exact: with one field more it is the tally of the fields with that one behind.
+//! A summary of fields is exact: with one field more it is the summary of the fields with that one behind.
 ghost use Rattle.std.specs.Prelude.{◌≡◌, ◌++◌, ◌+◌, ◌∷◌, [], List, ℕ, length, map, All};
 ghost use Rattle.httparse.specs.Spans.{IsHeaderWithin};
 ghost use Rattle.peer_head.specs.Faults.{length_fault, host_fault, head_fault, is_closing};
 ghost use Rattle.peer_head.specs.Heads.{HeadField, HeadParts};
-ghost use Rattle.peer_head.specs.Tallies.{AgreesOn, IsLengthsOf, IsHostsOf, IsTallyOf};
+ghost use Rattle.peer_head.specs.Summaries.{AgreesOn, IsLengthsOf, IsHostsOf, IsSummaryOf};
 ghost use Rattle.peer_head.specs.Views.{field_at};
 
 use crate::fault::HeadFault;
@@ -109,33 +109,33 @@ impl Hosts {
 
 /// What the rules on heads ask of the fields.
 #[derive(Clone, Copy)]
-pub struct Tally<'b> {
+pub struct FieldSummary<'b> {
     has_coding: bool,
     lengths: Lengths<'b>,
     hosts: Hosts,
     closes: bool,
 }
 
-impl<'b> Tally<'b> {
+impl<'b> FieldSummary<'b> {
     /// With one field more.
-    fn with(self, name: &[u8], value: &'b [u8]) -> Tally<'b>
-        ensures { (fields : List HeadField) → IsTallyOf fields self.entry
-            → IsTallyOf (fields ++ record { name = name.now; value = value.now } ∷ []) result }
+    fn with(self, name: &[u8], value: &'b [u8]) -> FieldSummary<'b>
+        ensures { (fields : List HeadField) → IsSummaryOf fields self.entry
+            → IsSummaryOf (fields ++ record { name = name.now; value = value.now } ∷ []) result }
     {
         match kind_of(name) {
-            FieldKind::Host => Tally {
+            FieldKind::Host => FieldSummary {
                 hosts: self.hosts.with_one(),
                 ..self
             },
-            FieldKind::Connection => Tally {
+            FieldKind::Connection => FieldSummary {
                 closes: self.closes | asks_close(value),
                 ..self
             },
-            FieldKind::ContentLength => Tally {
+            FieldKind::ContentLength => FieldSummary {
                 lengths: self.lengths.with(value),
                 ..self
             },
-            FieldKind::TransferEncoding => Tally {
+            FieldKind::TransferEncoding => FieldSummary {
                 has_coding: true,
                 ..self
             },
@@ -145,7 +145,7 @@ impl<'b> Tally<'b> {
 
     /// The first fault of a head of that version, if it has one.
     pub fn fault(self, version: u8) -> Option<HeadFault>
-        ensures { (p : HeadParts) → IsTallyOf p.fields self.entry → p.minor ≡ version → result ≡ head_fault p }
+        ensures { (p : HeadParts) → IsSummaryOf p.fields self.entry → p.minor ≡ version → result ≡ head_fault p }
     {
         if self.has_coding {
             return Some(HeadFault::TransferCoding);
@@ -155,25 +155,25 @@ impl<'b> Tally<'b> {
 
     /// Whether the connection closes after the reply to a head of that version.
     pub fn is_closing(self, version: u8) -> bool
-        ensures { (p : HeadParts) → IsTallyOf p.fields self.entry → p.minor ≡ version → result ≡ is_closing p }
+        ensures { (p : HeadParts) → IsSummaryOf p.fields self.entry → p.minor ≡ version → result ≡ is_closing p }
     {
         version == 0 || self.closes
     }
 }
 
 /// Gathers what the fields at these places say.
-pub fn tally_of<'b>(block: &'b [u8], fields: &[HeaderSpan]) -> Tally<'b>
+pub fn summary_of<'b>(block: &'b [u8], fields: &[HeaderSpan]) -> FieldSummary<'b>
     requires { All (IsHeaderWithin (length block.now)) fields.now }
-    ensures { IsTallyOf (map (field_at block.now) fields.now) result }
+    ensures { IsSummaryOf (map (field_at block.now) fields.now) result }
 {
-    let mut tally = Tally {
+    let mut summary = FieldSummary {
         has_coding: false,
         lengths: Lengths::Missing,
         hosts: Hosts::Missing,
         closes: false,
     };
     for field in fields {
-        tally = tally.with(field.name.of(block), field.value.of(block));
+        summary = summary.with(field.name.of(block), field.value.of(block));
     }
-    tally
+    summary
 }

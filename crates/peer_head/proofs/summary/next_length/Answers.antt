@@ -1,7 +1,7 @@
 use Rattle.std.proofs.Common.{sym}
 use Rattle.std.proofs.lemmas.Slice.Eq.{bytes_eq-Decides}
-use Rattle.peer_head.proofs.TallyLemmas.{agreed_more, differing_more}
-use Rattle.peer_head.proofs.tally.next_length.Goals as goal
+use Rattle.peer_head.proofs.SummaryLemmas.{agreed_more, differing_more}
+use Rattle.peer_head.proofs.summary.next_length.Goals as goal
 
 pub returns-then-eq : goal.returns-then-eq
 returns-then-eq c = λ vs h. agreed_more vs _ _ h ((bytes_eq-Decides c.args.first.now c.args.value.now).0 (sym c.if-eq.ensures))

@@ -3,7 +3,7 @@ use Rattle.memchr.specs.Find.{is_byte}
 use Rattle.percent_encoding.specs.Percent.{percent_sign}
 use Rattle.peer_path.proofs.Searches.{All-absent}
 use Rattle.peer_path.proofs.EscapeLemmas.{has_good_escapes-plain, percent_decode-plain}
-use Rattle.peer_path.proofs.escape.decoded.Goals as goal
+use Rattle.peer_path.proofs.escape.decode_path.Goals as goal
 
 pub returns-in_default-clause-good : goal.returns-in_default-clause-good
 returns-in_default-clause-good c = has_good_escapes-plain c.args.path.now c.in_default.ensures

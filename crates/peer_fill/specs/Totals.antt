@@ -11,7 +11,7 @@ use Rattle.peer_fill.specs.Seats.{asks_of, fills_of}
 
 module _ {S L : Type 0} {g : Source.Ghosts S} where
   -- the asks of these seats, added up
-  pub record IsTallyOfConns (seats : List (ConnSeat S L g)) (sum : AskCounts) : Type 0 where
+  pub record IsTotalOfConns (seats : List (ConnSeat S L g)) (sum : AskCounts) : Type 0 where
     pub asked : sum.asked ≡ sum_by (λ s. (asks_of s).asked) seats
     pub hits : sum.hits ≡ sum_by (λ s. (asks_of s).hits) seats
     pub led : sum.led ≡ sum_by (λ s. (asks_of s).led) seats
@@ -20,7 +20,7 @@ module _ {S L : Type 0} {g : Source.Ghosts S} where
 
 module _ {S L : Type 0} {g : Source.Ghosts S} {h : Ledger.Ghosts L} where
   -- the jobs of these seats, added up
-  pub record IsTallyOfFills (seats : List (FillSeat S L g h)) (sum : FillCounts) : Type 0 where
+  pub record IsTotalOfFills (seats : List (FillSeat S L g h)) (sum : FillCounts) : Type 0 where
     pub calls : sum.calls ≡ sum_by (λ s. (fills_of s).calls) seats
     pub rehits : sum.rehits ≡ sum_by (λ s. (fills_of s).rehits) seats
 

@@ -1,5 +1,6 @@
--- What one more field does to a tally.
-use Rattle.std.proofs.Common.{◌≡◌, ℕ, suc, get_or, take, ◌<◌, ◌+◌, Bool, true, false, cond, ◌&&◌, List, [], ◌∷◌, ◌++◌, length, map, filter, refl, sym, ◌∙◌, ap, arith, inl, inr, bytes_eq, All, length-append, append-nil, Some, None}
+-- What one more field does to a summary.
+use Rattle.std.proofs.Common.{◌≡◌, ℕ, suc, get_or, take, ◌<◌, ◌+◌, Bool, true, false, cond, ◌&&◌, List, [], ◌∷◌, ◌++◌, length, map, filter}
+use Rattle.std.proofs.Common.{refl, sym, ◌∙◌, ap, arith, inl, inr, bytes_eq, All, length-append, append-nil, Some, None}
 use Rattle.std.specs.List.{list_all}
 use Rattle.std.proofs.lemmas.Bool.{cases_Bool}
 use Rattle.std.proofs.lemmas.Slice.Eq.{bytes_eq-Decides}
@@ -14,7 +15,7 @@ use Rattle.peer_head.specs.declared.fault.HeadFault.TheVariants.{BadLength, Cont
 use Rattle.peer_head.specs.Heads.{HeadField}
 use Rattle.peer_head.specs.Fields.{is_named, values, is_digits, is_zero}
 use Rattle.peer_head.specs.Faults.{is_length, is_one_value, length_fault}
-use Rattle.peer_head.specs.Tallies.{AgreesOn}
+use Rattle.peer_head.specs.Summaries.{AgreesOn}
 use Rattle.peer_head.specs.Views.{field_at}
 
 -- the first of values that are the same
@@ -38,7 +39,8 @@ list_all_same p (v ∷ vs) n h e = ap (λ b. b && list_all p vs) (ap p (All-firs
 pub agreed_length : (vs : List (List ℕ)) (n : List ℕ) → AgreesOn vs n → is_length vs ≡ true
 agreed_length [] n h = refl
 agreed_length (v ∷ vs) n h =
-    let one : list_all (bytes_eq v) vs ≡ true = list_all_same (bytes_eq v) vs n (All-later v vs n h.same) ((bytes_eq-Decides v n).1 (All-first v vs n h.same)) in
+    let one : list_all (bytes_eq v) vs ≡ true =
+    list_all_same (bytes_eq v) vs n (All-later v vs n h.same) ((bytes_eq-Decides v n).1 (All-first v vs n h.same)) in
     ap (λ b. b && list_all (bytes_eq v) vs) (list_all_same is_digits (v ∷ vs) n h.same h.digits) ∙ one
 
 -- values that agree are 0 where one is
@@ -51,7 +53,8 @@ agreed_zero (v ∷ vs) n h =
     ]
 
 -- the fault of values that agree
-pub agreed_fault : (vs : List (List ℕ)) (n : List ℕ) (b : Bool) → AgreesOn vs n → b ≡ is_zero n → length_fault vs ≡ cond b None (Some Content)
+pub agreed_fault : (vs : List (List ℕ)) (n : List ℕ) (b : Bool) → AgreesOn vs n → b ≡ is_zero n
+    → length_fault vs ≡ cond b None (Some Content)
 agreed_fault vs n b h e =
     ap (λ x. cond x (cond (list_all is_zero vs) None (Some Content)) (Some BadLength)) (agreed_length vs n h)
     ∙ ap (λ x. cond x None (Some Content)) (agreed_zero vs n h ∙ sym e)
@@ -65,7 +68,8 @@ agreed_more vs n v h e = record {
 }
 
 -- a field of the name behind the others
-pub values-snoc_yes : (name : List ℕ) (fs : List HeadField) (f : HeadField) → is_named name f ≡ true → values name (fs ++ f ∷ []) ≡ values name fs ++ f.value ∷ []
+pub values-snoc_yes : (name : List ℕ) (fs : List HeadField) (f : HeadField) → is_named name f ≡ true
+    → values name (fs ++ f ∷ []) ≡ values name fs ++ f.value ∷ []
 values-snoc_yes name fs f e =
     let more : filter (is_named name) (fs ++ f ∷ []) ≡ filter (is_named name) fs ++ f ∷ [] =
     filter-append (is_named name) fs (f ∷ []) ∙ ap (λ b. filter (is_named name) fs ++ cond b (f ∷ []) []) e
@@ -73,9 +77,11 @@ values-snoc_yes name fs f e =
     ap (map (λ (g : HeadField). g.value)) more ∙ map-append (λ (g : HeadField). g.value) (filter (is_named name) fs) (f ∷ [])
 
 -- a field of another name behind the others
-pub values-snoc_no : (name : List ℕ) (fs : List HeadField) (f : HeadField) → is_named name f ≡ false → values name (fs ++ f ∷ []) ≡ values name fs
+pub values-snoc_no : (name : List ℕ) (fs : List HeadField) (f : HeadField) → is_named name f ≡ false
+    → values name (fs ++ f ∷ []) ≡ values name fs
 values-snoc_no name fs f e =
-    ap (map (λ (g : HeadField). g.value)) (filter-append (is_named name) fs (f ∷ []) ∙ ap (λ b. filter (is_named name) fs ++ cond b (f ∷ []) []) e ∙ append-nil (filter (is_named name) fs))
+    ap (map (λ (g : HeadField). g.value)) (filter-append (is_named name) fs (f ∷ [])
+    ∙ ap (λ b. filter (is_named name) fs ++ cond b (f ∷ []) []) e ∙ append-nil (filter (is_named name) fs))
 
 -- one value more that differs
 pub differing_more : (vs : List (List ℕ)) (n v : List ℕ) → AgreesOn vs n → bytes_eq n v ≡ false → is_length (vs ++ v ∷ []) ≡ false
@@ -90,7 +96,9 @@ differing_more (w ∷ vs) n v h ne =
     ap (λ b. list_all is_digits ((w ∷ vs) ++ v ∷ []) && b) one ∙ and-false (list_all is_digits ((w ∷ vs) ++ v ∷ []))
 
 -- one field more, by its spans
-pub field_more : (block : List ℕ) (spans : List HeaderSpan) (i : ℕ) (d : HeaderSpan) (name value : List ℕ) → i < length spans → name ≡ span_bytes block (get_or spans i d).name → value ≡ span_bytes block (get_or spans i d).value → map (field_at block) (take (i + 1) spans) ≡ map (field_at block) (take i spans) ++ record { name = name; value = value } ∷ []
+pub field_more : (block : List ℕ) (spans : List HeaderSpan) (i : ℕ) (d : HeaderSpan) (name value : List ℕ) → i < length spans
+    → name ≡ span_bytes block (get_or spans i d).name → value ≡ span_bytes block (get_or spans i d).value
+    → map (field_at block) (take (i + 1) spans) ≡ map (field_at block) (take i spans) ++ record { name = name; value = value } ∷ []
 field_more block spans i d name value lt n v =
     let up : i + 1 ≡ suc i = omega arith in
     let N : List ℕ → HeadField = λ x. record { name = x; value = span_bytes block (get_or spans i d).value } in

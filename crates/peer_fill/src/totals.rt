@@ -1,4 +1,4 @@
-//! Tallies: what the seats that were handed in have together.
+//! Totals: what the seats that were handed in have together.
 ghost use Rattle.std.specs.Prelude.{◌≡◌, ℕ, ◌+◌, ◌*◌, ◌^◌, ◌≤◌, ◌<◌, length};
 ghost use Rattle.crossbeam_queue.specs.Passes.{view, IsPassOf};
 ghost use Rattle.peer_fill.specs.Counts.{no_fills, AddsAsks, AddsFills};
@@ -13,7 +13,7 @@ use std::sync::ledger::{Ledger, Share};
 
 /// Sums over seats, of which one at least is a connection's.
 #[derive(Drop)]
-pub struct Tally<S: Source, L: Ledger> {
+pub struct Totals<S: Source, L: Ledger> {
     pub pass: Pass<Job<S>, Hand>,
     pub share: Share<L>,
     pub conn_parts: u64,
@@ -33,9 +33,9 @@ pub struct Tally<S: Source, L: Ledger> {
     ghost most_fills: { fills.calls + fills.rehits ≤ fill_parts * 2 ^ 56 },
 }
 
-impl<S: Source, L: Ledger> Tally<S, L> {
-    // The tally of one seat.
-    pub(crate) fn of(seat: ConnSeat<S, L>) -> Tally<S, L>
+impl<S: Source, L: Ledger> Totals<S, L> {
+    // The totals of one seat.
+    pub(crate) fn of(seat: ConnSeat<S, L>) -> Totals<S, L>
         ensures pass { result.pass ≡ seat.pass }
         ensures conn_parts { result.conn_parts ≡ conn_parts seat }
         ensures fill_parts { result.fill_parts ≡ 0 }
@@ -48,7 +48,7 @@ impl<S: Source, L: Ledger> Tally<S, L> {
             parts,
             asks,
         } = seat;
-        Tally {
+        Totals {
             pass,
             share,
             conn_parts: parts,
@@ -59,7 +59,7 @@ impl<S: Source, L: Ledger> Tally<S, L> {
     }
 
     // Takes in a connection's seat.
-    pub(crate) fn add_conn(self, jobs: &Jobs<S>, seat: ConnSeat<S, L>) -> Tally<S, L>
+    pub(crate) fn add_conn(self, jobs: &Jobs<S>, seat: ConnSeat<S, L>) -> Totals<S, L>
         requires pass { IsPassOf jobs.now self.pass × IsPassOf jobs.now seat.pass }
         requires room { self.conn_parts + conn_parts seat ≤ 16 }
         ensures pass { IsPassOf jobs.now result.pass }
@@ -68,7 +68,7 @@ impl<S: Source, L: Ledger> Tally<S, L> {
         ensures asks { AddsAsks self.asks (asks_of seat) result.asks }
         ensures fills { result.fills ≡ self.fills }
     {
-        let Tally {
+        let Totals {
             mut pass,
             mut share,
             conn_parts,
@@ -78,7 +78,7 @@ impl<S: Source, L: Ledger> Tally<S, L> {
         } = self;
         jobs.absorb::<OnePart>(&mut pass, seat.pass);
         share.merge(seat.share);
-        Tally {
+        Totals {
             pass,
             share,
             conn_parts: conn_parts + seat.parts,
@@ -89,7 +89,7 @@ impl<S: Source, L: Ledger> Tally<S, L> {
     }
 
     // Takes in a worker's seat.
-    pub(crate) fn add_fill(self, jobs: &Jobs<S>, seat: FillSeat<S, L>) -> Tally<S, L>
+    pub(crate) fn add_fill(self, jobs: &Jobs<S>, seat: FillSeat<S, L>) -> Totals<S, L>
         requires pass { IsPassOf jobs.now self.pass × IsPassOf jobs.now seat.pass }
         requires room { self.fill_parts + fill_parts seat ≤ 16 }
         ensures pass { IsPassOf jobs.now result.pass }
@@ -98,7 +98,7 @@ impl<S: Source, L: Ledger> Tally<S, L> {
         ensures asks { result.asks ≡ self.asks }
         ensures fills { AddsFills self.fills (fills_of seat) result.fills }
     {
-        let Tally {
+        let Totals {
             mut pass,
             share,
             conn_parts,
@@ -107,7 +107,7 @@ impl<S: Source, L: Ledger> Tally<S, L> {
             fills,
         } = self;
         jobs.absorb::<OnePart>(&mut pass, seat.pass);
-        Tally {
+        Totals {
             pass,
             share,
             conn_parts,

@@ -1,6 +1,6 @@
 use Rattle.std.proofs.Common.{sym}
 use Rattle.peer_path.proofs.EscapeLemmas.{percent_decode-found}
-use Rattle.peer_path.proofs.escape.decoded_from.Goals as goal
+use Rattle.peer_path.proofs.escape.decode_from.Goals as goal
 
 pub returns : goal.returns
 returns c =

@@ -1,7 +1,0 @@
-use Rattle.std.proofs.Common.{map, take}
-use Rattle.peer_head.specs.Tallies.{IsTallyOf}
-use Rattle.peer_head.specs.Views.{field_at}
-use Rattle.peer_head.proofs.tally.tally_of.Given as goal
-
-abbrev pub invariant-loop-field : goal.invariant-loop-field
-invariant-loop-field l = IsTallyOf (map (field_at l.block) (take l.field-index l.fields)) l.tally
