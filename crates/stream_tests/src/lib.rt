@@ -41,6 +41,8 @@ mod ordered;
 #[cfg(test)]
 mod pooled;
 #[cfg(test)]
+mod refusing;
+#[cfg(test)]
 mod runs;
 #[cfg(test)]
 mod slow_key;
