@@ -183,4 +183,5 @@ def main():
             process.send_signal(signal.SIGKILL)
 
 
-main()
+if __name__ == "__main__":
+    main()

@@ -1,0 +1,112 @@
+#!/usr/bin/env python3
+"""Instructions a request of the built peer_serve, counted by callgrind: they do not change with what else the machine does.
+
+    (cd crates/peer_serve && rt run < stdin > /dev/null)    # builds it
+    apt-get install valgrind
+    python3 bench/instructions.py [crates/peer_serve/out/peer_serve]
+
+Serial: so many requests on standard input, one thread, no cache. Over a connection: the server with one worker, a client that
+has 16 requests in flight. Each row runs 1,000 requests and 9,000; what the 9,000 took more, over 8,000, is the number for one. Over
+a connection the threads wait for one another, so the median of three runs is given with the least and the largest.
+"""
+import os
+import re
+import socket
+import statistics
+import subprocess
+import sys
+import tempfile
+
+PROGRAM = sys.argv[1] if len(sys.argv) > 1 else "crates/peer_serve/out/peer_serve"
+FEW, MANY = 1000, 9000
+GO = "Host: 10.0.0.1:8001\r\nUser-Agent: Go-http-client/1.1\r\nAccept-Encoding: gzip\r\n"
+
+
+def request(path, fields="Host: a\r\n"):
+    return f"GET /_groupcache/{path} HTTP/1.1\r\n{fields}\r\n".encode()
+
+
+def same(path, fields="Host: a\r\n"):
+    return lambda i: request(path, fields)
+
+
+SERIAL = [
+    ("echo/k, 45 bytes", same("echo/k")),
+    ("echo/k, the head of Go's client", same("echo/k", GO)),
+    ("echo, each key once", lambda i: request(f"echo/{i:09}")),
+    ("fill/1024", same("fill/1024")),
+    ("a group that is not there: 404", same("none/k")),
+]
+CONNECTED = [
+    ("a hit: echo/k, 45 bytes", same("echo/k")),
+    ("a hit: echo/k, the head of Go's client", same("echo/k", GO)),
+    ("a key asked for once: echo", lambda i: request(f"echo/{i:09}")),
+]
+
+
+def counted(words, **how):
+    """A process under callgrind, whose last line but one tells how many instructions it took."""
+    tool = ["valgrind", "--tool=callgrind", "--callgrind-out-file=/dev/null"]
+    return subprocess.Popen([*tool, os.path.abspath(PROGRAM), *words], stderr=subprocess.PIPE, text=True, **how)
+
+
+def total(process):
+    found = re.search(r"Collected : (\d+)", process.communicate()[1])
+    if not found or process.returncode:
+        sys.exit(f"instructions.py: the program ended with status {process.returncode}")
+    return int(found[1])
+
+
+def serial(made, number):
+    with tempfile.TemporaryFile() as requests:
+        requests.write(b"".join(made(i) for i in range(number)))
+        requests.seek(0)
+        return total(counted([], stdin=requests, stdout=subprocess.DEVNULL))
+
+
+def free_port():
+    with socket.socket() as probe:
+        probe.bind(("127.0.0.1", 0))
+        return probe.getsockname()[1]
+
+
+def replies(client, number):
+    """Takes so many replies off a buffered client."""
+    for _ in range(number):
+        length = 0
+        while (line := client.readline()) not in (b"\r\n", b""):
+            if line.startswith(b"Content-Length:"):
+                length = int(line[15:])
+        if line == b"" or len(client.read(length)) != length:
+            sys.exit("instructions.py: the connection ended early")
+
+
+def connected(made, number):
+    port = free_port()
+    server = counted([f"127.0.0.1:{port}", "1", "1", "1"], stdout=subprocess.PIPE)
+    server.stdout.readline()
+    with socket.create_connection(("127.0.0.1", port)) as client, client.makefile("rb") as text:
+        client.setsockopt(socket.IPPROTO_TCP, socket.TCP_NODELAY, 1)
+        for i in range(0, number, 16):
+            batch = range(i, min(i + 16, number))
+            client.sendall(b"".join(made(j) for j in batch))
+            replies(text, len(batch))
+    return total(server)
+
+
+def each(run, made):
+    return (run(made, MANY) - run(made, FEW)) / (MANY - FEW)
+
+
+def main():
+    if not os.path.exists(PROGRAM):
+        sys.exit(f"instructions.py: no program {PROGRAM}: run `rt run < stdin` in crates/peer_serve first")
+    print("| request | instructions |\n|---|---|")
+    for name, made in SERIAL:
+        print(f"| serial, {name} | {each(serial, made):,.0f} |")
+    for name, made in CONNECTED:
+        counts = [each(connected, made) for _ in range(3)]
+        print(f"| over a connection, {name} | {statistics.median(counts):,.0f} ({min(counts):,.0f} to {max(counts):,.0f}) |")
+
+
+main()

@@ -1,0 +1,90 @@
+#!/usr/bin/env python3
+"""Where the built server's processor time goes under a load, and how often its threads are put to sleep and woken.
+
+    (cd crates/peer_serve && rt run < stdin > /dev/null)    # builds the server
+    apt-get install gcc linux-perf
+    python3 bench/profile.py [--seconds 3] [SERVER]
+
+For each load `perf record` samples the server, and the samples are summed by what their function is for; then `perf stat` counts
+system calls and task switches of a second run. c is the number of connections, d how many requests each has in flight.
+"""
+import argparse
+import os
+import re
+import subprocess
+import sys
+import tempfile
+
+from net import OUT, built, run, started
+
+LOADS = [("echo", key, c, d) for key in ("hot:k", "unique") for c, d in ((1, 1), (4, 16), (1, 64), (16, 64))]
+# What a function is for, by the first pattern that its name has.
+GROUPS = [
+    ("sleeping and waking", r"futex|schedule|task_switch|try_to_wake|spin_unlock_irqrestore|wake_up|enqueue_task|dequeue|rq_|resched|irqentry|exit_to_user|sched"),
+    ("sockets", r"\[k\]"),
+    ("memory", r"malloc|\bfree\b|_int_free|rattle_alloc|Arc::drop|Vec::clear|unlink_chunk"),
+    ("head and target", r"peer_head|httparse|memchr|peer_path|wish::"),
+    ("hashes and caches", r"hash|lru|peer_source::entries|caches|MainCache"),
+    ("replies", r"peer_reply|responses|write_buffer|writer_side|memmove|memcpy"),
+    ("asks and flights", r"reader_side|peer_flight|peer_fill|HashMap|index_table|crossbeam"),
+    ("locks and waits", r"Mutex|peer_wait|syscall|EventCount"),
+]
+EVENTS = ["context-switches", "syscalls:sys_enter_futex", "syscalls:sys_enter_sendto", "syscalls:sys_enter_recvfrom"]
+
+
+def group_of(line):
+    return next((name for name, pattern in GROUPS if re.search(pattern, line)), "the rest")
+
+
+def sampled(load, address, process, cell, seconds):
+    """The shares of the groups in the server's processor time."""
+    with tempfile.TemporaryDirectory() as room:
+        words = ["perf", "record", "-q", "-F", "1999", "-o", f"{room}/data", "-p", str(process.pid), "--", "sleep", str(seconds - 0.2)]
+        recorder = subprocess.Popen(words, stdout=subprocess.DEVNULL, stderr=subprocess.DEVNULL)
+        run(load, "ours", address, process, cell, seconds)
+        recorder.wait()
+        words = ["perf", "report", "-i", f"{room}/data", "--stdio", "--no-children", "-g", "none", "--sort", "symbol"]
+        report = subprocess.run(words, capture_output=True, text=True).stdout
+    shares = {}
+    for line in report.splitlines():
+        if found := re.match(r"\s*([\d.]+)%\s+(.*)", line):
+            name = group_of(found[2])
+            shares[name] = shares.get(name, 0) + float(found[1])
+    return shares
+
+
+def counted(load, address, process, cell, seconds):
+    """How often each event came for one request."""
+    with tempfile.NamedTemporaryFile("r") as told:
+        words = ["perf", "stat", "-x", ",", "-e", ",".join(EVENTS), "-p", str(process.pid), "-o", told.name, "--", "sleep", str(seconds)]
+        counter = subprocess.Popen(words)
+        found = run(load, "ours", address, process, cell, seconds)
+        counter.wait()
+        lines = [line.split(",") for line in told.read().splitlines() if line and not line.startswith("#")]
+    return [float(line[0]) / (found[0] * seconds) for line in lines], found
+
+
+def main():
+    parser = argparse.ArgumentParser()
+    parser.add_argument("server", nargs="?", default="crates/peer_serve/out/peer_serve")
+    parser.add_argument("--seconds", type=float, default=3)
+    given = parser.parse_args()
+    if not os.path.exists(given.server):
+        sys.exit(f"profile.py: no program {given.server}: run `rt run < stdin` in crates/peer_serve first")
+    os.makedirs(OUT, exist_ok=True)
+    load = built("load", ["gcc", "-O2", "-o", "{out}/load", "load.c", "-lpthread"], ".")
+    address, process = started([os.path.abspath(given.server), "{addr}", "2", "16", "1000000"])
+    names = [*(name for name, _ in GROUPS), "the rest"]
+    print(f"| load | us for one | {' | '.join(names)} | task switches, futex, send, receive for one |\n{'|---' * (len(names) + 3)}|")
+    try:
+        for cell in LOADS:
+            shares = sampled(load, address, process, cell, given.seconds)
+            events, found = counted(load, address, process, cell, given.seconds)
+            kind = "hot" if cell[1] == "hot:k" else "unique"
+            parts = " | ".join(f"{shares.get(name, 0):.0f}%" for name in names)
+            print(f"| {kind} c{cell[2]} d{cell[3]} | {found[4]:.2f} | {parts} | {', '.join(f'{n:.2f}' for n in events)} |")
+    finally:
+        process.kill()
+
+
+main()
