@@ -81,7 +81,7 @@ def main():
             shares = sampled(load, address, process, cell, given.seconds)
             events, found = counted(load, address, process, cell, given.seconds)
             kind = "hot" if cell[1] == "hot:k" else "unique"
-            parts = " | ".join(f"{shares.get(name, 0):.0f}%" for name in names)
+            parts = " | ".join(f"{shares.get(name, 0):.0f}%" if shares else "-" for name in names)
             print(f"| {kind} c{cell[2]} d{cell[3]} | {found[4]:.2f} | {parts} | {', '.join(f'{n:.2f}' for n in events)} |")
     finally:
         process.kill()
