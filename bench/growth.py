@@ -19,7 +19,7 @@ import sys
 import threading
 import time
 
-from net import HERE, OUT, built, run, started, free_port
+from net import HERE, OUT, built, free_port, program, run, started
 
 SLOW = {"SLOW_FROM": "5000", "SLOW_TO": "12000", "SLOW_US": "1000"}
 
@@ -124,9 +124,7 @@ def main():
     parser.add_argument("--rounds", type=int, default=5)
     parser.add_argument("--seconds", type=float, default=0.3)
     given = parser.parse_args()
-    if not os.path.exists(given.server):
-        sys.exit(f"growth.py: no program {given.server}: run `rt run < stdin` in crates/peer_serve first")
-    server = os.path.abspath(given.server)
+    server = program(given.server)
     os.makedirs(OUT, exist_ok=True)
     load = built("load", ["gcc", "-O2", "-o", "{out}/load", "load.c", "-lpthread"], ".")
     library = built("slow.so", ["gcc", "-O2", "-shared", "-fPIC", "-o", "{out}/slow.so", os.path.join(HERE, "slow.c")], ".")

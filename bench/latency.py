@@ -25,7 +25,7 @@ import threading
 import time
 
 from growth import replies
-from net import HERE, OUT, built, run, started
+from net import HERE, OUT, built, program, run, started
 
 SIZES = itertools.cycle(range(5000, 12001))
 SLOW = {"SLOW_FROM": "5000", "SLOW_TO": "12000", "SLOW_US": "10000"}
@@ -134,15 +134,14 @@ def main():
     parser.add_argument("server", nargs="?", default="crates/peer_serve/out/peer_serve")
     parser.add_argument("--rounds", type=int, default=5)
     given = parser.parse_args()
-    if not os.path.exists(given.server):
-        sys.exit(f"latency.py: no program {given.server}: run `rt run < stdin` in crates/peer_serve first")
+    server = program(given.server)
     os.makedirs(OUT, exist_ok=True)
     built("load", ["gcc", "-O2", "-o", "{out}/load", "load.c", "-lpthread"], ".")
     library = built("slow.so", ["gcc", "-O2", "-shared", "-fPIC", "-o", "{out}/slow.so", os.path.join(HERE, "slow.c")], ".")
     go = built("gcserver", ["go", "build", "-o", "{out}/gcserver", "."], "go", GO111MODULE="off", GOPATH="/usr/share/gocode")
     ours = ["env", f"LD_PRELOAD={library}", *(f"{name}={value}" for name, value in SLOW.items())]
     commands = {
-        "ours": [*ours, os.path.abspath(given.server), "{addr}", "4", "16", "1000000"],
+        "ours": [*ours, server, "{addr}", "4", "16", "1000000"],
         "go": [go, "-addr", "{addr}", "-slow-from", "5000", "-slow-to", "12000", "-slow", "10ms"],
     }
     servers = {name: started(command) for name, command in commands.items()}

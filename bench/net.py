@@ -55,6 +55,13 @@ def peers():
     return load, found
 
 
+def program(path):
+    """The whole path of the built server."""
+    if not os.path.exists(path):
+        sys.exit(f"{os.path.basename(sys.argv[0])}: no program {path}: run `rt run < stdin` in crates/peer_serve first")
+    return os.path.abspath(path)
+
+
 def free_port():
     with socket.socket() as s:
         s.bind(("127.0.0.1", 0))
@@ -164,10 +171,9 @@ def main():
     parser.add_argument("--hogs", action="store_true")
     parser.add_argument("--draw")
     given = parser.parse_args()
-    if not os.path.exists(given.server):
-        sys.exit(f"net.py: no program {given.server}: run `rt run < stdin` in crates/peer_serve first")
+    server = program(given.server)
     load, commands = peers()
-    commands = {REFERENCE: commands.pop(REFERENCE), "ours": [os.path.abspath(given.server), "{addr}", "2", "16", "1000000"], **commands}
+    commands = {REFERENCE: commands.pop(REFERENCE), "ours": [server, "{addr}", "2", "16", "1000000"], **commands}
     servers, hogs = {}, []
     try:
         for name, command in commands.items():

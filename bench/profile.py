@@ -12,10 +12,9 @@ import argparse
 import os
 import re
 import subprocess
-import sys
 import tempfile
 
-from net import OUT, built, run, started
+from net import OUT, built, program, run, started
 
 LOADS = [("echo", key, c, d) for key in ("hot:k", "unique") for c, d in ((1, 1), (4, 16), (1, 64), (16, 64))]
 # What a function is for, by the first pattern that its name has.
@@ -69,11 +68,10 @@ def main():
     parser.add_argument("server", nargs="?", default="crates/peer_serve/out/peer_serve")
     parser.add_argument("--seconds", type=float, default=3)
     given = parser.parse_args()
-    if not os.path.exists(given.server):
-        sys.exit(f"profile.py: no program {given.server}: run `rt run < stdin` in crates/peer_serve first")
+    server = program(given.server)
     os.makedirs(OUT, exist_ok=True)
     load = built("load", ["gcc", "-O2", "-o", "{out}/load", "load.c", "-lpthread"], ".")
-    address, process = started([os.path.abspath(given.server), "{addr}", "2", "16", "1000000"])
+    address, process = started([server, "{addr}", "2", "16", "1000000"])
     names = [*(name for name, _ in GROUPS), "the rest"]
     print(f"| load | us for one | {' | '.join(names)} | task switches, futex, send, receive for one |\n{'|---' * (len(names) + 3)}|")
     try:
