@@ -34,6 +34,10 @@ impl<S: Source, L: Ledger> Pool<S, L> {
             match self.jobs.push_as::<Push, R>(rt, pass, job) {
                 Ok(()) => {
                     self.signals.job.notify_one();
+                    if waiter.may_have_slept() {
+                        self.signals.room.acknowledge();
+                        self.signals.room.notify_one();
+                    }
                     return;
                 }
                 Err(back) => job = back,

@@ -2,7 +2,7 @@
 use peer_wait::Notice;
 
 // Among how many notices the flights are spread. Most waits so have one of their own.
-const FLIGHT_NOTICES: usize = 64;
+const FLIGHT_NOTICES: usize = 256;
 
 /// What is told to those who wait, behind the change that it tells of.
 #[derive(Drop)]

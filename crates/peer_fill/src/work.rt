@@ -29,8 +29,8 @@ pub(crate) enum Made<S: Source> {
     Rehit(Fill<S>),
 }
 
-// Who waits for room in the queue is told each time that a worker has made so many fills, and where the queue is empty: a
-// notice for each job would wake a reader for the place of one job.
+// One who waits for room in the queue is told each time that a worker has made so many fills, and wakes the next one. A
+// notice for each job would wake a reader for the place of one job. Where the queue is empty, all are told.
 const JOBS_PER_NOTICE: u64 = 32;
 
 // The most entries that one addition evicts.
@@ -194,7 +194,7 @@ impl<S: Source, L: Ledger> Pool<S, L> {
             let made = self.make(rt, alloc, group, key, &mut evicted);
             fills.count(&made);
             if (fills.calls + fills.rehits) % JOBS_PER_NOTICE == 0 {
-                self.signals.room.notify_all();
+                self.signals.room.notify_one();
             }
             let put = self.put(rt, right, made.into_fill(), gate);
             self.land(rt, put);
