@@ -8,9 +8,10 @@
 Builds the peers and the load generator into bench/net/out, starts all servers, and runs each load against each server in turn,
 so many rounds, interleaved: the machine's own speed swings, so only ratios of one round count. Every reply is checked byte by
 byte; the generator reconnects where a server closes after its 10,000 replies. Each cell is the median over the rounds of the
-rate as a ratio to Go's in the same round, with the least and the largest, and the ratio of the server's processor time for a
-request. `hyper` answers the group `echo` alone: it has no cache, no single flight and no worker. With --hogs four busy loops run
-beside the servers. c is the number of connections, d how many requests each has in flight.
+rate as a ratio to Go's in the same round, with the least and the largest, and the ratios of the server's processor time for a
+request and of the latency of the slowest in a hundred. `hyper` answers the group `echo` alone: it has no cache, no single flight
+and no worker. With --hogs four busy loops run beside the servers. c is the number of connections, d how many requests each has in
+flight. The last line is the processor time that our server takes while nobody asks.
 """
 import argparse
 import os
@@ -115,10 +116,11 @@ def ratios(ours, reference, at):
 
 
 def shown(results, name, cell):
-    rates, cpu = (ratios(results[cell][name], results[cell][REFERENCE], at) for at in (0, 4))
+    rates, cpu, slowest = (ratios(results[cell][name], results[cell][REFERENCE], at) for at in (0, 4, 2))
     if not rates:
         return "-"
-    return f"{statistics.median(rates):.2f} ({min(rates):.2f}-{max(rates):.2f}) cpu {statistics.median(cpu):.2f}"
+    spread = f"{statistics.median(rates):.2f} ({min(rates):.2f}-{max(rates):.2f})"
+    return f"{spread} cpu {statistics.median(cpu):.2f} p99 {statistics.median(slowest):.2f}"
 
 
 def print_table(results, names):
@@ -131,6 +133,19 @@ def print_table(results, names):
         base = f"{statistics.median(r[0] for r in reference):,.0f}, {statistics.median(r[2] for r in reference):,.0f}" if reference else "-"
         load = {"hot:k": "hot", "unique": "unique"}.get(key, "fill/" + key[4:])
         print(f"| {load} | {conns} | {depth} | {base} | " + " | ".join(shown(results, name, cell) for name in others) + " |")
+
+
+def ticks(process):
+    """The processor time of a process so far, in ticks."""
+    with open(f"/proc/{process.pid}/stat", encoding="utf-8") as f:
+        return sum(int(word) for word in f.read().rsplit(")", 1)[1].split()[11:13])
+
+
+def idle(process, seconds=5):
+    """The share of one processor that a process takes while nobody asks."""
+    before = ticks(process)
+    time.sleep(seconds)
+    return (ticks(process) - before) / os.sysconf("SC_CLK_TCK") / seconds
 
 
 def draw(results, names, path):
@@ -182,6 +197,7 @@ def main():
             hogs = [subprocess.Popen([sys.executable, "-c", "while True: pass"]) for _ in range(4)]
         results = measured(load, servers, LOADS[given.loads], given.rounds, given.seconds)
         print_table(results, list(servers))
+        print(f"idle: {idle(servers['ours'][1]):.1%} of a processor")
         if given.draw:
             draw(results, list(servers), given.draw)
     finally:

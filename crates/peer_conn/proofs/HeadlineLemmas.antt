@@ -12,7 +12,8 @@ use Rattle.peer_reply.specs.Texts.{fault_reply, answer_reply}
 use Rattle.peer_reply.specs.declared.wish.Wish.{Wish}
 use Rattle.peer_reply.specs.declared.wish.WishBody.{WishBody}
 use Rattle.peer_reply.specs.declared.wish.WishBody.TheVariants as body
-use Rattle.peer_conn.specs.Wishes.{fault_wish, head_wish, closes_after, MAX_REPLIES, AreFirst}
+use Rattle.peer_flight.specs.Events.{REPLIES}
+use Rattle.peer_conn.specs.Wishes.{fault_wish, head_wish, closes_after, AreFirst}
 use Rattle.peer_conn.specs.Replies.{IsReply, RepliesTo, Replies, AreReplies, AreFrontOfReplies, join}
 use Rattle.peer_conn.specs.Laws.{IsWhole}
 use Rattle.peer_conn.specs.Nexts.{IsNextWish, AsksOpen}
@@ -43,7 +44,7 @@ module _ (numbers : List ℕ → Option ℕ) where
       by_look (Fault f bare) h = inr (fault_wish f bare, fault_next numbers t f bare h)
 
   -- a text of fewer bytes than `fuel` has its list
-  whole_below : (fuel n : ℕ) (t : List ℕ) → n < MAX_REPLIES → length t < fuel → (ws : List Wish) × IsWhole numbers n t ws
+  whole_below : (fuel n : ℕ) (t : List ℕ) → n < REPLIES → length t < fuel → (ws : List Wish) × IsWhole numbers n t ws
   whole_below zero n t lt short = absurd (omega (arith, short))
   whole_below (suc fuel) n t lt short =
       elim (next_of t) as (λ _. (ws : List Wish) × IsWhole numbers n t ws) [
@@ -60,7 +61,7 @@ module _ (numbers : List ℕ → Option ℕ) where
       ]
 
   -- a text has its list of wishes
-  pub whole : (n : ℕ) (t : List ℕ) → n < MAX_REPLIES → (ws : List Wish) × IsWhole numbers n t ws
+  pub whole : (n : ℕ) (t : List ℕ) → n < REPLIES → (ws : List Wish) × IsWhole numbers n t ws
   whole n t lt = whole_below (suc (length t)) n t lt (omega arith)
 
 module _ (answers : ℕ → List ℕ → Answer → Type 0) (some : (g : ℕ) (k : List ℕ) → (a : Answer) × answers g k a) where

@@ -12,7 +12,8 @@ use Rattle.peer_reply.specs.Texts.{answer_reply}
 use Rattle.peer_reply.specs.declared.wish.Wish.{Wish}
 use Rattle.peer_reply.specs.declared.wish.WishBody.{WishBody}
 use Rattle.peer_reply.specs.declared.wish.WishBody.TheVariants as body
-use Rattle.peer_conn.specs.Wishes.{Asks, IsWish, no_head, refused, asked, fault_wish, head_wish, AsksInTurn, IsLastWish, too_long, closes, closes_after, OpenWishes, ClosedWishes, AreFirst, AreAll, MAX_REPLIES}
+use Rattle.peer_flight.specs.Events.{REPLIES}
+use Rattle.peer_conn.specs.Wishes.{Asks, IsWish, no_head, refused, asked, fault_wish, head_wish, AsksInTurn, IsLastWish, too_long, closes, closes_after, OpenWishes, ClosedWishes, AreFirst, AreAll}
 use Rattle.peer_conn.specs.Replies.{IsReply, RepliesTo, Replies}
 use Rattle.peer_conn.specs.Laws.{IsWhole, BeginsWith, HasOneListOfWishes, BeginsWithFirst, KeepsWishes, EndsWithClosing, RepliesAgree}
 use Rattle.peer_conn.proofs.WishLemmas.{Open-extend}
@@ -63,13 +64,13 @@ module _ (numbers : List ℕ → Option ℕ) where
   last_unfinished n t w (closes v rest asks e) k = k.none asks.block rest asks.begins
 
   -- .. and no wish follows that stays open
-  pub last_open : (n : ℕ) (t u : List ℕ) (w x : Wish) (xs : List Wish) → IsLastWish numbers n t w → AsksInTurn numbers t (x ∷ xs) u → n + 1 < MAX_REPLIES → ⊥
+  pub last_open : (n : ℕ) (t u : List ℕ) (w x : Wish) (xs : List Wish) → IsLastWish numbers n t w → AsksInTurn numbers t (x ∷ xs) u → n + 1 < REPLIES → ⊥
   last_open n t u w x xs (too_long h) k lt = h.none k.1.block k.0 k.1.begins
   last_open n t u w x xs (closes v rest asks e) k lt =
       let same = asks_unique t rest k.0 v x asks k.1 in
       not_last n x.closing lt k.2 (ap (λ y. closes_after n y.closing) (sym same.0) ∙ e)
     where
-      not_last : (n : ℕ) (closing : Bool) → n + 1 < MAX_REPLIES → closing ≡ false → closes_after n closing ≡ true → ⊥
+      not_last : (n : ℕ) (closing : Bool) → n + 1 < REPLIES → closing ≡ false → closes_after n closing ≡ true → ⊥
       not_last n true lt open_wish e = absurd (true≢false open_wish)
       not_last n false lt open_wish e = grind (arith, e)
 
@@ -84,7 +85,7 @@ module _ (numbers : List ℕ → Option ℕ) where
   unfinished_open : (t u : List ℕ) (x : Wish) (xs : List Wish) → IsUnfinished t → AsksInTurn numbers t (x ∷ xs) u → ⊥
   unfinished_open t u x xs h k = h.none k.1.block k.0 k.1.begins
 
-  count_more : (n : ℕ) (ws front : List Wish) (x : Wish) (xs : List Wish) → n + length ws < MAX_REPLIES → ws ≡ front ++ x ∷ xs → (n + length front) + 1 < MAX_REPLIES
+  count_more : (n : ℕ) (ws front : List Wish) (x : Wish) (xs : List Wish) → n + length ws < REPLIES → ws ≡ front ++ x ∷ xs → (n + length front) + 1 < REPLIES
   count_more n ws front x xs lt e = omega (arith, lt, ap length e, length-append front (x ∷ xs))
 
   -- two closed lists are one

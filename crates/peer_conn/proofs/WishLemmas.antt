@@ -7,7 +7,8 @@ use Rattle.peer_head.specs.Looks.{ShowsHead, IsFault, too_long as TooLong, no_he
 use Rattle.peer_head.specs.declared.fault.HeadFault.{HeadFault}
 use Rattle.peer_head.proofs.BlockLaws.{begins_once_law, keeps_block_law}
 use Rattle.peer_reply.specs.declared.wish.Wish.{Wish}
-use Rattle.peer_conn.specs.Wishes.{Asks, no_head, refused, asked, head_wish, fault_wish, AsksInTurn, IsLastWish, too_long as TooLongLast, closes, closes_after, OpenWishes, ClosedWishes, AreFirst, MAX_REPLIES}
+use Rattle.peer_flight.specs.Events.{REPLIES}
+use Rattle.peer_conn.specs.Wishes.{Asks, no_head, refused, asked, head_wish, fault_wish, AsksInTurn, IsLastWish, too_long as TooLongLast, closes, closes_after, OpenWishes, ClosedWishes, AreFirst}
 use Rattle.peer_conn.specs.Nexts.{IsNextWish, too_long, first, AsksOpen}
 
 module _ (numbers : List ℕ → Option ℕ) where
@@ -36,7 +37,7 @@ module _ (numbers : List ℕ → Option ℕ) where
       (h.0 ++ x, record { block = h.1.block; begins = keeps_block_law t h.1.block h.0 x h.1.begins; wish = h.1.wish }, h.2, AsksInTurn-extend ws h.0 u x h.3)
 
   -- no wish yet
-  pub Open-none : (n : ℕ) (t : List ℕ) → n < MAX_REPLIES → OpenWishes numbers n t [] t
+  pub Open-none : (n : ℕ) (t : List ℕ) → n < REPLIES → OpenWishes numbers n t [] t
   Open-none n t h = record { asks = refl; count = omega arith }
 
   -- more bytes only add wishes
@@ -61,7 +62,7 @@ module _ (numbers : List ℕ → Option ℕ) where
         all = ap (λ v. ws ++ v) k.all ∙ sym (append_assoc ws k.front (k.last ∷ []));
       }
 
-  pub Closed-one : (n : ℕ) (t : List ℕ) (w : Wish) → n < MAX_REPLIES → IsLastWish numbers n t w → ClosedWishes numbers n t (w ∷ [])
+  pub Closed-one : (n : ℕ) (t : List ℕ) (w : Wish) → n < REPLIES → IsLastWish numbers n t w → ClosedWishes numbers n t (w ∷ [])
   Closed-one n t w lt h = let same : n ≡ n + length {A = Wish} [] = omega arith in record { front = []; last = w; at = t; opens = Open-none n t lt; closes = subst (λ c. IsLastWish numbers c t w) same h; all = refl }
 
   -- the first wishes of what is left follow those before
@@ -78,7 +79,7 @@ module _ (numbers : List ℕ → Option ℕ) where
   stays_open n true e = e
   stays_open n false e = refl
 
-  one_more : (n : ℕ) (closing : Bool) → n < MAX_REPLIES → closes_after n closing ≡ false → n + 1 < MAX_REPLIES
+  one_more : (n : ℕ) (closing : Bool) → n < REPLIES → closes_after n closing ≡ false → n + 1 < REPLIES
   one_more n closing h e = grind arith
 
   -- .. and where it does not
@@ -86,7 +87,7 @@ module _ (numbers : List ℕ → Option ℕ) where
   next_block n t w (too_long h) e = absurd (true≢false e)
   next_block n t w (first v rest asks) e = (asks.block, (rest, asks.begins))
 
-  pub next_stays : (n : ℕ) (t : List ℕ) (w : Wish) (u : List ℕ) → IsNextWish numbers t w → closes_after n w.closing ≡ false → n < MAX_REPLIES → (block : List ℕ) × Begins t block u → AsksOpen numbers n t w u
+  pub next_stays : (n : ℕ) (t : List ℕ) (w : Wish) (u : List ℕ) → IsNextWish numbers t w → closes_after n w.closing ≡ false → n < REPLIES → (block : List ℕ) × Begins t block u → AsksOpen numbers n t w u
   next_stays n t w u (too_long h) e lt b = absurd (true≢false e)
   next_stays n t w u (first v rest asks) e lt b =
       let same = begins_once_law t asks.block b.0 rest u asks.begins b.1 in

@@ -81,13 +81,9 @@ pub record Asks (numbers : List ℕ → Option ℕ) (t : List ℕ) (w : Wish) (r
   pub begins : Begins t block rest
   pub wish : IsWish numbers block w
 
--- how many replies a connection gets at most
-abbrev pub MAX_REPLIES : ℕ
-MAX_REPLIES = REPLIES
-
 -- whether the reply to a wish closes, after n replies
 abbrev pub closes_after : ℕ → Bool → Bool
-closes_after n closing = closing || (n + 1 == MAX_REPLIES)
+closes_after n closing = closing || (n + 1 == REPLIES)
 
 -- t is blocks of these wishes, none of which closes, and then u
 abbrev pub AsksInTurn : (List ℕ → Option ℕ) → List ℕ → List Wish → List ℕ → Type 0
@@ -103,7 +99,7 @@ pub data IsLastWish (numbers : List ℕ → Option ℕ) (n : ℕ) (t : List ℕ)
 -- the first wishes of a text, after n others: none of them closes, and u is left ..
 pub record OpenWishes (numbers : List ℕ → Option ℕ) (n : ℕ) (t : List ℕ) (ws : List Wish) (u : List ℕ) : Type 0 where
   pub asks : AsksInTurn numbers t ws u
-  pub count : n + length ws < MAX_REPLIES
+  pub count : n + length ws < REPLIES
 
 -- .. or the last of them closes
 pub record ClosedWishes (numbers : List ℕ → Option ℕ) (n : ℕ) (t : List ℕ) (ws : List Wish) : Type 0 where

@@ -3,7 +3,7 @@
 //! It stands on the heads of `peer_head` and the readers of `peer_view`. It promises the requests of the bytes that came,
 //! each once, in order, and says why there is no other.
 ghost use Rattle.std.specs.Prelude.{◌≡◌, ℕ, ◌+◌, ◌^◌, ◌<◌};
-ghost use Rattle.peer_conn.specs.Wishes.{MAX_REPLIES};
+ghost use Rattle.peer_flight.specs.Events.{REPLIES};
 
 use crate::end::ReaderStop;
 use crate::wish::{closes_after, next_wish};
@@ -36,7 +36,7 @@ pub(crate) struct Requests<R: PeerRead> {
     pub(crate) count: u64,
     /// How many reads are left.
     pub(crate) left: u64,
-    ghost open: { count < MAX_REPLIES },
+    ghost open: { count < REPLIES },
     ghost calls: { R.calls reader + left < 2 ^ 64 },
 }
 

@@ -3,7 +3,8 @@
 //! It stands on the heads of `peer_head`, the places of `peer_path` and the names of `peer_source`. It promises the wish
 //! of a head: its first fault, or the group and the key that it asks for.
 ghost use Rattle.std.specs.Prelude.{true, ◌≡◌, ℕ, ◌<◌, List, IfOk};
-ghost use Rattle.peer_conn.specs.Wishes.{head_wish, head_body, target_body, in_group, fault_of, is_served, MAX_REPLIES, closes_after};
+ghost use Rattle.peer_flight.specs.Events.{REPLIES};
+ghost use Rattle.peer_conn.specs.Wishes.{head_wish, head_body, target_body, in_group, fault_of, is_served, closes_after};
 ghost use Rattle.peer_conn.specs.Nexts.{IsNextOf};
 
 use peer_flight::MAX_REPLIES;
@@ -134,7 +135,7 @@ pub(crate) fn next_wish<S: Source>(
 
 /// Whether the reply to a wish closes, after `count` replies.
 pub(crate) fn closes_after(count: u64, closing: bool) -> bool
-    requires { count < MAX_REPLIES }
+    requires { count < REPLIES }
     ensures { result ≡ closes_after count closing }
 {
     closing || count + 1 == MAX_REPLIES

@@ -1,6 +1,6 @@
 use Rattle.std.proofs.Common.{◌+◌, ◌-◌, List}
 use Rattle.peer_reply.specs.declared.wish.Wish.{Wish}
-use Rattle.peer_conn.specs.Wishes.{MAX_REPLIES}
+use Rattle.peer_flight.specs.Events.{REPLIES}
 use Rattle.peer_conn.specs.Requests.{Receives}
 use Rattle.peer_conn.specs.ReaderSides.{PutsTickets}
 use Rattle.peer_conn.proofs.reader_side.ReaderSide.take_requests.Given as goal
@@ -11,4 +11,4 @@ invariant-loop-wish g l =
     × PutsTickets l.pool l.fn.self.seat l.self.seat l.fn.self.lane l.self.lane ws
 
 abbrev pub decreases-loop-wish : goal.decreases-loop-wish
-decreases-loop-wish g l = (MAX_REPLIES - l.self.requests.count) + l.self.requests.left
+decreases-loop-wish g l = (REPLIES - l.self.requests.count) + l.self.requests.left
