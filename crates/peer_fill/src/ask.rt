@@ -14,7 +14,7 @@ use crossbeam_queue::Pass;
 use peer_flight::{Ask, AskFault, Claim};
 use peer_source::{Fill, GroupId, Source};
 use peer_view::ByteView;
-use peer_wait::{Notice, Waiter};
+use peer_wait::{Notice, Waiter, lock};
 use std::alloc::{AllocError, Global};
 use std::sync::Wait;
 use std::sync::ledger::Ledger;
@@ -72,16 +72,13 @@ impl<S: Source, L: Ledger> Pool<S, L> {
         if seat.asks.asked >= MAX_COUNT {
             return Err(AskFault::Worn);
         }
-        let found = self.caches.lock(rt).get(group, &key)?;
+        let found = lock(rt, &self.caches).get(group, &key)?;
         if let Some(fill) = found {
             seat.asks.asked += 1;
             seat.asks.hits += 1;
             return Ok(Claim::Ready(fill));
         }
-        let ask = self
-            .table
-            .lock(rt)
-            .want(alloc, group, &key, &mut seat.share);
+        let ask = lock(rt, &self.table).want(alloc, group, &key, &mut seat.share);
         match ask {
             Err(fault) => Err(fault),
             Ok(Ask::Joined(flight)) => {

@@ -14,7 +14,7 @@ use crossbeam_queue::Pass;
 use peer_flight::{FillRight, Put};
 use peer_source::{Evicted, Fill, GroupId, Source};
 use peer_view::ByteView;
-use peer_wait::Waiter;
+use peer_wait::{Waiter, lock};
 use std::alloc::Global;
 use std::sync::Wait;
 use std::sync::atomic::Ordering::SeqCst;
@@ -119,7 +119,7 @@ impl<S: Source, L: Ledger> Pool<S, L> {
     fn cached_fill<R: Wait>(&self, rt: &R, group: GroupId, key: &ByteView) -> Option<Fill<S>>
         ensures { IfSome result (IsFoundFor group.number key.now) }
     {
-        match self.caches.lock(rt).get(group, key) {
+        match lock(rt, &self.caches).get(group, key) {
             Ok(found) => found,
             Err(_) => None,
         }
@@ -141,7 +141,7 @@ impl<S: Source, L: Ledger> Pool<S, L> {
             return Made::Rehit(fill);
         }
         let fill = Fill::run(alloc, &self.source, group, key);
-        let _ = self.caches.lock(rt).add(&fill, evicted);
+        let _ = lock(rt, &self.caches).add(&fill, evicted);
         evicted.clear();
         Made::Called(fill)
     }
@@ -160,7 +160,7 @@ impl<S: Source, L: Ledger> Pool<S, L> {
 
     // Takes the flight out of the table. Its right is spent, or there were no `put`.
     fn land<R: Wait>(&self, rt: &R, put: Put<S>) {
-        self.table.lock(rt).land(&put);
+        lock(rt, &self.table).land(&put);
     }
 
     /// Takes jobs until it has seen that the pool was stopped and then finds no job, or until its seat has taken 2^56.

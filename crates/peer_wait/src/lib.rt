@@ -1,7 +1,7 @@
 //! Waiting: the one place of the project in which a thread sleeps for what another thread changes.
 //!
-//! It stands on the event count of `crossbeam_utils`. It promises that a waiter looks 16 times before it may sleep. No
-//! wake-up is lost, which is a matter of the order of two steps on each side:
+//! It stands on the event count of `crossbeam_utils` and the lock of `std`. It promises that a waiter looks 16 times before
+//! it may sleep. No wake-up is lost, which is a matter of the order of two steps on each side:
 //!
 //! - who waits announces its sleep first, and looks once more before it sleeps;
 //! - who changes something makes the change first, and notifies then.
@@ -11,9 +11,11 @@
 //! stands, so all who sleep then were announced before the first of the two, which wakes them.
 #![tactic(auto)]
 
+mod mutex;
 mod notice;
 mod waiter;
 
+pub use mutex::lock;
 pub use notice::Notice;
 pub use waiter::Waiter;
 

@@ -1,8 +1,8 @@
-//! A test of what no clause says: that no wake-up is lost.
-use crate::{Notice, Waiter};
-use std::sync::Wait;
+//! Tests of what no clause says: that no wake-up is lost.
+use crate::{Notice, Waiter, lock};
 use std::sync::atomic::AtomicU32;
 use std::sync::atomic::Ordering::SeqCst;
+use std::sync::{Mutex, Wait};
 use std::thread::{Threads, join};
 
 /// How often each thread hands over to the other.
@@ -152,4 +152,24 @@ fn hold_meetings<R: Threads + Wait + Sync>(rt: &R) -> u32 {
 #[test]
 fn the_second_of_two_is_woken_too(rt: HostRuntime) {
     assert_eq!(rt; hold_meetings(&rt), 20_000);
+}
+
+// Adds one under the lock, again and again.
+fn add<R: Wait>(rt: &R, sum: &Mutex<u32>) {
+    for _ in 0..ROUNDS {
+        let mut held = lock(rt, sum);
+        *held = held.wrapping_add(1);
+    }
+}
+
+fn add_in_two_threads<R: Threads + Wait + Sync>(rt: &R) -> u32 {
+    let sum = Mutex::new(0u32);
+    let shared = &sum;
+    join(rt, move || add(rt, shared), move || add(rt, shared));
+    sum.into_inner()
+}
+
+#[test]
+fn two_threads_take_a_lock_in_turn(rt: HostRuntime) {
+    assert_eq!(rt; add_in_two_threads(&rt), 100_000);
 }
