@@ -14,16 +14,19 @@ fn hello() -> ByteView
 #[test]
 fn lends_all_its_bytes(rt: HostRuntime) {
     let view = hello();
-    assert!(rt; view.len() == 5 && !view.is_empty());
+    assert!(rt; view.len() == 5);
+    assert!(rt; !view.is_empty());
     assert!(rt; view.as_slice() == b"hello".as_slice());
 }
 
 #[test]
 fn lends_its_parts(rt: HostRuntime) {
     let view = hello();
-    assert!(rt; view.at(1) == b'e' && view.range(1, 3) == b"el".as_slice());
+    assert!(rt; view.at(1) == b'e');
+    assert!(rt; view.range(1, 3) == b"el".as_slice());
     let (front, back) = view.parts_at(2);
-    assert!(rt; front == b"he".as_slice() && back == b"llo".as_slice());
+    assert!(rt; front == b"he".as_slice());
+    assert!(rt; back == b"llo".as_slice());
 }
 
 // Whether memory was had for a view of these bytes.
@@ -76,12 +79,19 @@ fn copies_as_text(view: &ByteView, alloc: Global, text: &str) -> bool {
     }
 }
 
+// Whether the view is refused as a text for its bytes.
+fn is_no_text(view: &ByteView, alloc: Global) -> bool {
+    match view.to_text(alloc) {
+        Err(TextFault::NotUtf8) => true,
+        _ => false,
+    }
+}
+
 #[test]
 fn copies_into_a_vector_and_a_text(rt: HostRuntime) {
     assert!(rt; copies_as_vector(&hello(), rt.alloc(), b"hello"));
     assert!(rt; copies_as_text(&hello(), rt.alloc(), "hello"));
-    let fault = view_of(b"\xFF").to_text(rt.alloc()).err();
-    assert!(rt; fault == Some(TextFault::NotUtf8));
+    assert!(rt; is_no_text(&view_of(b"\xFF"), rt.alloc()));
 }
 
 // Whether a read at an offset says this, and leaves this in the room.
