@@ -122,12 +122,19 @@ fn square_takes_digits_alone(rt: HostRuntime) {
     }
 }
 
+// Whether these are so many letters `x`.
+fn are_letters(bytes: &[u8], count: usize) -> bool {
+    let mut all = bytes.len() == count;
+    for byte in bytes {
+        all &= *byte == b'x';
+    }
+    all
+}
+
 // Whether `fill` finds so many letters `x` for the key.
 fn finds_letters(alloc: Global, key: &'static [u8], count: usize) -> bool {
     match fill(alloc, FILL, key).outcome() {
-        Outcome::Found(found) => {
-            found.len() == count && found.as_slice().iter().all(|byte| *byte == b'x')
-        }
+        Outcome::Found(found) => are_letters(found.as_slice(), count),
         _ => false,
     }
 }

@@ -150,17 +150,22 @@ fn a_key_is_counted_once(rt: HostRuntime) -> Result<(), Fail> {
 
 // The bytes of the entries for these digits in a cache of `fill`, where a digit's value is so many bytes.
 fn bytes_for(digits: &[u8]) -> u64 {
-    digits.iter().fold(
-        0,
-        |bytes: u64, digit| bytes.wrapping_add(1 + u64::from(*digit)),
-    )
+    let mut bytes: u64 = 0;
+    for digit in digits {
+        bytes = bytes.wrapping_add(1 + u64::from(*digit));
+    }
+    bytes
 }
 
 // Takes the digit out of the list, and says whether it was there.
 fn take_out(digits: &mut Vec<u8>, digit: u8) -> bool {
-    let before = digits.len();
-    digits.retain(|other| *other != digit);
-    digits.len() < before
+    for index in 0..digits.len() {
+        if digits[index] == digit {
+            digits.remove(index);
+            return true;
+        }
+    }
+    false
 }
 
 // Puts the digit first, and takes the last ones out until their entries fit.
