@@ -1,10 +1,8 @@
 //! Texts by chance, and a plain model of tables: a list of lines, searched from the front.
-use super::{fault_of, has, read};
+use super::{fault_of, has, table_of};
 use crate::{TableFault, TableSource};
 use peer_source::{Names, Source};
 use std::alloc::{AllocError, Global};
-use std::process::Abort;
-use std::test::Fail;
 
 // What fields are made of, and what stands now and then in the place of a separator.
 const LETTERS: &[u8] = b"ab\r\xFF";
@@ -117,32 +115,38 @@ fn are_numbered(table: &TableSource, lines: &[Line<'_>]) -> bool {
     table.group_count() == count
 }
 
-// Demands of a text what its lines say, or its fault.
-fn compare(rt: &impl Abort, alloc: Global, text: &[u8]) -> Result<(), Fail> {
-    let lines = match lines_of(alloc, text)? {
-        Ok(lines) => lines,
-        Err(fault) => {
-            assert_eq!(rt; fault_of(alloc, text)?, Some(fault));
-            return Ok(());
-        }
-    };
-    let Ok(table) = read(alloc, &[text], false, 1000)? else {
-        return Err(Fail::new("no table"));
-    };
-    assert!(rt; are_numbered(&table, &lines));
-    for line in &lines {
-        has(rt, alloc, &table, line.group, line.key, line.value, true)?;
+// Whether the table has the value of each line.
+fn has_lines(alloc: Global, table: &TableSource, lines: &[Line<'_>]) -> bool {
+    let mut all = true;
+    for line in lines {
+        all &= has(alloc, table, line.group, line.key, line.value, true);
     }
-    Ok(())
+    all
+}
+
+// Whether a text is read as a table of these lines.
+fn is_table(alloc: Global, text: &[u8], lines: &[Line<'_>]) -> bool {
+    match table_of(alloc, &[text]) {
+        Some(table) => are_numbered(&table, lines) && has_lines(alloc, &table, lines),
+        None => false,
+    }
+}
+
+// Whether a text is read as its lines say, or has their fault.
+fn is_as_modelled(alloc: Global, text: &[u8]) -> Result<bool, AllocError> {
+    match lines_of(alloc, text)? {
+        Ok(lines) => Ok(is_table(alloc, text, &lines)),
+        Err(fault) => Ok(fault_of(alloc, text)? == Some(fault)),
+    }
 }
 
 #[test]
-fn answers_as_a_list_of_lines_does(rt: HostRuntime) -> Result<(), Fail> {
+fn answers_as_a_list_of_lines_does(rt: HostRuntime) -> Result<(), AllocError> {
     let alloc = rt.alloc();
     let mut state = 7;
     for _ in 0..1000 {
         let text = text_of(alloc, &mut state)?;
-        compare(&rt, alloc, &text)?;
+        assert!(rt; is_as_modelled(alloc, &text)?);
     }
     Ok(())
 }
