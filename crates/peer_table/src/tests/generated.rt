@@ -71,25 +71,37 @@ fn line_of(line: &[u8]) -> Option<Line<'_>> {
     }
 }
 
-// The lines of a text, or the number of its first bad one, and whether it repeats another.
+// The line that follows these, or its fault.
+fn next_line<'a>(
+    lines: &[Line<'a>],
+    text: &'a [u8],
+    number: usize,
+) -> Result<Line<'a>, TableFault> {
+    let Some(text) = text.strip_suffix(b"\n") else {
+        return Err(TableFault::Line(number));
+    };
+    let Some(line) = line_of(text) else {
+        return Err(TableFault::Line(number));
+    };
+    let is_repeated = lines
+        .iter()
+        .any(|seen| seen.group == line.group && seen.key == line.key);
+    if is_repeated {
+        return Err(TableFault::Repeated(number));
+    }
+    Ok(line)
+}
+
+// The lines of a text, or its first fault.
 fn lines_of(alloc: Global, text: &[u8]) -> Result<Result<Vec<Line<'_>>, TableFault>, AllocError> {
     let mut lines: Vec<Line<'_>> = Vec::new(alloc);
     let mut number: usize = 0;
-    for line in text.split_inclusive(|byte| *byte == b'\n') {
+    for text in text.split_inclusive(|byte| *byte == b'\n') {
         number = number.saturating_add(1);
-        let Some(line) = line.strip_suffix(b"\n") else {
-            return Ok(Err(TableFault::Line(number)));
-        };
-        let Some(line) = line_of(line) else {
-            return Ok(Err(TableFault::Line(number)));
-        };
-        if lines
-            .iter()
-            .any(|seen| seen.group == line.group && seen.key == line.key)
-        {
-            return Ok(Err(TableFault::Repeated(number)));
+        match next_line(&lines, text, number) {
+            Ok(line) => lines.push(line)?,
+            Err(fault) => return Ok(Err(fault)),
         }
-        lines.push(line)?;
     }
     if number == 0 {
         return Ok(Err(TableFault::Line(1)));

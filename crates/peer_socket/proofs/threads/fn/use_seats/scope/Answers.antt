@@ -11,7 +11,7 @@ loop-seat-preserved g c =
     let same : fill_parts c.in-Ok.handle.promise.seat.value ≡ fill_parts c.in-Some.seat = grind (arith, common_steps) in
     let at : c.in-Ok.handle.promise.pool.now ≡ c.captures.pool.now = grind (arith, common_steps) in
     record {
-      fills = search;
+      fills = c.in-Some.ensures.rest;
       working = all_push (λ h. h.promise.pool.now ≡ c.captures.pool.now) _ _ _ c.push_reserved.ensures.items c.loop-seat.invariant.working at;
       parts = moves fill_parts (λ h. fill_parts h.promise.seat.value) c.loop-seat.fills.items c.pop_fill.new.seats.items c.loop-seat.working.items c.push_reserved.new.self.items c.in-Ok.handle (fill_parts c.in-Some.seat) 16 c.in-Some.ensures.parts c.push_reserved.ensures.items same c.loop-seat.invariant.parts;
       room = omega (arith, c.loop-seat.invariant.room, c.in-Some.ensures.fewer, c.push_reserved.ensures.len, c.push_reserved.ensures.capacity);
