@@ -7,8 +7,15 @@ use crate::response::{PbFault, read_response};
 use peer_source::{DemoSource, Fill, GroupId};
 use peer_view::ByteView;
 use std::alloc::{AllocError, Global};
-use std::process::Abort;
-use std::test::Fail;
+
+const VALUE: &[u8] = b"HTTP/1.1 200 OK\r\nContent-Type: application/x-protobuf\r\nContent-Length: ";
+
+const TEXT: &[u8] =
+    b"\r\nContent-Type: text/plain; charset=utf-8\r\nX-Content-Type-Options: nosniff\r\nContent-Length: ";
+
+const OPEN: &[u8] = b"\r\n\r\n";
+
+const CLOSING: &[u8] = b"\r\nConnection: close\r\n\r\n";
 
 // The parts of a reply, joined.
 fn text_of(alloc: Global, reply: &Reply<'_>) -> Result<Vec<u8>, AllocError> {
@@ -26,286 +33,219 @@ fn fault_text(
     closing: bool,
     bare: bool,
 ) -> Result<Vec<u8>, AllocError> {
-    text_of(
-        alloc,
-        &Reply::of_fault(&mut HeadRoom::new(), fault, closing, bare),
-    )
-}
-
-// The fill of a key of the source for demonstrations: group 0 is `echo`, 1 `square`, 2 `fill`.
-fn fill_of(alloc: Global, number: usize, key: &[u8]) -> Result<Fill<DemoSource>, AllocError> {
-    let key = ByteView::copy_of(alloc, key)?;
-    Ok(Fill::run(alloc, &DemoSource, GroupId { number }, key))
-}
-
-#[test]
-fn replies_with_a_value(rt: HostRuntime) -> Result<(), Fail> {
-    let alloc = rt.alloc();
-    let fill = fill_of(alloc, 0, b"k")?;
     let mut room = HeadRoom::new();
-    let reply = Reply::of_fill(&mut room, &fill, false, false).expect(&rt, "a reply");
-    assert_eq!(rt;
-        text_of(alloc, &reply)?.as_slice(),
-        b"HTTP/1.1 200 OK\r\nContent-Type: application/x-protobuf\r\nContent-Length: 3\r\n\r\n\x0A\x01k".as_slice()
-    );
-    let closing = Reply::of_fill(&mut room, &fill, true, false).expect(&rt, "a reply");
-    assert_eq!(rt;
-        text_of(alloc, &closing)?.as_slice(),
-        b"HTTP/1.1 200 OK\r\nContent-Type: application/x-protobuf\r\nContent-Length: 3\r\nConnection: close\r\n\r\n\x0A\x01k".as_slice()
-    );
-    let bare = Reply::of_fill(&mut room, &fill, false, true).expect(&rt, "a reply");
-    assert_eq!(rt;
-        text_of(alloc, &bare)?.as_slice(),
-        b"HTTP/1.1 200 OK\r\nContent-Type: application/x-protobuf\r\nContent-Length: 3\r\n\r\n".as_slice()
-    );
-    Ok(())
+    text_of(alloc, &Reply::of_fault(&mut room, fault, closing, bare))
 }
 
-#[test]
-fn replies_with_an_error_of_the_source(rt: HostRuntime) -> Result<(), Fail> {
-    let alloc = rt.alloc();
-    let fill = fill_of(alloc, 1, b"x")?;
-    let mut room = HeadRoom::new();
-    let reply = Reply::of_fill(&mut room, &fill, false, false).expect(&rt, "a reply");
-    assert_eq!(rt;
-        text_of(alloc, &reply)?.as_slice(),
-        b"HTTP/1.1 500 Internal Server Error\r\nContent-Type: text/plain; charset=utf-8\r\n\
-          X-Content-Type-Options: nosniff\r\nContent-Length: 13\r\n\r\nnot a number\n"
-            .as_slice()
-    );
-    Ok(())
-}
-
-// Checks the beginning and the length of the reply with so many bytes `x`.
-fn check_large(
-    rt: &impl Abort,
+// The text of the reply to what the source for demonstrations answers, nothing where memory was refused. Its group 0
+// is `echo`, 1 `square`, 2 `fill`.
+fn fill_text(
     alloc: Global,
+    number: usize,
     key: &[u8],
-    head: &[u8],
-    count: usize,
-) -> Result<(), AllocError> {
-    let fill = fill_of(alloc, 2, key)?;
+    closing: bool,
+    bare: bool,
+) -> Result<Vec<u8>, AllocError> {
+    let key = ByteView::copy_of(alloc, key)?;
+    let fill = Fill::run(alloc, &DemoSource, GroupId { number }, key);
     let mut room = HeadRoom::new();
-    let reply = Reply::of_fill(&mut room, &fill, false, false).expect(rt, "a reply");
-    let text = text_of(alloc, &reply)?;
-    assert!(rt; text.starts_with(head), "the head and the prefix");
-    let value = &text.as_slice()[head.len()..];
-    assert_eq!(rt; value.len(), count);
-    assert!(rt; value.iter().all(|byte| *byte == b'x'), "the value");
-    Ok(())
+    match Reply::of_fill(&mut room, &fill, closing, bare) {
+        Some(reply) => text_of(alloc, &reply),
+        None => Ok(Vec::new(alloc)),
+    }
+}
+
+// What is left of a text behind these pieces, if it begins with them.
+fn behind<'a>(text: &'a [u8], pieces: &[&[u8]]) -> Option<&'a [u8]> {
+    let mut rest = text;
+    for piece in pieces {
+        rest = rest.strip_prefix(*piece)?;
+    }
+    Some(rest)
+}
+
+// Whether memory was had for the text of a reply, which has this head in pieces and this content.
+fn is_reply(text: Result<Vec<u8>, AllocError>, head: &[&[u8]], content: &[u8]) -> bool {
+    match text {
+        Ok(text) => match behind(&text, head) {
+            Some(rest) => rest == content,
+            None => false,
+        },
+        Err(_) => false,
+    }
 }
 
 #[test]
-fn writes_the_shortest_length(rt: HostRuntime) -> Result<(), Fail> {
+fn replies_with_a_value(rt: HostRuntime) {
     let alloc = rt.alloc();
-    check_large(
-        &rt,
-        alloc,
-        b"127",
-        b"HTTP/1.1 200 OK\r\nContent-Type: application/x-protobuf\r\nContent-Length: 129\r\n\r\n\x0A\x7F",
-        127,
-    )?;
-    check_large(
-        &rt,
-        alloc,
-        b"128",
-        b"HTTP/1.1 200 OK\r\nContent-Type: application/x-protobuf\r\nContent-Length: 131\r\n\r\n\x0A\x80\x01",
-        128,
-    )?;
-    check_large(
-        &rt,
-        alloc,
-        b"16383",
-        b"HTTP/1.1 200 OK\r\nContent-Type: application/x-protobuf\r\nContent-Length: 16386\r\n\r\n\x0A\xFF\x7F",
-        16383,
-    )?;
-    check_large(
-        &rt,
-        alloc,
-        b"16384",
-        b"HTTP/1.1 200 OK\r\nContent-Type: application/x-protobuf\r\nContent-Length: 16388\r\n\r\n\x0A\x80\x80\x01",
-        16384,
-    )?;
-    check_large(
-        &rt,
-        alloc,
-        b"1048576",
-        b"HTTP/1.1 200 OK\r\nContent-Type: application/x-protobuf\r\nContent-Length: 1048580\r\n\r\n\x0A\x80\x80\x40",
-        1048576,
-    )?;
-    Ok(())
+    let open = fill_text(alloc, 0, b"k", false, false);
+    assert!(rt; is_reply(open, &[VALUE, b"3", OPEN], b"\x0A\x01k"));
+    let closing = fill_text(alloc, 0, b"k", true, false);
+    assert!(rt; is_reply(closing, &[VALUE, b"3", CLOSING], b"\x0A\x01k"));
+    let bare = fill_text(alloc, 0, b"k", false, true);
+    assert!(rt; is_reply(bare, &[VALUE, b"3", OPEN], b""));
 }
 
-// Checks the reply to a fault in its four forms, by its status line, its content length and its text.
-fn check_fault(
-    rt: &impl Abort,
-    alloc: Global,
-    fault: &Fault,
-    status: &str,
-    length: &str,
-    text: &str,
-) -> Result<(), AllocError> {
-    let fields =
-        "Content-Type: text/plain; charset=utf-8\r\nX-Content-Type-Options: nosniff\r\nContent-Length: ";
-    let open_head = format!(in alloc; "HTTP/1.1 {status}\r\n{fields}{length}\r\n\r\n")?;
-    let closing_head = format!(in alloc;
-        "HTTP/1.1 {status}\r\n{fields}{length}\r\nConnection: close\r\n\r\n"
-    )?;
-    let open = format!(in alloc; "{open_head}{text}\n")?;
-    let closing = format!(in alloc; "{closing_head}{text}\n")?;
-    assert_eq!(rt;
-        fault_text(alloc, fault, false, false)?.as_slice(),
-        open.as_bytes()
+#[test]
+fn replies_with_an_error_of_the_source(rt: HostRuntime) {
+    let reply = fill_text(rt.alloc(), 1, b"x", false, false);
+    let status = b"HTTP/1.1 500 Internal Server Error";
+    assert!(rt; is_reply(reply, &[status, TEXT, b"13", OPEN], b"not a number\n"));
+}
+
+// Whether the reply with so many bytes `x` has this content length, and this before its value.
+fn has_letters(alloc: Global, key: &[u8], length: &[u8], prefix: &[u8], count: usize) -> bool {
+    match fill_text(alloc, 2, key, false, false) {
+        Ok(text) => match behind(&text, &[VALUE, length, OPEN, prefix]) {
+            Some(value) => value.len() == count && value.iter().all(|byte| *byte == b'x'),
+            None => false,
+        },
+        Err(_) => false,
+    }
+}
+
+#[test]
+fn writes_the_shortest_length(rt: HostRuntime) {
+    let alloc = rt.alloc();
+    assert!(rt; has_letters(alloc, b"127", b"129", b"\x0A\x7F", 127));
+    assert!(rt; has_letters(alloc, b"128", b"131", b"\x0A\x80\x01", 128));
+    assert!(rt; has_letters(alloc, b"16383", b"16386", b"\x0A\xFF\x7F", 16383));
+    assert!(rt; has_letters(alloc, b"16384", b"16388", b"\x0A\x80\x80\x01", 16384));
+    assert!(rt;
+        has_letters(
+            alloc,
+            b"1048576",
+            b"1048580",
+            b"\x0A\x80\x80\x40",
+            1_048_576
+        )
     );
-    assert_eq!(rt;
-        fault_text(alloc, fault, true, false)?.as_slice(),
-        closing.as_bytes()
+}
+
+// Whether the reply to a fault has this head in pieces, and this content where it is not bare.
+fn replies(alloc: Global, fault: &Fault, closing: bool, head: &[&[u8]], content: &[u8]) -> bool {
+    let whole = fault_text(alloc, fault, closing, false);
+    let bare = fault_text(alloc, fault, closing, true);
+    is_reply(whole, head, content) && is_reply(bare, head, b"")
+}
+
+// Whether the four replies to a fault have this status line, content length and content.
+fn has_replies(alloc: Global, fault: Fault, status: &[u8], length: &[u8], content: &[u8]) -> bool {
+    let open = [status, TEXT, length, OPEN];
+    let closing = [status, TEXT, length, CLOSING];
+    replies(alloc, &fault, false, &open, content) && replies(alloc, &fault, true, &closing, content)
+}
+
+// Whether a fault that is a bad request has this content, of this length.
+fn is_bad(alloc: Global, fault: Fault, length: &[u8], content: &[u8]) -> bool {
+    has_replies(alloc, fault, b"HTTP/1.1 400 Bad Request", length, content)
+}
+
+#[test]
+fn replies_to_texts_that_are_no_heads(rt: HostRuntime) {
+    let alloc = rt.alloc();
+    let status = b"HTTP/1.1 431 Request Header Fields Too Large";
+    assert!(rt; has_replies(alloc, Fault::TooLong, status, b"14", b"head too long\n"));
+    assert!(rt; is_bad(alloc, Fault::NotAHead, b"9", b"bad head\n"));
+}
+
+#[test]
+fn replies_to_refused_fields(rt: HostRuntime) {
+    let alloc = rt.alloc();
+    let status = b"HTTP/1.1 501 Not Implemented";
+    let content = b"transfer coding not supported\n";
+    assert!(rt; has_replies(alloc, Fault::TransferCoding, status, b"30", content));
+    let status = b"HTTP/1.1 413 Content Too Large";
+    assert!(rt;
+        has_replies(
+            alloc,
+            Fault::Content,
+            status,
+            b"21",
+            b"content not accepted\n"
+        )
     );
-    assert_eq!(rt;
-        fault_text(alloc, fault, false, true)?.as_slice(),
-        open_head.as_bytes()
+    assert!(rt; is_bad(alloc, Fault::BadLength, b"19", b"bad content length\n"));
+    assert!(rt; is_bad(alloc, Fault::Host, b"9", b"bad host\n"));
+}
+
+#[test]
+fn replies_to_bad_targets(rt: HostRuntime) {
+    let alloc = rt.alloc();
+    assert!(rt; is_bad(alloc, Fault::Target, b"11", b"bad target\n"));
+    assert!(rt; is_bad(alloc, Fault::Escape, b"11", b"bad escape\n"));
+    assert!(rt; is_bad(alloc, Fault::NoKey, b"12", b"bad request\n"));
+    let status = b"HTTP/1.1 404 Not Found";
+    assert!(rt;
+        has_replies(
+            alloc,
+            Fault::Outside,
+            status,
+            b"19",
+            b"404 page not found\n"
+        )
     );
-    assert_eq!(rt;
-        fault_text(alloc, fault, true, true)?.as_slice(),
-        closing_head.as_bytes()
-    );
-    Ok(())
 }
 
 #[test]
-fn replies_to_texts_that_are_no_heads(rt: HostRuntime) -> Result<(), Fail> {
+fn replies_to_unknown_groups(rt: HostRuntime) -> Result<(), AllocError> {
     let alloc = rt.alloc();
-    check_fault(
-        &rt,
-        alloc,
-        &Fault::TooLong,
-        "431 Request Header Fields Too Large",
-        "14",
-        "head too long",
-    )?;
-    check_fault(
-        &rt,
-        alloc,
-        &Fault::NotAHead,
-        "400 Bad Request",
-        "9",
-        "bad head",
-    )?;
-    Ok(())
-}
-
-#[test]
-fn replies_to_refused_fields(rt: HostRuntime) -> Result<(), Fail> {
-    let alloc = rt.alloc();
-    check_fault(
-        &rt,
-        alloc,
-        &Fault::TransferCoding,
-        "501 Not Implemented",
-        "30",
-        "transfer coding not supported",
-    )?;
-    check_fault(
-        &rt,
-        alloc,
-        &Fault::BadLength,
-        "400 Bad Request",
-        "19",
-        "bad content length",
-    )?;
-    check_fault(
-        &rt,
-        alloc,
-        &Fault::Content,
-        "413 Content Too Large",
-        "21",
-        "content not accepted",
-    )?;
-    check_fault(&rt, alloc, &Fault::Host, "400 Bad Request", "9", "bad host")?;
-    Ok(())
-}
-
-#[test]
-fn replies_to_bad_targets(rt: HostRuntime) -> Result<(), Fail> {
-    let alloc = rt.alloc();
-    check_fault(
-        &rt,
-        alloc,
-        &Fault::Target,
-        "400 Bad Request",
-        "11",
-        "bad target",
-    )?;
-    check_fault(
-        &rt,
-        alloc,
-        &Fault::Escape,
-        "400 Bad Request",
-        "11",
-        "bad escape",
-    )?;
-    check_fault(
-        &rt,
-        alloc,
-        &Fault::Outside,
-        "404 Not Found",
-        "19",
-        "404 page not found",
-    )?;
-    check_fault(
-        &rt,
-        alloc,
-        &Fault::NoKey,
-        "400 Bad Request",
-        "12",
-        "bad request",
-    )?;
-    Ok(())
-}
-
-#[test]
-fn replies_to_unknown_groups(rt: HostRuntime) -> Result<(), Fail> {
-    let alloc = rt.alloc();
+    let status = b"HTTP/1.1 404 Not Found";
     let nope = Fault::NoGroup(ByteView::copy_of(alloc, b"nope")?);
-    check_fault(
-        &rt,
-        alloc,
-        &nope,
-        "404 Not Found",
-        "20",
-        "no such group: nope",
-    )?;
+    assert!(rt; has_replies(alloc, nope, status, b"20", b"no such group: nope\n"));
     let empty = Fault::NoGroup(ByteView::copy_of(alloc, b"")?);
-    check_fault(&rt, alloc, &empty, "404 Not Found", "16", "no such group: ")?;
+    assert!(rt; has_replies(alloc, empty, status, b"16", b"no such group: \n"));
     Ok(())
 }
 
 #[test]
-fn replies_to_other_methods(rt: HostRuntime) -> Result<(), Fail> {
+fn replies_to_other_methods(rt: HostRuntime) {
     let alloc = rt.alloc();
-    assert_eq!(rt;
-        fault_text(alloc, &Fault::Method, false, false)?.as_slice(),
-        b"HTTP/1.1 405 Method Not Allowed\r\nAllow: GET, HEAD\r\nContent-Length: 0\r\n\r\n".as_slice()
-    );
-    assert_eq!(rt;
-        fault_text(alloc, &Fault::Method, true, false)?.as_slice(),
-        b"HTTP/1.1 405 Method Not Allowed\r\nAllow: GET, HEAD\r\nContent-Length: 0\r\nConnection: close\r\n\r\n".as_slice()
-    );
-    Ok(())
+    let head = b"HTTP/1.1 405 Method Not Allowed\r\nAllow: GET, HEAD\r\nContent-Length: 0";
+    assert!(rt; replies(alloc, &Fault::Method, false, &[head, OPEN], b""));
+    assert!(rt; replies(alloc, &Fault::Method, true, &[head, CLOSING], b""));
+}
+
+// Whether a body is read back as this value.
+fn reads(body: &[u8], value: &[u8]) -> bool {
+    match read_response(body) {
+        Ok(found) => found == value,
+        Err(_) => false,
+    }
+}
+
+// Whether bytes are no body, for this fault.
+fn is_refused(body: &[u8], fault: PbFault) -> bool {
+    match read_response(body) {
+        Ok(_) => false,
+        Err(found) => found == fault,
+    }
 }
 
 #[test]
 fn reads_bodies_back(rt: HostRuntime) {
-    assert_eq!(rt; read_response(b"\x0A\x01k"), Ok(b"k".as_slice()));
-    assert_eq!(rt; read_response(b"\x0A\x00"), Ok(b"".as_slice()));
-    assert_eq!(rt; read_response(b""), Err(PbFault::Truncated));
-    assert_eq!(rt; read_response(b"\x0A"), Err(PbFault::Truncated));
-    assert_eq!(rt; read_response(b"\x0A\x80"), Err(PbFault::Truncated));
-    assert_eq!(rt; read_response(b"\x0A\x02k"), Err(PbFault::Truncated));
-    assert_eq!(rt; read_response(b"\x0A\x80\x80\x40"), Err(PbFault::Truncated));
-    assert_eq!(rt; read_response(b"\x12\x00"), Err(PbFault::Tag));
-    assert_eq!(rt; read_response(b"\x0A\x80\x00"), Err(PbFault::Varint));
-    assert_eq!(rt; read_response(b"\x0A\x81\x80\x40"), Err(PbFault::Varint));
-    assert_eq!(rt; read_response(b"\x0A\x80\x80\x80"), Err(PbFault::Varint));
-    assert_eq!(rt; read_response(b"\x0A\x01k\x00"), Err(PbFault::Extra));
+    assert!(rt; reads(b"\x0A\x01k", b"k"));
+    assert!(rt; reads(b"\x0A\x00", b""));
+}
+
+#[test]
+fn refuses_what_is_no_body(rt: HostRuntime) {
+    for body in [
+        b"".as_slice(),
+        b"\x0A",
+        b"\x0A\x80",
+        b"\x0A\x02k",
+        b"\x0A\x80\x80\x40",
+    ] {
+        assert!(rt; is_refused(body, PbFault::Truncated));
+    }
+    for body in [
+        b"\x0A\x80\x00".as_slice(),
+        b"\x0A\x81\x80\x40",
+        b"\x0A\x80\x80\x80",
+    ] {
+        assert!(rt; is_refused(body, PbFault::Varint));
+    }
+    assert!(rt; is_refused(b"\x12\x00", PbFault::Tag));
+    assert!(rt; is_refused(b"\x0A\x01k\x00", PbFault::Extra));
 }

@@ -1,6 +1,8 @@
 //! The peer server on a socket.
-ghost use Rattle.std.specs.Prelude.{◌≡◌, ◌+◌, ◌↔◌, IfOk, IsErrOf};
+ghost use Rattle.std.specs.Prelude.{◌≡◌, ◌+◌, ◌↔◌, All, IfOk, IfSome, IsErrOf};
 ghost use Rattle.peer_fill.specs.Opens.{IsOutside, IsWithin};
+ghost use Rattle.peer_fill.specs.Pools.{IsConnSeatOf, IsFillSeatOf};
+ghost use Rattle.peer_fill.specs.Seats.{HaveAllConns, HaveAllFills};
 
 use crate::acceptor::Acceptor;
 use crate::limits::Limits;
@@ -45,6 +47,37 @@ pub struct Settings {
     pub limits: Limits,
 }
 
+// Serves over a pool that was opened, and closes it. None where memory or a thread was refused.
+fn serve_opened<S: Source, L: Ledger + Send + Sync, H: Threads + Wait + Clock + Sync>(
+    rt: &H,
+    alloc: Global,
+    opened: Opened<S, L>,
+    listener: &TcpListener,
+    settings: &Settings,
+) -> Option<Report>
+    requires fills { All (IsFillSeatOf opened.pool) opened.fills.items }
+    requires conns { All (IsConnSeatOf opened.pool) opened.conns.items }
+    requires all_fills { HaveAllFills opened.fills.items }
+    requires all_conns { HaveAllConns opened.conns.items }
+    ensures each_ask { IfSome result (λ report. report.asked ≡ report.hits + report.led + report.joined) }
+    ensures each_flight { IfSome result (λ report. report.led ≡ report.calls + report.rehits + report.left) }
+{
+    let Opened { pool, fills, conns } = opened;
+    let acceptor = Acceptor::new(
+        listener,
+        &settings.limits,
+        settings.conns as u64,
+        settings.rounds,
+    );
+    let Some(Seats { fills, conns }) = use_seats(rt, alloc, &pool, fills, conns, &acceptor) else {
+        return None;
+    };
+    match pool.close(rt, fills, conns) {
+        Ok(report) => Some(report),
+        Err(_) => unreachable!(),
+    }
+}
+
 // Opens a pool, serves, and closes it.
 fn over_pool<S: Source, L: Ledger + Send + Sync, H: Threads + Wait + Clock + Sync>(
     rt: &H,
@@ -76,19 +109,9 @@ fn over_pool<S: Source, L: Ledger + Send + Sync, H: Threads + Wait + Clock + Syn
         Ok(opened) => opened,
         Err(fault) => return Err(ServerFault::Open(fault)),
     };
-    let Opened { pool, fills, conns } = opened;
-    let acceptor = Acceptor::new(
-        listener,
-        &settings.limits,
-        settings.conns as u64,
-        settings.rounds,
-    );
-    let Some(Seats { fills, conns }) = use_seats(rt, alloc, &pool, fills, conns, &acceptor) else {
-        return Err(ServerFault::Memory);
-    };
-    match pool.close(rt, fills, conns) {
-        Ok(report) => Ok(report),
-        Err(_) => unreachable!(),
+    match serve_opened(rt, alloc, opened, listener, settings) {
+        Some(report) => Ok(report),
+        None => Err(ServerFault::Memory),
     }
 }
 

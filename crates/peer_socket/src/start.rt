@@ -3,7 +3,7 @@
 use std::sync::{Condvar, Mutex, Wait};
 
 // Whether the threads serve.
-#[derive(Clone, Copy, Debug, PartialEq, Eq)]
+#[derive(Clone, Copy, PartialEq, Eq)]
 enum State {
     Pending,
     Begun,

@@ -3,11 +3,10 @@ ghost use Rattle.peer_source.specs.Demo.{DemoAnswers, demo_number, demo_answered
 ghost use Rattle.peer_source.specs.DemoLaws.{demo_limited};
 
 use crate::{DemoSource, Fill, GetFault, GroupId, Names, Outcome, Source};
+use bytes::Bytes;
 use peer_view::{AllocSink, ByteView};
-use std::alloc::Global;
-use std::process::Abort;
+use std::alloc::{AllocError, Global};
 use std::sync::atomic::{AtomicU64, Ordering};
-use std::test::Fail;
 
 mod caches;
 
@@ -60,136 +59,139 @@ impl Source for Counting {
     ghost numbered = { λ s name i e. demo_numbered name i e };
 }
 
+// A view of these bytes, for which no memory can be refused.
+fn view_of(bytes: &'static [u8]) -> ByteView {
+    ByteView::from_shared(Bytes::from_static(bytes))
+}
+
 // A fill of the source for demonstrations.
-fn fill(alloc: Global, group: GroupId, key: &[u8]) -> Result<Fill<DemoSource>, Fail> {
-    let key = ByteView::copy_of(alloc, key)?;
-    Ok(Fill::run(alloc, &DemoSource, group, key))
+fn fill(alloc: Global, group: GroupId, key: &'static [u8]) -> Fill<DemoSource> {
+    Fill::run(alloc, &DemoSource, group, view_of(key))
 }
 
-// Checks that the fill found this value.
-fn has_found(rt: &impl Abort, fill: &Fill<DemoSource>, value: &[u8]) {
+// Whether the fill found this value.
+fn has_found(fill: &Fill<DemoSource>, value: &[u8]) -> bool {
     match fill.outcome() {
-        Outcome::Found(found) => assert_eq!(rt; found.as_slice(), value),
-        _ => assert!(rt; false, "nothing was found"),
+        Outcome::Found(found) => found.eq_bytes(value),
+        _ => false,
     }
 }
 
-// Checks that the fill failed with this text.
-fn has_failed(rt: &impl Abort, fill: &Fill<DemoSource>, text: &[u8]) {
+// Whether the fill failed with this text.
+fn has_failed(fill: &Fill<DemoSource>, text: &[u8]) -> bool {
     match fill.outcome() {
-        Outcome::Failed(failed) => assert_eq!(rt; failed.as_slice(), text),
-        _ => assert!(rt; false, "it did not fail"),
+        Outcome::Failed(failed) => failed.eq_bytes(text),
+        _ => false,
     }
 }
 
-// So many letters `x`.
-fn letters(alloc: Global, count: usize) -> Result<Vec<u8>, Fail> {
-    let mut letters = Vec::new(alloc);
-    letters.resize(count, b'x')?;
-    Ok(letters)
+// Whether the group finds this value for the key.
+fn finds(alloc: Global, group: GroupId, key: &'static [u8], value: &[u8]) -> bool {
+    has_found(&fill(alloc, group, key), value)
+}
+
+// Whether the group fails with this text for the key.
+fn fails(alloc: Global, group: GroupId, key: &'static [u8], text: &[u8]) -> bool {
+    has_failed(&fill(alloc, group, key), text)
+}
+
+// Whether the fill is of `echo` and the key `k`.
+fn is_asked(fill: &Fill<DemoSource>) -> bool {
+    fill.group() == ECHO && fill.key().eq_bytes(b"k")
 }
 
 #[test]
-fn echo_finds_the_key(rt: HostRuntime) -> Result<(), Fail> {
-    let fill = fill(rt.alloc(), ECHO, b"k")?;
-    assert_eq!(rt; fill.group(), ECHO);
-    assert_eq!(rt; fill.key().as_slice(), b"k".as_slice());
-    has_found(&rt, &fill, b"k");
+fn echo_finds_the_key(rt: HostRuntime) {
+    let fill = fill(rt.alloc(), ECHO, b"k");
+    assert!(rt; is_asked(&fill) && has_found(&fill, b"k"));
+}
+
+#[test]
+fn square_finds_the_square(rt: HostRuntime) {
+    let alloc = rt.alloc();
+    assert!(rt; finds(alloc, SQUARE, b"12", b"144"));
+    assert!(rt; finds(alloc, SQUARE, b"007", b"49"));
+    assert!(rt; finds(alloc, SQUARE, b"0", b"0"));
+    assert!(rt; finds(alloc, SQUARE, b"999999999", b"999999998000000001"));
+}
+
+#[test]
+fn square_takes_digits_alone(rt: HostRuntime) {
+    for key in [b"x".as_slice(), b"+7", b"", b"1234567890"] {
+        assert!(rt; fails(rt.alloc(), SQUARE, key, b"not a number"));
+    }
+}
+
+// Whether these are so many letters `x`.
+fn are_letters(bytes: &[u8], count: usize) -> bool {
+    let mut all = bytes.len() == count;
+    for byte in bytes {
+        all &= *byte == b'x';
+    }
+    all
+}
+
+// Whether `fill` finds so many letters `x` for the key.
+fn finds_letters(alloc: Global, key: &'static [u8], count: usize) -> bool {
+    match fill(alloc, FILL, key).outcome() {
+        Outcome::Found(found) => are_letters(found.as_slice(), count),
+        _ => false,
+    }
+}
+
+#[test]
+fn fill_finds_letters_up_to_the_limit(rt: HostRuntime) {
+    let alloc = rt.alloc();
+    assert!(rt; finds_letters(alloc, b"0", 0));
+    assert!(rt; finds_letters(alloc, b"128", 128));
+    assert!(rt; finds_letters(alloc, b"1048576", 1_048_576));
+    assert!(rt; fails(alloc, FILL, b"1048577", b"value too long"));
+    assert!(rt; fails(alloc, FILL, b"2000000", b"value too long"));
+}
+
+#[test]
+fn fill_takes_sizes_alone(rt: HostRuntime) {
+    for key in [b"2000001".as_slice(), b"+7", b""] {
+        assert!(rt; fails(rt.alloc(), FILL, key, b"not a size"));
+    }
+}
+
+#[test]
+fn another_number_is_no_group(rt: HostRuntime) {
+    assert!(rt; fails(rt.alloc(), GroupId { number: 3 }, b"k", b"no group"));
+}
+
+#[test]
+fn a_shared_fill_is_equal(rt: HostRuntime) -> Result<(), AllocError> {
+    let shared = fill(rt.alloc(), ECHO, b"k").share()?;
+    assert!(rt; is_asked(&shared) && has_found(&shared, b"k"));
     Ok(())
 }
 
 #[test]
-fn square_finds_the_square(rt: HostRuntime) -> Result<(), Fail> {
-    has_found(&rt, &fill(rt.alloc(), SQUARE, b"12")?, b"144");
-    has_found(&rt, &fill(rt.alloc(), SQUARE, b"007")?, b"49");
-    has_found(&rt, &fill(rt.alloc(), SQUARE, b"0")?, b"0");
-    has_found(
-        &rt,
-        &fill(rt.alloc(), SQUARE, b"999999999")?,
-        b"999999998000000001",
-    );
-    Ok(())
-}
-
-#[test]
-fn square_takes_digits_alone(rt: HostRuntime) -> Result<(), Fail> {
-    has_failed(&rt, &fill(rt.alloc(), SQUARE, b"x")?, b"not a number");
-    has_failed(&rt, &fill(rt.alloc(), SQUARE, b"+7")?, b"not a number");
-    has_failed(&rt, &fill(rt.alloc(), SQUARE, b"")?, b"not a number");
-    has_failed(
-        &rt,
-        &fill(rt.alloc(), SQUARE, b"1234567890")?,
-        b"not a number",
-    );
-    Ok(())
-}
-
-#[test]
-fn fill_finds_letters_up_to_the_limit(rt: HostRuntime) -> Result<(), Fail> {
-    has_found(&rt, &fill(rt.alloc(), FILL, b"0")?, b"");
-    has_found(
-        &rt,
-        &fill(rt.alloc(), FILL, b"128")?,
-        &letters(rt.alloc(), 128)?,
-    );
-    has_found(
-        &rt,
-        &fill(rt.alloc(), FILL, b"1048576")?,
-        &letters(rt.alloc(), 1_048_576)?,
-    );
-    has_failed(&rt, &fill(rt.alloc(), FILL, b"1048577")?, b"value too long");
-    has_failed(&rt, &fill(rt.alloc(), FILL, b"2000000")?, b"value too long");
-    Ok(())
-}
-
-#[test]
-fn fill_takes_sizes_alone(rt: HostRuntime) -> Result<(), Fail> {
-    has_failed(&rt, &fill(rt.alloc(), FILL, b"2000001")?, b"not a size");
-    has_failed(&rt, &fill(rt.alloc(), FILL, b"+7")?, b"not a size");
-    has_failed(&rt, &fill(rt.alloc(), FILL, b"")?, b"not a size");
-    Ok(())
-}
-
-#[test]
-fn another_number_is_no_group(rt: HostRuntime) -> Result<(), Fail> {
-    has_failed(
-        &rt,
-        &fill(rt.alloc(), GroupId { number: 3 }, b"k")?,
-        b"no group",
-    );
-    Ok(())
-}
-
-#[test]
-fn a_shared_fill_is_equal(rt: HostRuntime) -> Result<(), Fail> {
-    let shared = fill(rt.alloc(), ECHO, b"k")?.share()?;
-    assert_eq!(rt; shared.group(), ECHO);
-    assert_eq!(rt; shared.key().as_slice(), b"k".as_slice());
-    has_found(&rt, &shared, b"k");
-    let shared = fill(rt.alloc(), SQUARE, b"x")?.share()?;
-    has_failed(&rt, &shared, b"not a number");
+fn a_shared_failure_is_equal(rt: HostRuntime) -> Result<(), AllocError> {
+    let shared = fill(rt.alloc(), SQUARE, b"x").share()?;
+    assert!(rt; has_failed(&shared, b"not a number"));
     Ok(())
 }
 
 #[test]
 fn names_tell_the_groups(rt: HostRuntime) {
     let names = Names::of(&DemoSource);
-    assert_eq!(rt; names.group(b"echo"), Some(ECHO));
-    assert_eq!(rt; names.group(b"square"), Some(SQUARE));
-    assert_eq!(rt; names.group(b"fill"), Some(FILL));
-    assert_eq!(rt; names.group(b"nope"), None);
+    assert!(rt; names.group(b"echo") == Some(ECHO));
+    assert!(rt; names.group(b"square") == Some(SQUARE));
+    assert!(rt; names.group(b"fill") == Some(FILL));
+    assert!(rt; names.group(b"nope").is_none());
     assert_eq!(rt; DemoSource.group_count(), 3);
 }
 
 #[test]
-fn a_fill_calls_the_source_once(rt: HostRuntime) -> Result<(), Fail> {
+fn a_fill_calls_the_source_once(rt: HostRuntime) {
     let source = Counting {
         calls: AtomicU64::new(0),
     };
-    let key = ByteView::copy_of(rt.alloc(), b"k")?;
-    let fill = Fill::run(rt.alloc(), &source, ECHO, key);
+    let fill = Fill::run(rt.alloc(), &source, ECHO, view_of(b"k"));
     assert_eq!(rt; source.calls.load(Ordering::SeqCst), 1);
-    let _ = fill.share()?;
+    assert!(rt; fill.share().is_ok());
     assert_eq!(rt; source.calls.load(Ordering::SeqCst), 1);
-    Ok(())
 }

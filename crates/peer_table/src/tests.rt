@@ -6,31 +6,47 @@ mod generated;
 use crate::{TableFault, TableSource};
 use peer_source::{Fill, Names, Outcome, Source};
 use peer_view::{ByteView, MemReader};
-use std::alloc::Global;
-use std::process::Abort;
-use std::test::Fail;
+use std::alloc::{AllocError, Global};
 
 // Reads a table from pieces.
 fn read(
     alloc: Global,
     pieces: &[&[u8]],
     fails: bool,
-    reads: u64,
-) -> Result<Result<TableSource, TableFault>, Fail> {
+    reads: u32,
+) -> Result<Result<TableSource, TableFault>, AllocError> {
     let mut owned = Vec::new(alloc);
     for piece in pieces {
         owned.push(piece.to_vec(alloc)?)?;
     }
     let mut reader = MemReader::new(owned, fails);
-    if reads > 1_000_000 {
-        return Err(Fail::new("too many reads"));
+    Ok(TableSource::read_from(alloc, &mut reader, u64::from(reads)))
+}
+
+// The table of a text in pieces, none where it has a fault or memory was refused.
+fn table_of(alloc: Global, pieces: &[&[u8]]) -> Option<TableSource> {
+    match read(alloc, pieces, false, 1000) {
+        Ok(Ok(table)) => Some(table),
+        _ => None,
     }
-    Ok(TableSource::read_from(alloc, &mut reader, reads))
+}
+
+// The fault of a text in pieces.
+fn fault_in(
+    alloc: Global,
+    pieces: &[&[u8]],
+    fails: bool,
+    reads: u32,
+) -> Result<Option<TableFault>, AllocError> {
+    match read(alloc, pieces, fails, reads)? {
+        Ok(_) => Ok(None),
+        Err(fault) => Ok(Some(fault)),
+    }
 }
 
 // The fault of a text that comes in one piece.
-fn fault_of(alloc: Global, text: &[u8]) -> Result<Option<TableFault>, Fail> {
-    Ok(read(alloc, &[text], false, 1000)?.err())
+fn fault_of(alloc: Global, text: &[u8]) -> Result<Option<TableFault>, AllocError> {
+    fault_in(alloc, &[text], false, 1000)
 }
 
 // The fault of a text that comes byte by byte.
@@ -39,158 +55,153 @@ fn fault_of_bytes(
     text: &[u8],
     fails: bool,
     reads: u32,
-) -> Result<Option<TableFault>, Fail> {
+) -> Result<Option<TableFault>, AllocError> {
     let mut pieces = Vec::new(alloc);
     for byte in text.chunks(1) {
-        pieces.push(byte.to_vec(alloc)?)?;
+        pieces.push(byte)?;
     }
-    let mut reader = MemReader::new(pieces, fails);
-    Ok(TableSource::read_from(alloc, &mut reader, u64::from(reads)).err())
+    fault_in(alloc, &pieces, fails, reads)
 }
 
 // Whether a text has this fault, in one piece and byte by byte.
-fn fails(alloc: Global, text: &[u8], fault: TableFault) -> Result<bool, Fail> {
+fn fails(alloc: Global, text: &[u8], fault: TableFault) -> Result<bool, AllocError> {
     let one = fault_of(alloc, text)?;
     let cut = fault_of_bytes(alloc, text, false, 2_000_000)?;
     Ok(one == Some(fault) && cut == Some(fault))
 }
 
+// Whether a fill found this, or failed with it.
+fn is_answer(fill: &Fill<TableSource>, want: &[u8], found: bool) -> bool {
+    match fill.outcome() {
+        Outcome::Found(value) => found && value.eq_bytes(want),
+        Outcome::Failed(text) => !found && text.eq_bytes(want),
+        Outcome::NoMemory => false,
+    }
+}
+
 // Whether a name and key have this answer.
 fn has(
-    rt: &impl Abort,
     alloc: Global,
     table: &TableSource,
     name: &[u8],
     key: &[u8],
     want: &[u8],
     found: bool,
-) -> Result<(), Fail> {
+) -> bool {
     let Some(group) = Names::of(table).group(name) else {
-        return Err(Fail::new("no such group"));
+        return false;
     };
-    let fill = Fill::run(alloc, table, group, ByteView::copy_of(alloc, key)?);
-    let same = match fill.outcome() {
-        Outcome::Found(value) => found && value.eq_bytes(want),
-        Outcome::Failed(text) => !found && text.eq_bytes(want),
-        Outcome::NoMemory => false,
-    };
-    assert!(rt; same);
-    Ok(())
+    match ByteView::copy_of(alloc, key) {
+        Ok(key) => is_answer(&Fill::run(alloc, table, group, key), want, found),
+        Err(_) => false,
+    }
 }
 
 #[test]
-fn answers_by_its_lines(rt: HostRuntime) -> Result<(), Fail> {
+fn answers_by_its_lines(rt: HostRuntime) {
     let alloc = rt.alloc();
-    let table = match read(
-        alloc,
-        &[b"a\tk\to", b"ne\na\tj\t\nb", b"\tk\ttwo\n"],
-        false,
-        1000,
-    )? {
-        Ok(table) => table,
-        Err(_) => return Err(Fail::new("no table")),
-    };
+    let pieces = [b"a\tk\to".as_slice(), b"ne\na\tj\t\nb", b"\tk\ttwo\n"];
+    let table = table_of(alloc, &pieces).expect(&rt, "a table");
     assert_eq!(rt; table.group_count(), 2);
-    has(&rt, alloc, &table, b"a", b"k", b"one", true)?;
-    has(&rt, alloc, &table, b"a", b"j", b"", true)?;
-    has(&rt, alloc, &table, b"b", b"k", b"two", true)?;
-    has(&rt, alloc, &table, b"b", b"j", b"no such key", false)?;
+    assert!(rt; has(alloc, &table, b"a", b"k", b"one", true));
+    assert!(rt; has(alloc, &table, b"a", b"j", b"", true));
+    assert!(rt; has(alloc, &table, b"b", b"k", b"two", true));
+    assert!(rt; has(alloc, &table, b"b", b"j", b"no such key", false));
     assert!(rt; Names::of(&table).group(b"c").is_none());
-    Ok(())
 }
 
 #[test]
-fn refuses_bad_lines(rt: HostRuntime) -> Result<(), Fail> {
+fn refuses_bad_lines(rt: HostRuntime) -> Result<(), AllocError> {
     let alloc = rt.alloc();
-    assert!(rt; fails(alloc, b"", TableFault::Line(1))?);
-    assert!(rt; fails(alloc, b"a\tk\n", TableFault::Line(1))?);
-    assert!(rt; fails(alloc, b"a\tk\tv", TableFault::Line(1))?);
+    for text in [b"".as_slice(), b"a\tk\n", b"a\tk\tv", b"a\tk\tv\tw\n"] {
+        assert!(rt; fails(alloc, text, TableFault::Line(1))?);
+    }
     assert!(rt; fails(alloc, b"a\tk\tv\n\n", TableFault::Line(2))?);
     assert!(rt; fails(alloc, b"a\tk\tv\na\tk\tw\n", TableFault::Repeated(2))?);
-    assert!(rt; fails(alloc, b"a\tk\tv\tw\n", TableFault::Line(1))?);
     Ok(())
 }
 
 #[test]
-fn takes_fields_that_are_empty_or_any_bytes(rt: HostRuntime) -> Result<(), Fail> {
+fn takes_fields_that_are_empty_or_any_bytes(rt: HostRuntime) {
     let alloc = rt.alloc();
-    let Ok(table) = read(alloc, &[b"\t\t\n\xFF\r\t\x00\xFE\tv\r\n"], false, 1000)? else {
-        return Err(Fail::new("no table"));
-    };
-    has(&rt, alloc, &table, b"", b"", b"", true)?;
-    has(&rt, alloc, &table, b"\xFF\r", b"\x00\xFE", b"v\r", true)
+    let table = table_of(alloc, &[b"\t\t\n\xFF\r\t\x00\xFE\tv\r\n"]).expect(&rt, "a table");
+    assert!(rt; has(alloc, &table, b"", b"", b"", true));
+    assert!(rt; has(alloc, &table, b"\xFF\r", b"\x00\xFE", b"v\r", true));
 }
 
 #[test]
-fn tells_how_reading_failed(rt: HostRuntime) -> Result<(), Fail> {
+fn tells_how_reading_failed(rt: HostRuntime) -> Result<(), AllocError> {
     let alloc = rt.alloc();
-    let spent = read(alloc, &[b"a\tk\tv\n"], false, 0)?.err();
-    assert_eq!(rt; spent, Some(TableFault::Spent));
-    let spent = read(alloc, &[b"a\tk\tv\n"], false, 1)?.err();
-    assert_eq!(rt; spent, Some(TableFault::Spent));
-    let failed = read(alloc, &[b"a\tk\tv\n"], true, 10)?.err();
-    assert_eq!(rt; failed, Some(TableFault::ReadFault));
+    let text = [b"a\tk\tv\n".as_slice()];
+    assert!(rt; fault_in(alloc, &text, false, 0)? == Some(TableFault::Spent));
+    assert!(rt; fault_in(alloc, &text, false, 1)? == Some(TableFault::Spent));
+    assert!(rt; fault_in(alloc, &text, true, 10)? == Some(TableFault::ReadFault));
     Ok(())
 }
 
 #[test]
-fn tells_how_reading_byte_by_byte_failed(rt: HostRuntime) -> Result<(), Fail> {
+fn tells_how_reading_byte_by_byte_failed(rt: HostRuntime) -> Result<(), AllocError> {
     let alloc = rt.alloc();
     let text = b"a\tk\tv\n";
-    let spent = fault_of_bytes(alloc, text, false, 6)?;
-    assert_eq!(rt; spent, Some(TableFault::Spent));
-    let whole = fault_of_bytes(alloc, text, false, 7)?;
-    assert_eq!(rt; whole, None);
-    let failed = fault_of_bytes(alloc, text, true, 7)?;
-    assert_eq!(rt; failed, Some(TableFault::ReadFault));
+    assert!(rt; fault_of_bytes(alloc, text, false, 6)? == Some(TableFault::Spent));
+    assert!(rt; fault_of_bytes(alloc, text, false, 7)?.is_none());
+    assert!(rt; fault_of_bytes(alloc, text, true, 7)? == Some(TableFault::ReadFault));
     Ok(())
 }
 
 // A text of lines with so many groups of one byte.
-fn groups(alloc: Global, count: u8) -> Result<Vec<u8>, Fail> {
+fn groups(alloc: Global, count: u8) -> Result<Vec<u8>, AllocError> {
     let mut text = Vec::new(alloc);
     for number in 0..count {
-        text.push(100u8.wrapping_add(number))?;
-        text.extend_from_slice(b"\tk\tv\n")?;
+        text.extend_from_slice(&[100u8.wrapping_add(number), b'\t', b'k', b'\t', b'v', b'\n'])?;
     }
     Ok(text)
 }
 
 #[test]
-fn takes_sixty_four_groups(rt: HostRuntime) -> Result<(), Fail> {
-    let alloc = rt.alloc();
-    assert_eq!(rt; fault_of(alloc, &groups(alloc, 64)?)?, None);
-    assert!(rt; fails(alloc, &groups(alloc, 65)?, TableFault::Groups(65))?);
+fn takes_sixty_four_groups(rt: HostRuntime) -> Result<(), AllocError> {
+    let text = groups(rt.alloc(), 64)?;
+    assert!(rt; fault_of(rt.alloc(), &text)?.is_none());
+    Ok(())
+}
+
+#[test]
+fn refuses_sixty_five_groups(rt: HostRuntime) -> Result<(), AllocError> {
+    let text = groups(rt.alloc(), 65)?;
+    assert!(rt; fails(rt.alloc(), &text, TableFault::Groups(65))?);
     Ok(())
 }
 
 // A text of one line with a value of so many bytes.
-fn line_with(alloc: Global, count: usize) -> Result<Vec<u8>, Fail> {
-    let mut text = b"a\tk\t".to_vec(alloc)?;
-    for _ in 0..count {
-        text.push(b'x')?;
-    }
-    text.push(b'\n')?;
-    Ok(text)
+fn line_with(alloc: Global, count: usize) -> Result<Vec<u8>, AllocError> {
+    let mut line = b"a\tk\t".to_vec(alloc)?;
+    line.resize(count.saturating_add(4), b'x')?;
+    line.push(b'\n')?;
+    Ok(line)
 }
 
 #[test]
-fn takes_values_up_to_the_limit(rt: HostRuntime) -> Result<(), Fail> {
-    let alloc = rt.alloc();
-    assert_eq!(rt; fault_of(alloc, &line_with(alloc, 1_048_576)?)?, None);
-    assert!(rt; fails(alloc, &line_with(alloc, 1_048_577)?, TableFault::Value(1))?);
+fn takes_a_value_at_the_limit(rt: HostRuntime) -> Result<(), AllocError> {
+    let text = line_with(rt.alloc(), 1_048_576)?;
+    assert!(rt; fault_of(rt.alloc(), &text)?.is_none());
     Ok(())
 }
 
 #[test]
-fn refuses_too_many_bytes(rt: HostRuntime) -> Result<(), Fail> {
+fn refuses_a_value_over_the_limit(rt: HostRuntime) -> Result<(), AllocError> {
+    let text = line_with(rt.alloc(), 1_048_577)?;
+    assert!(rt; fails(rt.alloc(), &text, TableFault::Value(1))?);
+    Ok(())
+}
+
+#[test]
+fn refuses_too_many_bytes(rt: HostRuntime) -> Result<(), AllocError> {
     let alloc = rt.alloc();
     let mut text = Vec::new(alloc);
-    text.resize(16_777_216, b'x')?;
-    assert_eq!(rt; fault_of(alloc, &text)?, Some(TableFault::Line(1)));
-    let last = read(alloc, &[text.as_slice(), b"x".as_slice()], false, 1000)?.err();
-    assert_eq!(rt; last, Some(TableFault::TooLarge));
-    text.push(b'x')?;
-    assert_eq!(rt; fault_of(alloc, &text)?, Some(TableFault::TooLarge));
+    text.resize(16_777_217, b'x')?;
+    let (most, more) = text.split_at(16_777_216);
+    assert!(rt; fault_of(alloc, most)? == Some(TableFault::Line(1)));
+    assert!(rt; fault_in(alloc, &[most, more], false, 1000)? == Some(TableFault::TooLarge));
+    assert!(rt; fault_of(alloc, &text)? == Some(TableFault::TooLarge));
     Ok(())
 }

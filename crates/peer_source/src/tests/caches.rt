@@ -1,6 +1,6 @@
 //! Tests of caches: what stays and what goes, and a list that does the same.
-use super::{ECHO, FILL, SQUARE, fill};
-use crate::{DemoSource, Fill, GroupId, MainCache, Outcome};
+use super::{ECHO, FILL, SQUARE, fill, has_found, view_of};
+use crate::{DemoSource, Fill, GroupId, MainCache};
 use peer_view::ByteView;
 use std::alloc::Global;
 use std::hash::RandomState;
@@ -18,145 +18,154 @@ impl RandomSource for Zeros {
     }
 }
 
-// Adds a fill, and lets go what leaves the cache.
-fn keep(
-    alloc: Global,
-    cache: &mut MainCache<DemoSource>,
-    fill: Fill<DemoSource>,
-) -> Result<(), Fail> {
-    cache.add(&fill, &mut Vec::new(alloc))?;
-    Ok(())
+// A cache without an entry.
+fn cache_of(alloc: Global, group: GroupId, limit: u64) -> Result<MainCache<DemoSource>, Fail> {
+    Ok(MainCache::new(alloc, group, limit, RandomState::new(&Zeros)?)?)
 }
 
-// Adds the fills of `echo` for keys of one byte.
-fn add_letters(
+// Whether a fill was added. What leaves the cache is let go.
+fn keeps(alloc: Global, cache: &mut MainCache<DemoSource>, fill: &Fill<DemoSource>) -> bool {
+    cache.add(fill, &mut Vec::new(alloc)).is_ok()
+}
+
+// Whether the fill of this key was added.
+fn adds(
     alloc: Global,
     cache: &mut MainCache<DemoSource>,
-    letters: &[u8],
-) -> Result<(), Fail> {
-    for letter in letters {
-        keep(alloc, cache, fill(alloc, ECHO, &[*letter])?)?;
+    group: GroupId,
+    key: &'static [u8],
+) -> bool {
+    keeps(alloc, cache, &fill(alloc, group, key))
+}
+
+// Whether the fills of `echo` for keys of one byte were added.
+fn adds_letters(alloc: Global, cache: &mut MainCache<DemoSource>, letters: &'static [u8]) -> bool {
+    let mut all = true;
+    for letter in letters.chunks(1) {
+        all &= adds(alloc, cache, ECHO, letter);
     }
-    Ok(())
-}
-
-// A cache of `echo` with this limit, to which these letters were added.
-fn letters_in(alloc: Global, limit: u64, letters: &[u8]) -> Result<MainCache<DemoSource>, Fail> {
-    let mut cache = MainCache::new(alloc, ECHO, limit, RandomState::new(&Zeros)?)?;
-    add_letters(alloc, &mut cache, letters)?;
-    Ok(cache)
+    all
 }
 
 // Whether a get finds this value for the key.
-fn finds(
-    alloc: Global,
-    cache: &mut MainCache<DemoSource>,
-    key: &[u8],
-    value: &[u8],
-) -> Result<bool, Fail> {
-    let key_view = ByteView::copy_of(alloc, key)?;
-    let Some(fill) = cache.get(&key_view)? else {
-        return Ok(false);
-    };
-    let Outcome::Found(found) = fill.outcome() else {
-        return Ok(false);
-    };
-    Ok(fill.key().eq_bytes(key) && found.eq_bytes(value))
+fn finds(cache: &mut MainCache<DemoSource>, key: &'static [u8], value: &[u8]) -> bool {
+    match cache.get(&view_of(key)) {
+        Ok(Some(fill)) => fill.key().eq_bytes(key) && has_found(&fill, value),
+        _ => false,
+    }
 }
 
 // Whether the key is not there.
-fn lacks(alloc: Global, cache: &mut MainCache<DemoSource>, key: &[u8]) -> Result<bool, Fail> {
-    let key = ByteView::copy_of(alloc, key)?;
-    Ok(cache.get(&key)?.is_none())
+fn lacks(cache: &mut MainCache<DemoSource>, key: &ByteView) -> bool {
+    match cache.get(key) {
+        Ok(None) => true,
+        _ => false,
+    }
+}
+
+// Whether there are so many entries, of so many bytes.
+fn has(cache: &MainCache<DemoSource>, entries: usize, bytes: u64) -> bool {
+    cache.len() == entries && cache.bytes() == bytes
 }
 
 #[test]
 fn the_last_used_stay(rt: HostRuntime) -> Result<(), Fail> {
-    let mut cache = letters_in(rt.alloc(), 4, b"abc")?;
-    assert_eq!(rt; (cache.bytes(), cache.len()), (4, 2));
-    assert!(rt; lacks(rt.alloc(), &mut cache, b"a")?);
-    assert!(rt; finds(rt.alloc(), &mut cache, b"b", b"b")?);
+    let mut cache = cache_of(rt.alloc(), ECHO, 4)?;
+    assert!(rt; adds_letters(rt.alloc(), &mut cache, b"abc"));
+    assert!(rt; has(&cache, 2, 4));
+    assert!(rt; lacks(&mut cache, &view_of(b"a")));
+    assert!(rt; finds(&mut cache, b"b", b"b"));
     Ok(())
 }
 
 #[test]
 fn a_get_changes_which_one_goes(rt: HostRuntime) -> Result<(), Fail> {
-    let mut cache = letters_in(rt.alloc(), 4, b"ab")?;
-    assert!(rt; finds(rt.alloc(), &mut cache, b"a", b"a")?);
-    add_letters(rt.alloc(), &mut cache, b"c")?;
-    assert!(rt; lacks(rt.alloc(), &mut cache, b"b")?);
-    assert!(rt; finds(rt.alloc(), &mut cache, b"a", b"a")?);
+    let mut cache = cache_of(rt.alloc(), ECHO, 4)?;
+    assert!(rt; adds_letters(rt.alloc(), &mut cache, b"ab"));
+    assert!(rt; finds(&mut cache, b"a", b"a"));
+    assert!(rt; adds_letters(rt.alloc(), &mut cache, b"c"));
+    assert!(rt; lacks(&mut cache, &view_of(b"b")));
+    assert!(rt; finds(&mut cache, b"a", b"a"));
     Ok(())
 }
 
 #[test]
 fn at_limit_0_nothing_stays(rt: HostRuntime) -> Result<(), Fail> {
-    let mut cache = letters_in(rt.alloc(), 0, b"a")?;
-    keep(rt.alloc(), &mut cache, fill(rt.alloc(), ECHO, b"")?)?;
-    assert!(rt; cache.is_empty());
-    assert_eq!(rt; cache.bytes(), 0);
+    let mut cache = cache_of(rt.alloc(), ECHO, 0)?;
+    assert!(rt; adds_letters(rt.alloc(), &mut cache, b"a"));
+    assert!(rt; adds(rt.alloc(), &mut cache, ECHO, b""));
+    assert!(rt; has(&cache, 0, 0) && cache.is_empty());
     Ok(())
 }
 
 #[test]
 fn an_entry_over_the_limit_leaves_none(rt: HostRuntime) -> Result<(), Fail> {
-    let mut cache = letters_in(rt.alloc(), 4, b"ab")?;
-    keep(rt.alloc(), &mut cache, fill(rt.alloc(), ECHO, b"abc")?)?;
-    assert_eq!(rt; (cache.bytes(), cache.len()), (0, 0));
-    assert!(rt; lacks(rt.alloc(), &mut cache, b"abc")?);
+    let mut cache = cache_of(rt.alloc(), ECHO, 4)?;
+    assert!(rt; adds_letters(rt.alloc(), &mut cache, b"ab"));
+    assert!(rt; adds(rt.alloc(), &mut cache, ECHO, b"abc"));
+    assert!(rt; has(&cache, 0, 0));
+    assert!(rt; lacks(&mut cache, &view_of(b"abc")));
     Ok(())
 }
 
 #[test]
 fn an_entry_of_the_limit_stays(rt: HostRuntime) -> Result<(), Fail> {
-    let mut cache = letters_in(rt.alloc(), 4, b"a")?;
-    keep(rt.alloc(), &mut cache, fill(rt.alloc(), ECHO, b"de")?)?;
-    assert_eq!(rt; (cache.bytes(), cache.len()), (4, 1));
-    assert!(rt; finds(rt.alloc(), &mut cache, b"de", b"de")?);
+    let mut cache = cache_of(rt.alloc(), ECHO, 4)?;
+    assert!(rt; adds_letters(rt.alloc(), &mut cache, b"a"));
+    assert!(rt; adds(rt.alloc(), &mut cache, ECHO, b"de"));
+    assert!(rt; has(&cache, 1, 4));
+    assert!(rt; finds(&mut cache, b"de", b"de"));
     Ok(())
 }
 
 #[test]
 fn errors_are_not_kept(rt: HostRuntime) -> Result<(), Fail> {
-    let mut cache = MainCache::new(rt.alloc(), SQUARE, 100, RandomState::new(&Zeros)?)?;
-    keep(rt.alloc(), &mut cache, fill(rt.alloc(), SQUARE, b"x")?)?;
+    let mut cache = cache_of(rt.alloc(), SQUARE, 100)?;
+    assert!(rt; adds(rt.alloc(), &mut cache, SQUARE, b"x"));
     assert!(rt; cache.is_empty());
-    keep(rt.alloc(), &mut cache, fill(rt.alloc(), SQUARE, b"12")?)?;
-    assert!(rt; finds(rt.alloc(), &mut cache, b"12", b"144")?);
+    assert!(rt; adds(rt.alloc(), &mut cache, SQUARE, b"12"));
+    assert!(rt; finds(&mut cache, b"12", b"144"));
     Ok(())
 }
 
 #[test]
 fn another_group_is_not_kept(rt: HostRuntime) -> Result<(), Fail> {
-    let mut cache = letters_in(rt.alloc(), 100, b"7")?;
-    keep(rt.alloc(), &mut cache, fill(rt.alloc(), SQUARE, b"7")?)?;
-    assert_eq!(rt; (cache.bytes(), cache.len()), (2, 1));
-    assert!(rt; finds(rt.alloc(), &mut cache, b"7", b"7")?);
+    let mut cache = cache_of(rt.alloc(), ECHO, 100)?;
+    assert!(rt; adds(rt.alloc(), &mut cache, ECHO, b"7"));
+    assert!(rt; adds(rt.alloc(), &mut cache, SQUARE, b"7"));
+    assert!(rt; has(&cache, 1, 2));
+    assert!(rt; finds(&mut cache, b"7", b"7"));
     Ok(())
 }
 
 #[test]
 fn a_key_is_counted_once(rt: HostRuntime) -> Result<(), Fail> {
-    let mut cache = letters_in(rt.alloc(), 4, b"aba")?;
-    assert_eq!(rt; (cache.bytes(), cache.len()), (4, 2));
-    add_letters(rt.alloc(), &mut cache, b"c")?;
-    assert!(rt; lacks(rt.alloc(), &mut cache, b"b")?);
+    let mut cache = cache_of(rt.alloc(), ECHO, 4)?;
+    assert!(rt; adds_letters(rt.alloc(), &mut cache, b"aba"));
+    assert!(rt; has(&cache, 2, 4));
+    assert!(rt; adds_letters(rt.alloc(), &mut cache, b"c"));
+    assert!(rt; lacks(&mut cache, &view_of(b"b")));
     Ok(())
 }
 
 // The bytes of the entries for these digits in a cache of `fill`, where a digit's value is so many bytes.
 fn bytes_for(digits: &[u8]) -> u64 {
-    digits.iter().fold(
-        0,
-        |bytes: u64, digit| bytes.wrapping_add(1 + u64::from(*digit)),
-    )
+    let mut bytes: u64 = 0;
+    for digit in digits {
+        bytes = bytes.wrapping_add(1 + u64::from(*digit));
+    }
+    bytes
 }
 
 // Takes the digit out of the list, and says whether it was there.
 fn take_out(digits: &mut Vec<u8>, digit: u8) -> bool {
-    let before = digits.len();
-    digits.retain(|other| *other != digit);
-    digits.len() < before
+    for index in 0..digits.len() {
+        if digits[index] == digit {
+            digits.remove(index);
+            return true;
+        }
+    }
+    false
 }
 
 // Puts the digit first, and takes the last ones out until their entries fit.
@@ -173,32 +182,38 @@ fn put_first(digits: &mut Vec<u8>, digit: u8, limit: u64) -> Result<(), Fail> {
 
 const LIMIT: u64 = 20;
 
-// Does one step to a cache of `fill` and to a list of digits, and says whether they agree.
-fn step(
+// Whether the cache, to which a fill of `fill` is added, still agrees with the list.
+fn adds_digit(
     alloc: Global,
     cache: &mut MainCache<DemoSource>,
     digits: &mut Vec<u8>,
     digit: u8,
-    add: bool,
 ) -> Result<bool, Fail> {
-    let key = [b'0'.wrapping_add(digit)];
-    let same = if add {
-        keep(alloc, cache, fill(alloc, FILL, &key)?)?;
-        put_first(digits, digit, LIMIT)?;
-        true
-    } else {
-        let there = take_out(digits, digit);
-        if there {
-            digits.insert(0, digit)?;
-        }
-        there != lacks(alloc, cache, &key)?
-    };
-    Ok(same && cache.len() == digits.len() && cache.bytes() == bytes_for(digits))
+    let key = ByteView::copy_of(alloc, &[b'0'.wrapping_add(digit)])?;
+    let added = keeps(alloc, cache, &Fill::run(alloc, &DemoSource, FILL, key));
+    put_first(digits, digit, LIMIT)?;
+    Ok(added && has(cache, digits.len(), bytes_for(digits)))
+}
+
+// Whether the cache finds the digit where the list has it.
+fn gets_digit(
+    alloc: Global,
+    cache: &mut MainCache<DemoSource>,
+    digits: &mut Vec<u8>,
+    digit: u8,
+) -> Result<bool, Fail> {
+    let key = ByteView::copy_of(alloc, &[b'0'.wrapping_add(digit)])?;
+    let is_missing = lacks(cache, &key);
+    let was_there = take_out(digits, digit);
+    if was_there {
+        digits.insert(0, digit)?;
+    }
+    Ok(was_there != is_missing && has(cache, digits.len(), bytes_for(digits)))
 }
 
 // Whether a cache and a list agree for so many steps.
 fn agree_for(alloc: Global, steps: u32) -> Result<bool, Fail> {
-    let mut cache = MainCache::new(alloc, FILL, LIMIT, RandomState::new(&Zeros)?)?;
+    let mut cache = cache_of(alloc, FILL, LIMIT)?;
     let mut digits = Vec::new(alloc);
     let mut drawn: u64 = 1;
     for _ in 0..steps {
@@ -206,8 +221,12 @@ fn agree_for(alloc: Global, steps: u32) -> Result<bool, Fail> {
             .wrapping_mul(6364136223846793005)
             .wrapping_add(1442695040888963407);
         let digit = ((drawn >> 40) % 10) as u8;
-        let add = (drawn >> 60) % 2 == 0;
-        if !step(alloc, &mut cache, &mut digits, digit, add)? {
+        let agree = if (drawn >> 60) % 2 == 0 {
+            adds_digit(alloc, &mut cache, &mut digits, digit)?
+        } else {
+            gets_digit(alloc, &mut cache, &mut digits, digit)?
+        };
+        if !agree {
             return Ok(false);
         }
     }

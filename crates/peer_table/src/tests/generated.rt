@@ -1,10 +1,8 @@
 //! Texts by chance, and a plain model of tables: a list of lines, searched from the front.
-use super::{fault_of, has, read};
+use super::{fault_of, has, table_of};
 use crate::{TableFault, TableSource};
 use peer_source::{Names, Source};
 use std::alloc::{AllocError, Global};
-use std::process::Abort;
-use std::test::Fail;
 
 // What fields are made of, and what stands now and then in the place of a separator.
 const LETTERS: &[u8] = b"ab\r\xFF";
@@ -73,25 +71,37 @@ fn line_of(line: &[u8]) -> Option<Line<'_>> {
     }
 }
 
-// The lines of a text, or the number of its first bad one, and whether it repeats another.
+// The line that follows these, or its fault.
+fn next_line<'a>(
+    lines: &[Line<'a>],
+    text: &'a [u8],
+    number: usize,
+) -> Result<Line<'a>, TableFault> {
+    let Some(text) = text.strip_suffix(b"\n") else {
+        return Err(TableFault::Line(number));
+    };
+    let Some(line) = line_of(text) else {
+        return Err(TableFault::Line(number));
+    };
+    let is_repeated = lines
+        .iter()
+        .any(|seen| seen.group == line.group && seen.key == line.key);
+    if is_repeated {
+        return Err(TableFault::Repeated(number));
+    }
+    Ok(line)
+}
+
+// The lines of a text, or its first fault.
 fn lines_of(alloc: Global, text: &[u8]) -> Result<Result<Vec<Line<'_>>, TableFault>, AllocError> {
     let mut lines: Vec<Line<'_>> = Vec::new(alloc);
     let mut number: usize = 0;
-    for line in text.split_inclusive(|byte| *byte == b'\n') {
+    for text in text.split_inclusive(|byte| *byte == b'\n') {
         number = number.saturating_add(1);
-        let Some(line) = line.strip_suffix(b"\n") else {
-            return Ok(Err(TableFault::Line(number)));
-        };
-        let Some(line) = line_of(line) else {
-            return Ok(Err(TableFault::Line(number)));
-        };
-        if lines
-            .iter()
-            .any(|seen| seen.group == line.group && seen.key == line.key)
-        {
-            return Ok(Err(TableFault::Repeated(number)));
+        match next_line(&lines, text, number) {
+            Ok(line) => lines.push(line)?,
+            Err(fault) => return Ok(Err(fault)),
         }
-        lines.push(line)?;
     }
     if number == 0 {
         return Ok(Err(TableFault::Line(1)));
@@ -117,32 +127,38 @@ fn are_numbered(table: &TableSource, lines: &[Line<'_>]) -> bool {
     table.group_count() == count
 }
 
-// Demands of a text what its lines say, or its fault.
-fn compare(rt: &impl Abort, alloc: Global, text: &[u8]) -> Result<(), Fail> {
-    let lines = match lines_of(alloc, text)? {
-        Ok(lines) => lines,
-        Err(fault) => {
-            assert_eq!(rt; fault_of(alloc, text)?, Some(fault));
-            return Ok(());
-        }
-    };
-    let Ok(table) = read(alloc, &[text], false, 1000)? else {
-        return Err(Fail::new("no table"));
-    };
-    assert!(rt; are_numbered(&table, &lines));
-    for line in &lines {
-        has(rt, alloc, &table, line.group, line.key, line.value, true)?;
+// Whether the table has the value of each line.
+fn has_lines(alloc: Global, table: &TableSource, lines: &[Line<'_>]) -> bool {
+    let mut all = true;
+    for line in lines {
+        all &= has(alloc, table, line.group, line.key, line.value, true);
     }
-    Ok(())
+    all
+}
+
+// Whether a text is read as a table of these lines.
+fn is_table(alloc: Global, text: &[u8], lines: &[Line<'_>]) -> bool {
+    match table_of(alloc, &[text]) {
+        Some(table) => are_numbered(&table, lines) && has_lines(alloc, &table, lines),
+        None => false,
+    }
+}
+
+// Whether a text is read as its lines say, or has their fault.
+fn is_as_modelled(alloc: Global, text: &[u8]) -> Result<bool, AllocError> {
+    match lines_of(alloc, text)? {
+        Ok(lines) => Ok(is_table(alloc, text, &lines)),
+        Err(fault) => Ok(fault_of(alloc, text)? == Some(fault)),
+    }
 }
 
 #[test]
-fn answers_as_a_list_of_lines_does(rt: HostRuntime) -> Result<(), Fail> {
+fn answers_as_a_list_of_lines_does(rt: HostRuntime) -> Result<(), AllocError> {
     let alloc = rt.alloc();
     let mut state = 7;
     for _ in 0..1000 {
         let text = text_of(alloc, &mut state)?;
-        compare(&rt, alloc, &text)?;
+        assert!(rt; is_as_modelled(alloc, &text)?);
     }
     Ok(())
 }

@@ -1,5 +1,5 @@
 //! What readers and writers give and take, call by call.
-ghost use Rattle.std.specs.Prelude.{◌≡◌, ◌+◌, ◌-◌, ◌^◌, ◌<◌};
+ghost use Rattle.std.specs.Prelude.{◌≡◌, ◌+◌, ◌-◌, ◌^◌, ◌<◌, ◌≤◌};
 
 use crate::{
     MemReader, MemWriter, PeerRead, PeerWrite, ReadFailed, StdReader, StdWriter, WriteFailed,
@@ -47,33 +47,35 @@ impl Write for Full {
 // The pieces `abc`, an empty one, and `d`.
 fn pieces(alloc: Global) -> Result<Vec<Vec<u8>>, Fail> {
     let mut pieces = Vec::new(alloc);
-    pieces.push(b"abc".to_vec(alloc)?)?;
-    pieces.push(Vec::new(alloc))?;
-    pieces.push(b"d".to_vec(alloc)?)?;
+    for piece in [b"abc".as_slice(), b"", b"d"] {
+        pieces.push(piece.to_vec(alloc)?)?;
+    }
     Ok(pieces)
 }
 
-// One read. It tells the proof of a test the count of calls alone.
-fn read(reader: &mut MemReader, room: &mut [u8]) -> Result<usize, ReadFailed>
+// Whether one read says this, and leaves this in the room. It tells the proof of a test the count of calls alone.
+fn reads(
+    reader: &mut MemReader,
+    room: &mut [u8],
+    said: Result<usize, ReadFailed>,
+    held: &[u8],
+) -> bool
     requires { reader.old.calls < 2 ^ 64 - 1 }
     ensures { reader.new.calls ≡ reader.old.calls + 1 }
 {
-    reader.read(room)
+    reader.read(room) == said && *room == *held
 }
 
 #[test]
 fn a_reader_gives_a_piece_a_read(rt: HostRuntime) -> Result<(), Fail> {
     let mut reader = MemReader::new(pieces(rt.alloc())?, false);
     let mut room = *b"..";
-    assert_eq!(rt; read(&mut reader, &mut room), Ok(2));
-    assert_eq!(rt; room, *b"ab");
-    assert_eq!(rt; read(&mut reader, &mut []), Ok(0));
-    assert_eq!(rt; read(&mut reader, &mut room), Ok(1));
-    assert_eq!(rt; room, *b"cb");
-    assert_eq!(rt; read(&mut reader, &mut room), Ok(1));
-    assert_eq!(rt; room, *b"db");
-    assert_eq!(rt; read(&mut reader, &mut room), Ok(0));
-    assert_eq!(rt; read(&mut reader, &mut room), Ok(0));
+    assert!(rt; reads(&mut reader, &mut room, Ok(2), b"ab"));
+    assert!(rt; reads(&mut reader, &mut [], Ok(0), b""));
+    assert!(rt; reads(&mut reader, &mut room, Ok(1), b"cb"));
+    assert!(rt; reads(&mut reader, &mut room, Ok(1), b"db"));
+    assert!(rt; reads(&mut reader, &mut room, Ok(0), b"db"));
+    assert!(rt; reads(&mut reader, &mut room, Ok(0), b"db"));
     Ok(())
 }
 
@@ -81,71 +83,87 @@ fn a_reader_gives_a_piece_a_read(rt: HostRuntime) -> Result<(), Fail> {
 fn a_reader_fails_after_its_last_piece(rt: HostRuntime) -> Result<(), Fail> {
     let mut reader = MemReader::new(pieces(rt.alloc())?, true);
     let mut room = *b"....";
-    assert_eq!(rt; read(&mut reader, &mut room), Ok(3));
-    assert_eq!(rt; read(&mut reader, &mut room), Ok(1));
-    assert_eq!(rt; read(&mut reader, &mut room), Err(ReadFailed));
-    assert_eq!(rt; read(&mut reader, &mut []), Ok(0));
-    assert_eq!(rt; read(&mut reader, &mut room), Err(ReadFailed));
+    assert!(rt; reads(&mut reader, &mut room, Ok(3), b"abc."));
+    assert!(rt; reads(&mut reader, &mut room, Ok(1), b"dbc."));
+    assert!(rt; reads(&mut reader, &mut room, Err(ReadFailed), b"dbc."));
+    assert!(rt; reads(&mut reader, &mut [], Ok(0), b""));
+    assert!(rt; reads(&mut reader, &mut room, Err(ReadFailed), b"dbc."));
     Ok(())
 }
 
+// Whether one write says this. It tells the proof of a test the count of failures alone.
+fn takes(writer: &mut MemWriter, bytes: &[u8], said: Result<usize, WriteFailed>) -> bool
+    requires { writer.old.failures < 2 ^ 64 - 1 }
+    ensures { writer.new.failures ≤ writer.old.failures + 1 }
+{
+    writer.write(bytes) == said
+}
+
 #[test]
-fn a_writer_takes_steps_up_to_its_limit(rt: HostRuntime) -> Result<(), Fail> {
+fn a_writer_takes_steps_up_to_its_limit(rt: HostRuntime) {
     let mut writer = MemWriter::new(rt.alloc(), 2, Some(5));
-    assert_eq!(rt; writer.write(b"abc"), Ok(2));
-    assert_eq!(rt; writer.write(b"cd"), Ok(2));
-    assert_eq!(rt; writer.write(b"ef"), Ok(1));
-    assert_eq!(rt; writer.write(b"f"), Err(WriteFailed));
-    assert_eq!(rt; writer.write(b""), Ok(0));
-    assert_eq!(rt; writer.taken(), b"abcde".as_slice());
-    Ok(())
+    assert!(rt; takes(&mut writer, b"abc", Ok(2)));
+    assert!(rt; takes(&mut writer, b"cd", Ok(2)));
+    assert!(rt; takes(&mut writer, b"ef", Ok(1)));
+    assert!(rt; takes(&mut writer, b"f", Err(WriteFailed)));
+    assert!(rt; takes(&mut writer, b"", Ok(0)));
+    assert!(rt; writer.taken() == b"abcde".as_slice());
+}
+
+// Whether writing all the bytes ends so, and the writer took these.
+fn writes_all(
+    mut writer: MemWriter,
+    bytes: &[u8],
+    end: Result<(), WriteFault>,
+    taken: &[u8],
+) -> bool
+    requires { writer.failures < 2 ^ 64 - 1 }
+{
+    write_all(&mut writer, bytes) == end && *writer.taken() == *taken
 }
 
 #[test]
-fn all_is_written_or_the_count_is_told(rt: HostRuntime) -> Result<(), Fail> {
-    let mut writer = MemWriter::new(rt.alloc(), 1, Some(2));
-    assert_eq!(rt; write_all(&mut writer, b"ab"), Ok(()));
-    let mut writer = MemWriter::new(rt.alloc(), 8, Some(2));
-    assert_eq!(rt;
-        write_all(&mut writer, b"abc"),
-        Err(WriteFault { written: 2 })
-    );
-    assert_eq!(rt; writer.taken(), b"ab".as_slice());
-    Ok(())
+fn all_is_written_or_the_count_is_told(rt: HostRuntime) {
+    let alloc = rt.alloc();
+    assert!(rt; writes_all(MemWriter::new(alloc, 1, Some(2)), b"ab", Ok(()), b"ab"));
+    let fault = WriteFault { written: 2 };
+    assert!(rt; writes_all(MemWriter::new(alloc, 8, Some(2)), b"abc", Err(fault), b"ab"));
 }
 
 #[test]
 fn a_reader_of_std_tells_its_end_and_gives_it_back(rt: HostRuntime) {
     let mut reader = StdReader::new(b"abc".as_slice());
     let mut room = *b"..";
-    assert_eq!(rt; reader.read(&mut room), Ok(2));
-    assert_eq!(rt; room, *b"ab");
-    assert_eq!(rt; reader.into_inner(), b"c".as_slice());
+    assert!(rt; reader.read(&mut room) == Ok(2));
+    assert!(rt; room == *b"ab");
+    assert!(rt; reader.into_inner() == b"c".as_slice());
 }
 
 #[test]
 fn an_interrupted_read_is_a_failure(rt: HostRuntime) {
     let mut reader = StdReader::new(Stumbles { calls: 0 });
     let mut room = *b"..";
-    assert_eq!(rt; reader.read(&mut room), Ok(1));
-    assert_eq!(rt; room, *b"k.");
-    assert_eq!(rt; reader.read(&mut room), Err(ReadFailed));
-    assert_eq!(rt; reader.read(&mut room), Ok(0));
+    let told = [
+        reader.read(&mut room),
+        reader.read(&mut room),
+        reader.read(&mut room),
+    ];
+    assert!(rt; told == [Ok(1), Err(ReadFailed), Ok(0)]);
+    assert!(rt; room == *b"k.");
     assert_eq!(rt; reader.into_inner().calls, 3);
 }
 
 #[test]
-fn a_writer_of_std_takes_bytes_and_gives_it_back(rt: HostRuntime) -> Result<(), Fail> {
+fn a_writer_of_std_takes_bytes_and_gives_it_back(rt: HostRuntime) {
     let mut writer = StdWriter::new(Vec::new(rt.alloc()));
-    assert_eq!(rt; write_all(&mut writer, b"abc"), Ok(()));
-    assert_eq!(rt; writer.into_inner().as_slice(), b"abc".as_slice());
-    Ok(())
+    assert!(rt; write_all(&mut writer, b"abc").is_ok());
+    assert!(rt; writer.into_inner().as_slice() == b"abc".as_slice());
 }
 
 #[test]
 fn a_write_of_nothing_is_a_failure(rt: HostRuntime) {
     let mut writer = StdWriter::new(Full);
-    assert_eq!(rt; writer.write(b"a"), Err(WriteFailed));
-    assert_eq!(rt; writer.write(b""), Ok(0));
+    assert!(rt; writer.write(b"a") == Err(WriteFailed));
+    assert!(rt; writer.write(b"") == Ok(0));
     let Full = writer.into_inner();
 }

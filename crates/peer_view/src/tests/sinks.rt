@@ -2,15 +2,48 @@
 ghost use Rattle.std.specs.Prelude.{◌≡◌, Some, length, OnOk, OnErr};
 ghost use Rattle.peer_view.specs.Sinks.{placed};
 
-use crate::{AllocSink, ByteView, Sink, SinkFault, TruncSink, VALUE_LIMIT, ViewSink};
-use std::alloc::Global;
-use std::test::Fail;
+use super::view_of;
+use crate::{AllocSink, ByteView, Sink, SinkFault, TruncSink, ViewSink};
+use bytes::Bytes;
+use std::alloc::{AllocError, Global};
 
-// Sets one value after another, the last a view.
-fn set_each<S: Sink>(sink: &mut S, alloc: Global, last: &ByteView) -> Result<(), SinkFault> {
-    sink.set_bytes(alloc, b"abcd")?;
-    sink.set_str(alloc, "bc")?;
-    sink.set_view(last)
+// Whether the sink takes bytes, and then the text `bc`.
+fn takes_copies<S: Sink>(sink: &mut S, alloc: Global) -> bool {
+    let takes_bytes = sink.set_bytes(alloc, b"abcd").is_ok();
+    let takes_text = sink.set_str(alloc, "bc").is_ok();
+    takes_bytes && takes_text
+}
+
+// Whether the sink takes the view.
+fn takes_view<S: Sink>(sink: &mut S, view: &ByteView) -> bool {
+    sink.set_view(view).is_ok()
+}
+
+// Whether a sink refused a value as too long.
+fn is_too_long(set: Result<(), SinkFault>) -> bool {
+    match set {
+        Err(SinkFault::TooLong) => true,
+        _ => false,
+    }
+}
+
+// Whether the sink refuses the view, and its bytes, as too long.
+fn refuses<S: Sink>(sink: &mut S, alloc: Global, long: &ByteView) -> bool {
+    let refuses_bytes = is_too_long(sink.set_bytes(alloc, long.as_slice()));
+    let refuses_view = is_too_long(sink.set_view(long));
+    refuses_bytes && refuses_view
+}
+
+// Whether the sink holds these bytes.
+fn holds(sink: AllocSink, bytes: &[u8]) -> bool {
+    sink.into_view().eq_bytes(bytes)
+}
+
+// So many letters `x`.
+fn letters(alloc: Global, count: usize) -> Result<ByteView, AllocError> {
+    let mut letters = Vec::new(alloc);
+    letters.resize(count, b'x')?;
+    Ok(ByteView::from_shared(Bytes::from_vec(letters)?))
 }
 
 // Whoever lends a view knows what it ends as.
@@ -32,97 +65,106 @@ fn fill_front(destination: &mut [u8], value: &[u8]) -> usize
 }
 
 #[test]
-fn a_lender_gets_back_what_was_set(rt: HostRuntime) -> Result<(), Fail> {
-    let mut view = ByteView::copy_of(rt.alloc(), b"old")?;
-    set_lent(&mut view, &ByteView::copy_of(rt.alloc(), b"new")?)?;
-    assert_eq!(rt; view.as_slice(), b"new".as_slice());
+fn a_lender_gets_back_what_was_set(rt: HostRuntime) {
+    let mut view = view_of(b"old");
+    assert!(rt; set_lent(&mut view, &view_of(b"new")).is_ok());
+    assert!(rt; view.eq_bytes(b"new"));
     let mut destination = *b"...";
     assert_eq!(rt; fill_front(&mut destination, b"no"), 2);
-    assert_eq!(rt; destination, *b"no.");
-    Ok(())
+    assert!(rt; destination == *b"no.");
 }
 
-#[test]
-fn a_sink_holds_the_last_value(rt: HostRuntime) -> Result<(), Fail> {
+// Whether a sink that holds its value holds a text still after it refused this.
+fn outlasts(alloc: Global, long: &ByteView) -> bool {
     let mut sink = AllocSink::new();
-    sink.set_bytes(rt.alloc(), b"a")?;
-    sink.set_str(rt.alloc(), "bc")?;
-    let mut long = Vec::new(rt.alloc());
-    long.resize(1_048_577, b'x')?;
-    assert_eq!(rt; sink.set_bytes(rt.alloc(), &long), Err(SinkFault::TooLong));
-    let long = ByteView::copy_of(rt.alloc(), &long)?;
-    assert_eq!(rt; sink.set_view(&long), Err(SinkFault::TooLong));
-    assert_eq!(rt; sink.into_view().as_slice(), b"bc".as_slice());
-    assert!(rt; AllocSink::new().into_view().is_empty());
+    takes_copies(&mut sink, alloc) && refuses(&mut sink, alloc, long) && holds(sink, b"bc")
+}
+
+#[test]
+fn a_sink_holds_the_last_value(rt: HostRuntime) -> Result<(), AllocError> {
+    let long = letters(rt.alloc(), 1_048_577)?;
+    assert!(rt; outlasts(rt.alloc(), &long));
     Ok(())
 }
 
 #[test]
-fn a_value_at_the_limit_is_held(rt: HostRuntime) -> Result<(), Fail> {
-    let mut long = Vec::new(rt.alloc());
-    long.resize(VALUE_LIMIT, b'x')?;
+fn a_new_sink_holds_nothing(rt: HostRuntime) {
+    assert!(rt; holds(AllocSink::new(), b""));
+}
+
+// Whether a sink that holds its value holds a copy of this.
+fn is_copied(alloc: Global, value: &[u8]) -> bool {
     let mut sink = AllocSink::new();
-    sink.set_bytes(rt.alloc(), &long)?;
-    assert_eq!(rt; sink.into_view().len(), 1_048_576);
+    sink.set_bytes(alloc, value).is_ok() && holds(sink, value)
+}
+
+#[test]
+fn a_value_at_the_limit_is_held(rt: HostRuntime) -> Result<(), AllocError> {
+    let long = letters(rt.alloc(), 1_048_576)?;
+    assert!(rt; is_copied(rt.alloc(), long.as_slice()));
     Ok(())
 }
 
 #[test]
-fn a_lent_view_is_set(rt: HostRuntime) -> Result<(), Fail> {
-    let mut view = ByteView::copy_of(rt.alloc(), b"old")?;
+fn a_lent_view_is_set(rt: HostRuntime) -> Result<(), AllocError> {
+    let long = letters(rt.alloc(), 1_048_577)?;
+    let mut view = view_of(b"old");
     let _ = ViewSink::new(&mut view);
-    assert_eq!(rt; view.as_slice(), b"old".as_slice());
-    let mut sink = ViewSink::new(&mut view);
-    sink.set_bytes(rt.alloc(), b"a")?;
-    sink.set_str(rt.alloc(), "bc")?;
-    assert_eq!(rt; view.as_slice(), b"bc".as_slice());
-    let mut sink = ViewSink::new(&mut view);
-    let mut long = Vec::new(rt.alloc());
-    long.resize(1_048_577, b'x')?;
-    assert_eq!(rt; sink.set_bytes(rt.alloc(), &long), Err(SinkFault::TooLong));
-    assert_eq!(rt; view.as_slice(), b"bc".as_slice());
+    assert!(rt; view.eq_bytes(b"old"));
+    assert!(rt; takes_copies(&mut ViewSink::new(&mut view), rt.alloc()));
+    assert!(rt; refuses(&mut ViewSink::new(&mut view), rt.alloc(), &long));
+    assert!(rt; view.eq_bytes(b"bc"));
     Ok(())
 }
 
-#[test]
-fn a_sink_shares_a_view(rt: HostRuntime) -> Result<(), Fail> {
-    let hello = ByteView::copy_of(rt.alloc(), b"hello")?;
-    let mut view = ByteView::copy_of(rt.alloc(), b"old")?;
-    set_each(&mut ViewSink::new(&mut view), rt.alloc(), &hello)?;
-    assert_eq!(rt; view.as_slice(), b"hello".as_slice());
+// Whether a sink that holds its value shares the view.
+fn is_shared(view: &ByteView) -> bool {
     let mut sink = AllocSink::new();
-    set_each(&mut sink, rt.alloc(), &hello)?;
-    assert_eq!(rt; sink.into_view().as_slice(), b"hello".as_slice());
-    Ok(())
+    takes_view(&mut sink, view) && holds(sink, view.as_slice())
 }
 
 #[test]
-fn a_destination_keeps_what_fits(rt: HostRuntime) -> Result<(), Fail> {
+fn a_sink_shares_a_view(rt: HostRuntime) {
+    let hello = view_of(b"hello");
+    assert!(rt; is_shared(&hello));
+    let mut view = view_of(b"old");
+    assert!(rt; takes_view(&mut ViewSink::new(&mut view), &hello));
+    assert!(rt; view == hello);
+}
+
+// How many bytes of no value, of a text and of other bytes fit into the destination.
+fn fit(destination: &mut [u8]) -> [usize; 3] {
+    let mut sink = TruncSink::new(destination);
+    let of_none = sink.len();
+    sink.set_str("hello");
+    let of_text = sink.len();
+    sink.set_bytes(b"z");
+    [of_none, of_text, sink.len()]
+}
+
+// Whether a sink over the destination lends these bytes of the view.
+fn lends(destination: &mut [u8], view: &ByteView, bytes: &[u8]) -> bool {
+    let mut sink = TruncSink::new(destination);
+    sink.set_view(view);
+    *sink.filled() == *bytes
+}
+
+#[test]
+fn a_destination_keeps_what_fits(rt: HostRuntime) {
+    let mut destination = *b"...";
+    assert!(rt; fit(&mut destination) == [0, 3, 1]);
+    assert!(rt; destination == *b"zel");
+    assert!(rt; lends(&mut destination, &view_of(b"no"), b"no"));
+    assert!(rt; destination == *b"nol");
+}
+
+#[test]
+fn a_destination_refuses_nothing(rt: HostRuntime) -> Result<(), AllocError> {
+    let long = letters(rt.alloc(), 1_048_577)?;
     let mut destination = *b"...";
     let mut sink = TruncSink::new(&mut destination);
-    assert_eq!(rt; sink.len(), 0);
-    sink.set_str("hello");
-    assert_eq!(rt; sink.len(), 3);
-    sink.set_bytes(b"z");
-    assert_eq!(rt; sink.len(), 1);
-    assert_eq!(rt; destination, *b"zel");
-    let mut sink = TruncSink::new(&mut destination);
-    sink.set_view(&ByteView::copy_of(rt.alloc(), b"no")?);
-    assert_eq!(rt; *sink.filled(), *b"no".as_slice());
-    assert_eq!(rt; destination, *b"nol");
-    let mut sink = TruncSink::new(&mut destination);
-    set_each(&mut sink, rt.alloc(), &ByteView::copy_of(rt.alloc(), b"y")?)?;
-    assert_eq!(rt; *sink.filled(), *b"y".as_slice());
-    Ok(())
-}
-
-#[test]
-fn a_destination_refuses_nothing(rt: HostRuntime) -> Result<(), Fail> {
-    let mut long = Vec::new(rt.alloc());
-    long.resize(1_048_577, b'x')?;
-    let mut destination = *b"..";
-    let mut sink = TruncSink::new(&mut destination);
-    Sink::set_bytes(&mut sink, rt.alloc(), &long)?;
-    assert_eq!(rt; *sink.filled(), *b"xx".as_slice());
+    assert!(rt; takes_copies(&mut sink, rt.alloc()));
+    assert!(rt; takes_view(&mut sink, &long));
+    assert!(rt; *sink.filled() == *b"xxx".as_slice());
     Ok(())
 }
