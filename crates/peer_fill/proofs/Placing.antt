@@ -1,7 +1,10 @@
 -- Caches in the places of their groups.
-use Rattle.std.proofs.Common.{◌≡◌, List, [], ◌∷◌, ◌++◌, length, ap, sym, ◌∙◌, inl, inr}
+use Rattle.std.proofs.Common.{◌≡◌, ℕ, ◌<◌, Some, get_or, refl, List, [], ◌∷◌, ◌++◌, length, ap, sym, ◌∙◌, inl, inr}
 use Rattle.peer_source.specs.Caches.{Cache}
-use Rattle.peer_flight.proofs.ListSteps.{at_push}
+use Rattle.std.proofs.Math.ListN.{set}
+use Rattle.std.specs.List.{slice_get}
+use Rattle.std.proofs.lemmas.Option.{slice_get_read}
+use Rattle.peer_flight.proofs.ListSteps.{at_push, at_set}
 use Rattle.peer_fill.specs.Caches.{EachInPlace}
 
 -- a cache whose group is the next number goes to the end
@@ -10,4 +13,14 @@ in_place_push xs y each own i x is =
     elim (at_push xs y x i is) [
       | inl both ↦ ap (λ (c : Cache). c.group) both.1 ∙ own ∙ sym both.0
       | inr there ↦ each i x there
+    ]
+
+-- a cache takes the place of another one of its group
+pub in_place_set : (xs : List Cache) (n : ℕ) (old y : Cache) → EachInPlace xs → old ≡ get_or xs n old → n < length xs
+    → y.group ≡ old.group → EachInPlace (set xs n y)
+in_place_set xs n old y each is within same i x at =
+    let here : slice_get xs n ≡ Some old = slice_get_read xs (length xs) n old refl within is in
+    elim (at_set xs n i y x at) [
+      | inl both ↦ ap (λ (c : Cache). c.group) both.1 ∙ same ∙ each n old here ∙ sym both.0
+      | inr both ↦ each i x both.1
     ]

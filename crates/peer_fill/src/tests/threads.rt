@@ -3,15 +3,14 @@ ghost use Rattle.std.specs.Prelude.{◌≡◌, ◌<◌, All, IfSome};
 ghost use Rattle.peer_fill.specs.Pools.{source_of, IsConnSeatOf, IsFillSeatOf};
 ghost use Rattle.peer_fill.specs.Seats.{conn_parts, fill_parts, HaveAllConns, HaveAllFills};
 
-use super::linked::Linked;
-use super::{ECHO, is_value, seed, value_of};
+use super::numbering::Numbering;
+use super::{ECHO, ask, seed, value_of};
 use crate::{
     ConnSeat, FillSeat, Gate, KeepsConn, KeepsFill, NoGate, Opened, Pool, Report, join_conns,
     join_fills, pop_conn, pop_fill,
 };
 use peer_flight::Claim;
-use peer_source::{DemoSource, GroupId, Source};
-use peer_view::ByteView;
+use peer_source::{GroupId, Source};
 use std::alloc::Global;
 use std::hint::spin_loop;
 use std::marker::Brand;
@@ -86,8 +85,7 @@ fn ask_each<S: Source, L: Ledger, R: Wait>(
 {
     let mut claims = Vec::new(alloc);
     for number in from..to {
-        let key = ByteView::copy_of(alloc, &number.to_be_bytes()).ok()?;
-        let claim = pool.ask(rt, alloc, seat, ECHO, key).ok()?;
+        let claim = ask(rt, alloc, pool, seat, ECHO, &number.to_be_bytes())?;
         claims.push(claim).ok()?;
     }
     Some(claims)
@@ -101,8 +99,7 @@ fn count_wrong<S: Source, L: Ledger, R: Wait>(
 ) -> u64 {
     let mut wrong = 0u64;
     for claim in claims {
-        let value = value_of(pool.wait_for(rt, claim));
-        if !is_value(&value, claim.key().as_slice()) {
+        if !value_of(pool.wait_for(rt, claim)).starts_with(claim.key().as_slice()) {
             wrong = wrong.saturating_add(1);
         }
     }
@@ -274,10 +271,10 @@ fn one_worker_fills_three_hundred_keys(rt: HostRuntime) -> Result<(), Fail> {
         },
         gate: Slow,
     };
-    let report = report_of::<DemoSource, Brand, HostRuntime, Slow>(
+    let report = report_of::<Numbering, Brand, HostRuntime, Slow>(
         &rt,
         rt.alloc(),
-        DemoSource,
+        Numbering::new(1, 0, 0),
         &setting,
         Blank::new(16),
     );
@@ -316,10 +313,10 @@ fn sixteen_workers_serve_sixteen_connections(rt: HostRuntime) -> Result<(), Fail
         },
         gate: NoGate,
     };
-    let report = report_of::<DemoSource, Brand, HostRuntime, NoGate>(
+    let report = report_of::<Numbering, Brand, HostRuntime, NoGate>(
         &rt,
         rt.alloc(),
-        DemoSource,
+        Numbering::new(1, 0, 0),
         &setting,
         Blank::new(16),
     );
@@ -338,10 +335,10 @@ fn all_that_wait_for_a_fill_are_woken(rt: HostRuntime) -> Result<(), Fail> {
         },
         gate: AlwaysSlow,
     };
-    let report = report_of::<DemoSource, Brand, HostRuntime, AlwaysSlow>(
+    let report = report_of::<Numbering, Brand, HostRuntime, AlwaysSlow>(
         &rt,
         rt.alloc(),
-        DemoSource,
+        Numbering::new(1, 0, 0),
         &setting,
         Blank::new(16),
     );
@@ -357,10 +354,10 @@ fn no_lock_is_held_while_the_source_is_called(rt: HostRuntime) -> Result<(), Fai
         plan: Plan { rounds: 1, keys: 2 },
         gate: NoGate,
     };
-    let report = report_of::<Linked, Brand, HostRuntime, NoGate>(
+    let report = report_of::<Numbering, Brand, HostRuntime, NoGate>(
         &rt,
         rt.alloc(),
-        Linked::new(),
+        Numbering::new(1, 0, 2),
         &setting,
         Blank::new(16),
     );
