@@ -2,6 +2,8 @@
 use Rattle.std.proofs.Common.{◌≡◌, ℕ, ◌<◌, Bool, true, false, Result, Ok, Err, List, [], ◌∷◌, ◌++◌, length, get_or, Some, refl, ap, sym, subst, ◌∙◌}
 use Rattle.std.specs.Prelude.{IfOk, OnErr}
 use Rattle.std.proofs.Math.ListN.{set}
+use Rattle.std.proofs.Math.Dec.{ltb}
+use Rattle.std.proofs.lemmas.Bool.{ltb-true}
 use Rattle.std.proofs.lemmas.List.{set-get_or}
 use Rattle.std.proofs.lemmas.Option.{slice_get-get_or, same_Some}
 use Rattle.std.specs.List.{slice_get}
@@ -47,12 +49,16 @@ module _ {allowed : ℕ → List ℕ → Answer → Type 0} where
 pub borrowed : {X : Type 0} (xs : List X) (i : ℕ) (x : X) → i < length xs → x ≡ get_or xs i x → slice_get xs i ≡ Some x
 borrowed xs i x within is = slice_get-get_or xs i x within ∙ ap Some (sym is)
 
+-- the same, where the index was tested
+pub lent : {X : Type 0} (xs : List X) (i : ℕ) (x : X) → true ≡ ltb i (length xs) → x ≡ get_or xs i x → slice_get xs i ≡ Some x
+lent xs i x within is = borrowed xs i x (ltb-true i (length xs) (sym within)) is
+
 -- the same element written back
 pub set_back : {X : Type 0} (xs : List X) (i : ℕ) (x : X) → x ≡ get_or xs i x → set xs i x ≡ xs
 set_back xs i x is = ap (set xs i) is ∙ set-get_or xs i x
 
 -- a connection of a world, and what becomes of the world where the connection became another
-module _ (w : World) (i : ℕ) (old new : Connection) (within : i < length w.connections) (is : old ≡ get_or w.connections i old) where
+module _ (w : World) (i : ℕ) (old new : Connection) (within : true ≡ ltb i (length w.connections)) (is : old ≡ get_or w.connections i old) where
   abbrev pub with_connection : World
   with_connection = record w { connections = set w.connections i new }
 
@@ -62,11 +68,11 @@ module _ (w : World) (i : ℕ) (old new : Connection) (within : i < length w.con
   pub refused_at : (Step : Connection → Connection → Type 0) → IsRefused Step old new → IsRefused (GoesOn Step i) w with_connection
   refused_at Step refused = record {
     same = stays_so refused.same;
-    nowhere = λ w' goes. refused.nowhere goes.new (subst (λ x. Step x goes.new) (same_Some goes.old old (sym goes.here ∙ borrowed w.connections i old within is)) goes.step);
+    nowhere = λ w' goes. refused.nowhere goes.new (subst (λ x. Step x goes.new) (same_Some goes.old old (sym goes.here ∙ lent w.connections i old within is)) goes.step);
   }
 
   pub goes_at : (Step : Connection → Connection → Type 0) → Step old new → GoesOn Step i w with_connection
-  goes_at Step step = record { old = old; here = borrowed w.connections i old within is; new = new; step = step; after = refl }
+  goes_at Step step = record { old = old; here = lent w.connections i old within is; new = new; step = step; after = refl }
 
   pub where_allowed : (Step : Connection → Connection → Type 0) (done : Bool) → WhereAllowed done Step old new → WhereAllowed done (GoesOn Step i) w with_connection
   where_allowed Step true step = goes_at Step step

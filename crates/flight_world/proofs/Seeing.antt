@@ -2,17 +2,30 @@
 use Rattle.std.proofs.Common.{◌≡◌, ℕ, false, true, List, [], ◌∷◌, ◌++◌, Option, Some, None, refl, ap, sym, subst, ◌∙◌, inl, inr, ◌<◌, length, get_or, arith}
 use Rattle.peer_source.specs.Answers.{Answer, Found, Failed, Filled}
 use Rattle.peer_source.specs.Outcomes.{answer_of}
-use Rattle.peer_source.specs.declared.fill.Outcome.{Outcome as Source}
+use Rattle.peer_source.specs.declared.source.Source as Source
+use Rattle.peer_source.specs.declared.fill.Outcome.{Outcome}
 use Rattle.peer_source.specs.declared.fill.Outcome.TheVariants as source
 use Rattle.std.specs.Option.{IfSome}
 use Rattle.std.specs.List.{slice_get, slice_set}
 use Rattle.peer_flight.specs.SingleFlight.{Place, State}
 use Rattle.peer_flight.specs.World.{Wish, Ticket, Flight, Connection, Written, World}
 use Rattle.peer_flight.specs.Events.{WantsAs, SeesOutcome, RepliesBy, MayBring}
-use Rattle.flight_world.specs.Views.{Brings, WantsAt, outcome_by}
+use Rattle.flight_world.specs.Views.{Brings, WantsAt, hand_of, outcome_by}
+use Rattle.flight_world.specs.declared.connection.Connection.{Connection as Plain}
+
+-- a connection as contracts see it
+abbrev pub seen_of : {S : Type 0} {g : Source.Ghosts S} → Plain S g → Connection
+seen_of c = record {
+  arrived = c.arrived.items;
+  hand = hand_of c.hand;
+  lane = c.lane.items;
+  waiting = c.waiting.items;
+  written = c.written.items;
+  ended = c.ended;
+}
 
 -- a source that had memory gave an answer
-pub answer_there : (o : Source) → (o ≡ source.NoMemory → ⊥) → (a : Answer) × (answer_of o ≡ Some a)
+pub answer_there : (o : Outcome) → (o ≡ source.NoMemory → ⊥) → (a : Answer) × (answer_of o ≡ Some a)
 answer_there (source.Found value) some = (Found value, refl)
 answer_there (source.Failed text) some = (Failed text, refl)
 answer_there source.NoMemory some = absurd (some refl)
@@ -23,9 +36,9 @@ first_of [] t some is = absurd (omega arith)
 first_of (x ∷ xs) t some is = (xs, ap (λ y. y ∷ xs) (sym is))
 
 module _ (flights : List Flight) (c : Connection) (t : Ticket) (rest : List Ticket) (fill : Filled) (on : c.ended ≡ false) (first : c.waiting ≡ t ∷ rest) (brings : Brings flights t fill) where
-  -- for want of memory the writer ends
-  pub end_seen : fill.answer ≡ None → SeesOutcome flights c (record c { ended = true })
-  end_seen none = record {
+  -- what the writer does with the first ticket
+  seen_so : (new : Connection) → RepliesBy brings.flight.outcome c rest t new → SeesOutcome flights c new
+  seen_so new replies = record {
     goes_on = on;
     before = [];
     ticket = t;
@@ -35,23 +48,18 @@ module _ (flights : List Flight) (c : Connection) (t : Ticket) (rest : List Tick
     names = brings.names;
     flight = brings.flight;
     led = brings.led;
-    replies = subst (λ o. RepliesBy o c rest t (record c { ended = true })) (sym (brings.outcome ∙ ap outcome_by none)) refl;
+    replies = replies;
   }
+
+  -- for want of memory the writer ends
+  pub end_seen : fill.answer ≡ None → SeesOutcome flights c (record c { ended = true })
+  end_seen none = seen_so _ (subst (λ o. RepliesBy o c rest t (record c { ended = true })) (sym (brings.outcome ∙ ap outcome_by none)) refl)
 
   -- an answer is written
   pub answer_seen : (a : Answer) → fill.answer ≡ Some a → (waiting : List Ticket) (written : List Written) → waiting ≡ rest → written ≡ c.written ++ record { ticket = t; answer = Some a } ∷ [] → SeesOutcome flights c (record c { waiting = waiting; written = written })
-  answer_seen a some waiting written left more = record {
-    goes_on = on;
-    before = [];
-    ticket = t;
-    behind = rest;
-    taken = first;
-    number = brings.number;
-    names = brings.names;
-    flight = brings.flight;
-    led = brings.led;
-    replies = subst (λ o. RepliesBy o c rest t (record c { waiting = waiting; written = written })) (sym (brings.outcome ∙ ap outcome_by some)) (inl (λ i. record c { waiting = left i; written = more i }));
-  }
+  answer_seen a some waiting written left more =
+      let new : Connection = record c { waiting = waiting; written = written } in
+      seen_so new (subst (λ o. RepliesBy o c rest t new) (sym (brings.outcome ∙ ap outcome_by some)) (inl (λ i. record c { waiting = left i; written = more i })))
 
 -- what a fill answers may be the outcome of a flight of its place
 pub may_bring : (allowed : ℕ → List ℕ → Answer → Type 0) (p : Place) (answer : Option Answer) → ∥ IfSome answer (allowed p.group p.key) ∥₁ → MayBring allowed p (outcome_by answer)

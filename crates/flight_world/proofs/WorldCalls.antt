@@ -19,6 +19,10 @@ use Rattle.peer_flight.proofs.Sound.{IsGood, Sound}
 use Rattle.flight_world.proofs.Seeing.{may_bring, wants_from}
 use Rattle.flight_world.proofs.Reaching.{same_state, reached_after, reached_same, reached_sound, set_back}
 
+-- what a call tells of an outcome that a connection saw, or did not
+abbrev pub Saw : {E : Type 0} → List Flight → Connection → Connection → Result Bool E → Type 0
+Saw flights old new r = IfOk r (λ seen. MatchBool seen (SeesOutcome flights old new) ((new ≡ old) × SeesNone flights old))
+
 -- an index past the end has no element
 pub none_past : {X : Type 0} (xs : List X) (i : ℕ) → (i < length xs → false ≡ true) → (x : X) → slice_get xs i ≢ Some x
 none_past xs i past x is = true≢false (sym (past (slice_get_within xs i x is)))

@@ -1,31 +1,30 @@
 //! Connections in one thread, and over a pool whose worker is a thread.
-ghost use Rattle.std.specs.Prelude.{◌≡◌, IfSome};
-ghost use Rattle.peer_fill.specs.Seats.{fill_parts};
+ghost use Rattle.std.specs.Prelude.{◌≡◌, All, IfSome};
 ghost use Rattle.peer_fill.specs.Pools.{IsConnSeatOf, IsFillSeatOf};
 
 use crate::heads::reader_of;
-use crate::pools::{CACHE_BYTES, adds_up};
 use crate::seen::Seen;
-use crate::sources::seed;
 use crate::window;
 use peer_conn::{End, Served, serve_connection, serve_functional, serve_serial};
-use peer_fill::{ConnSeat, FillSeat, KeepsFill, NoGate, Opened, Pool, pop_conn, pop_fill};
+use peer_fill::{ConnSeat, FillSeat, Pool, pop_fill};
 use peer_source::{DemoSource, Source};
 use peer_view::{MemReader, MemWriter};
 use std::alloc::Global;
-use std::marker::Brand;
 use std::sync::Wait;
-use std::sync::ledger::{Blank, Ledger};
-use std::thread;
+use std::sync::ledger::Ledger;
 use std::thread::Threads;
+use test_sources::{beside_worker, push_fill};
 
 /// Three requests of 45 bytes.
 pub const THREE: &[u8] =
-    b"GET /_groupcache/echo/a HTTP/1.1\r\nHost: h\r\n\r\nGET /_groupcache/echo/b HTTP/1.1\r\nHost: h\r\n\r\nGET /_groupcache/echo/c HTTP/1.1\r\nHost: h\r\n\r\n";
+    b"GET /_groupcache/echo/a HTTP/1.1\r\nHost: h\r\n\r\nGET /_groupcache/echo/b HTTP/1.1\r\nHost: h\r\n\r\n\
+    GET /_groupcache/echo/c HTTP/1.1\r\nHost: h\r\n\r\n";
 
 /// Their replies, of 79 bytes each.
 pub const THREE_REPLIES: &[u8] =
-    b"HTTP/1.1 200 OK\r\nContent-Type: application/x-protobuf\r\nContent-Length: 3\r\n\r\n\x0A\x01aHTTP/1.1 200 OK\r\nContent-Type: application/x-protobuf\r\nContent-Length: 3\r\n\r\n\x0A\x01bHTTP/1.1 200 OK\r\nContent-Type: application/x-protobuf\r\nContent-Length: 3\r\n\r\n\x0A\x01c";
+    b"HTTP/1.1 200 OK\r\nContent-Type: application/x-protobuf\r\nContent-Length: 3\r\n\r\n\x0A\x01a\
+    HTTP/1.1 200 OK\r\nContent-Type: application/x-protobuf\r\nContent-Length: 3\r\n\r\n\x0A\x01b\
+    HTTP/1.1 200 OK\r\nContent-Type: application/x-protobuf\r\nContent-Length: 3\r\n\r\n\x0A\x01c";
 
 /// The first of them.
 pub const FIRST_REPLY: &[u8] =
@@ -56,113 +55,84 @@ fn ended(served: &Served<MemReader, MemWriter>) -> Seen {
     }
 }
 
-/// `serve_serial`.
-pub fn serial(alloc: Global) -> Option<Seen> {
+/// A call that serves in one thread.
+#[derive(Clone, Copy)]
+pub enum Alone {
+    Serial,
+    /// All of the program on standard input and output.
+    Functional,
+}
+
+/// `serve_serial` or `serve_functional`.
+pub fn in_one_thread(alloc: Global, call: Alone) -> Option<Seen> {
     let reader = reader_of(alloc, THREE)?;
     let writer = MemWriter::new(alloc, 65_536, None);
     window::begin(alloc);
-    let served = serve_serial(alloc, &DemoSource, reader, writer, READS);
+    let served = match call {
+        Alone::Serial => serve_serial(alloc, &DemoSource, reader, writer, READS),
+        Alone::Functional => serve_functional(alloc, &DemoSource, reader, writer, READS),
+    };
     window::end(alloc);
     Some(ended(&served))
 }
 
-/// `serve_functional`, which is all of the program on standard input and output.
-pub fn functional(alloc: Global) -> Option<Seen> {
-    let reader = reader_of(alloc, THREE)?;
+// Serves the three requests over a pool, with growths counted.
+fn serve_three<S: Source, L: Ledger + Send + Sync, H: Threads + Wait + Sync>(
+    rt: &H,
+    alloc: Global,
+    pool: &Pool<S, L>,
+    conn: ConnSeat<S, L>,
+    reader: MemReader,
+) -> (ConnSeat<S, L>, Served<MemReader, MemWriter>)
+    requires conn { IsConnSeatOf pool.now conn }
+    requires calls { reader.calls ≡ 0 }
+    ensures { IsConnSeatOf pool.now result.0 }
+{
     let writer = MemWriter::new(alloc, 65_536, None);
     window::begin(alloc);
-    let served = serve_functional(alloc, &DemoSource, reader, writer, READS);
+    let (served, conn) = serve_connection(rt, alloc, pool, conn, reader, writer, READS);
     window::end(alloc);
-    Some(ended(&served))
+    (conn, served)
 }
 
-/// What a connection over a pool leaves.
-#[derive(Drop)]
-pub struct Left<S: Source, L: Ledger> {
-    pub fill: FillSeat<S, L>,
-    pub conn: ConnSeat<S, L>,
-    pub served: Served<MemReader, MemWriter>,
-}
-
-/// Serves the three requests over a pool whose worker is a thread, with growths counted. The pool is stopped then, and
-/// the worker taken in. None where the thread was refused.
+/// Serves the three requests over a pool, beside a worker of this list.
 pub fn serve_beside<S: Source, L: Ledger + Send + Sync, H: Threads + Wait + Sync>(
     rt: &H,
     alloc: Global,
     pool: &Pool<S, L>,
-    fill: FillSeat<S, L>,
+    fills: &mut Vec<FillSeat<S, L>>,
     conn: ConnSeat<S, L>,
-    reader: MemReader,
-) -> Option<Left<S, L>>
-    requires fill { IsFillSeatOf pool.now fill }
+) -> Option<(ConnSeat<S, L>, Served<MemReader, MemWriter>)>
+    requires fills { All (IsFillSeatOf pool.now) fills.old.items }
     requires conn { IsConnSeatOf pool.now conn }
-    requires calls { reader.calls ≡ 0 }
-    ensures { IfSome result (λ left. IsFillSeatOf pool.now left.fill × IsConnSeatOf pool.now left.conn) }
-{
-    let writer = MemWriter::new(alloc, 65_536, None);
-    thread::scope(
-        thread::scope_env(),
-        rt,
-        move |scope| -> Option<Left<S, L>>
-            requires fill { IsFillSeatOf pool.now fill }
-            requires conn { IsConnSeatOf pool.now conn }
-            requires calls { reader.calls ≡ 0 }
-            requires failures { writer.failures ≡ 0 }
-            ensures { IfSome result (λ left. IsFillSeatOf pool.entry.now left.fill × IsConnSeatOf pool.entry.now left.conn) }
-        {
-            let keeps = KeepsFill::new(pool, &fill);
-            let work = move ||
-                requires { IsFillSeatOf pool.now fill }
-                ensures { IsFillSeatOf pool.entry.now result × (fill_parts result ≡ fill_parts fill) }
-            { pool.run_worker(rt, alloc, fill, &NoGate) };
-            let Ok(worker) = scope.spawn_with(keeps, work) else {
-                return None;
-            };
-            window::begin(alloc);
-            let (served, conn) = serve_connection(rt, alloc, pool, conn, reader, writer, READS);
-            window::end(alloc);
-            pool.stop();
-            let fill = worker.join(rt);
-            Some(Left { fill, conn, served })
-        },
-    )
-}
-
-// `serve_connection`, in a ledger. The pool is closed then.
-fn connection_in<L: Ledger + Send + Sync, H: Threads + Wait + Sync>(
-    rt: &H,
-    alloc: Global,
-    blank: Blank,
-) -> Option<Seen>
-    requires name { blank.name ≡ L.name }
-    requires parts { (blank.parts ≡ L.parts) × (blank.parts ≡ 16) }
+    ensures fills { All (IsFillSeatOf pool.now) fills.new.items }
+    ensures conn { IfSome result (λ used. IsConnSeatOf pool.now used.0) }
 {
     let reader = reader_of(alloc, THREE)?;
-    let opened = Pool::<DemoSource, L>::open(alloc, DemoSource, CACHE_BYTES, seed()?, 1, 1, blank);
-    let Ok(
-        Opened {
-            pool,
-            mut fills,
-            mut conns,
-        },
-    ) = opened
-    else {
-        return None;
-    };
-    let fill = pop_fill(&pool, &mut fills)?;
-    let conn = pop_conn(&pool, &mut conns)?;
-    let left = serve_beside(rt, alloc, &pool, fill, conn, reader)?;
-    let Left { fill, conn, served } = left;
-    let asked = conn.asked();
-    let (Ok(()), Ok(())) = (fills.push(fill), conns.push(conn)) else {
-        return None;
-    };
-    let report = pool.close(rt, fills, conns).ok()?;
-    let same = adds_up(&report) && report.asked == asked && report.left == 0;
-    Some(ended(&served).only_if(same, "the report does not fit"))
+    let fill = pop_fill(pool, fills)?;
+    let serve = move || -> (ConnSeat<S, L>, Served<MemReader, MemWriter>)
+        requires conn { IsConnSeatOf pool.now conn }
+        requires calls { reader.calls ≡ 0 }
+        ensures { IsConnSeatOf pool.entry.now result.0 }
+    { serve_three(rt, alloc, pool, conn, reader) };
+    let (fill, used) = beside_worker(rt, alloc, pool, fill, serve)?;
+    push_fill(pool, fills, fill)?;
+    Some(used)
 }
 
-/// `serve_connection`.
-pub fn connection<H: Threads + Wait + Sync>(rt: &H, alloc: Global) -> Option<Seen> {
-    connection_in::<Brand, H>(rt, alloc, Blank::new(16))
+/// `serve_connection`, beside a worker.
+pub fn connection<L: Ledger + Send + Sync, H: Threads + Wait + Sync>(
+    rt: &H,
+    alloc: Global,
+    pool: &Pool<DemoSource, L>,
+    fills: &mut Vec<FillSeat<DemoSource, L>>,
+    conn: ConnSeat<DemoSource, L>,
+) -> Option<(ConnSeat<DemoSource, L>, Seen)>
+    requires fills { All (IsFillSeatOf pool.now) fills.old.items }
+    requires conn { IsConnSeatOf pool.now conn }
+    ensures fills { All (IsFillSeatOf pool.now) fills.new.items }
+    ensures conn { IfSome result (λ used. IsConnSeatOf pool.now used.0) }
+{
+    let (conn, served) = serve_beside(rt, alloc, pool, fills, conn)?;
+    Some((conn, ended(&served)))
 }

@@ -87,12 +87,5 @@ pub fn want_many(alloc: Global) -> Option<Seen> {
     let refused = want_each(alloc, &mut table, &keys);
     window::end(alloc);
     let (led, _) = table.counts();
-    Some(match refused {
-        Some(0) => Seen::Answered.only_if(led == u64::from(MANY), "flights are missing"),
-        Some(refused) => Seen::Refused.only_if(
-            led.wrapping_add(refused) == u64::from(MANY),
-            "flights are missing",
-        ),
-        None => Seen::Wrong("a want does not fit"),
-    })
+    Some(Seen::of_many(MANY, refused, led))
 }

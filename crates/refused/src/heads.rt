@@ -81,6 +81,16 @@ fn wish(alloc: Global, text: &[u8]) -> Option<Result<Wish, AllocError>> {
     }
 }
 
+// What a wish was seen to be, where it has to be right in this way.
+fn wish_seen<F: FnOnce(Wish) -> bool>(alloc: Global, text: &[u8], is_right: F) -> Option<Seen>
+    requires { F.IsAlwaysCallable is_right }
+{
+    match wish(alloc, text)? {
+        Ok(wish) => Some(Seen::Answered.only_if(is_right(wish), "another wish")),
+        Err(AllocError) => Some(Seen::Refused),
+    }
+}
+
 // Whether a wish asks for the key `a` of `echo`.
 fn asks_for_a(wish: Wish) -> bool {
     let Wish { body, .. } = wish;
@@ -92,14 +102,8 @@ fn asks_for_a(wish: Wish) -> bool {
 
 /// `wish_of` a head with an escape.
 pub fn wish_escaped(alloc: Global) -> Option<Seen> {
-    let wish = wish(
-        alloc,
-        b"GET /_groupcache/echo/%61 HTTP/1.1\r\nHost: h\r\n\r\n",
-    )?;
-    Some(match wish {
-        Ok(wish) => Seen::Answered.only_if(asks_for_a(wish), "another wish"),
-        Err(AllocError) => Seen::Refused,
-    })
+    let text = b"GET /_groupcache/echo/%61 HTTP/1.1\r\nHost: h\r\n\r\n";
+    wish_seen(alloc, text, asks_for_a)
 }
 
 // Whether a fault says that there is no group of this name.
@@ -121,14 +125,8 @@ fn names_no_group(wish: Wish) -> bool {
 
 /// `wish_of` a head with the name of no group, whose fault keeps the name.
 pub fn wish_no_group(alloc: Global) -> Option<Seen> {
-    let wish = wish(
-        alloc,
-        b"GET /_groupcache/nope/a HTTP/1.1\r\nHost: h\r\n\r\n",
-    )?;
-    Some(match wish {
-        Ok(wish) => Seen::Answered.only_if(names_no_group(wish), "another wish"),
-        Err(AllocError) => Seen::Refused,
-    })
+    let text = b"GET /_groupcache/nope/a HTTP/1.1\r\nHost: h\r\n\r\n";
+    wish_seen(alloc, text, names_no_group)
 }
 
 /// `lane`.

@@ -13,14 +13,17 @@ mod refusing;
 mod seen;
 mod servers;
 mod sources;
+mod uses;
 mod views;
 mod window;
 mod without;
 
+use crate::connections::Alone;
 use crate::pools::Before;
 use crate::seen::Seen;
 use crate::servers::Which;
 use crate::sources::{ECHO, FILL, SQUARE};
+use crate::uses::{Call, over_pool};
 use crate::views::Set;
 use std::alloc::Global;
 use std::env;
@@ -62,6 +65,26 @@ fn see<
 >(rt: &H, name: &str) -> Option<Seen> {
     let alloc = rt.alloc();
     match name {
+        "pool_open" => pools::open_one(rt, alloc),
+        "ask_led" => over_pool(rt, alloc, Call::Ask(Before::Nothing)),
+        "ask_joined" => over_pool(rt, alloc, Call::Ask(Before::Ask)),
+        "ask_hit" => over_pool(rt, alloc, Call::Ask(Before::Fill)),
+        "run_worker" => over_pool(rt, alloc, Call::Work),
+        "refill" => over_pool(rt, alloc, Call::Refill),
+        "serve_serial" => connections::in_one_thread(alloc, Alone::Serial),
+        "serve_functional" => connections::in_one_thread(alloc, Alone::Functional),
+        "serve_connection" => over_pool(rt, alloc, Call::Connection),
+        "refused_once" => refusing::refused_once(rt, alloc),
+        "peer_server" => servers::server(rt, alloc, Which::Any),
+        "peer_server_first" => servers::server(rt, alloc, Which::First),
+        "without_pool" => without::pool(rt, alloc),
+        _ => see_view(alloc, name),
+    }
+}
+
+// The same for calls of views.
+fn see_view(alloc: Global, name: &str) -> Option<Seen> {
+    match name {
         "copy_of" => views::copy_of(alloc),
         "share" => views::share(alloc),
         "slice" => views::slice(alloc),
@@ -74,19 +97,12 @@ fn see<
         "view_sink_bytes" => views::view_sink(alloc, Set::Bytes),
         "view_sink_str" => views::view_sink(alloc, Set::Text),
         "view_sink_view" => views::view_sink(alloc, Set::View),
-        _ => see_source(rt, alloc, name),
+        _ => see_source(alloc, name),
     }
 }
 
 // The same for calls of sources, caches and flights.
-fn see_source<
-    H: AllocGlobal
-        + Net<Listener = TcpListener, Stream = TcpStream>
-        + Threads
-        + Wait
-        + Clock
-        + Sync,
->(rt: &H, alloc: Global, name: &str) -> Option<Seen> {
+fn see_source(alloc: Global, name: &str) -> Option<Seen> {
     match name {
         "fill_found" => sources::run(alloc, ECHO, b"k", b"k"),
         "fill_failed" => sources::run(alloc, SQUARE, b"x", b"not a number"),
@@ -99,19 +115,12 @@ fn see_source<
         "want_led" => flights::want_one(alloc, false),
         "want_joined" => flights::want_one(alloc, true),
         "want_many" => flights::want_many(alloc),
-        _ => see_head(rt, alloc, name),
+        _ => see_head(alloc, name),
     }
 }
 
 // The same for calls that take their memory at once.
-fn see_head<
-    H: AllocGlobal
-        + Net<Listener = TcpListener, Stream = TcpStream>
-        + Threads
-        + Wait
-        + Clock
-        + Sync,
->(rt: &H, alloc: Global, name: &str) -> Option<Seen> {
+fn see_head(alloc: Global, name: &str) -> Option<Seen> {
     match name {
         "head_buf" => heads::head_buf(alloc),
         "locate" => heads::locate_escaped(alloc),
@@ -119,38 +128,12 @@ fn see_head<
         "wish_of_no_group" => heads::wish_no_group(alloc),
         "lane" => heads::lane_new(alloc),
         "read_table" => heads::read_table(alloc),
-        _ => see_pool(rt, alloc, name),
-    }
-}
-
-// The same for pools and what stands on them.
-fn see_pool<
-    H: AllocGlobal
-        + Net<Listener = TcpListener, Stream = TcpStream>
-        + Threads
-        + Wait
-        + Clock
-        + Sync,
->(rt: &H, alloc: Global, name: &str) -> Option<Seen> {
-    match name {
-        "pool_open" => pools::open_one(rt, alloc),
-        "ask_led" => pools::ask(rt, alloc, Before::Nothing),
-        "ask_joined" => pools::ask(rt, alloc, Before::Ask),
-        "ask_hit" => pools::ask(rt, alloc, Before::Fill),
-        "run_worker" => pools::work(rt, alloc),
-        "refill" => pools::refill(rt, alloc),
-        "serve_serial" => connections::serial(alloc),
-        "serve_functional" => connections::functional(alloc),
-        "serve_connection" => connections::connection(rt, alloc),
-        "refused_once" => refusing::refused_once(rt, alloc),
-        "peer_server" => servers::server(rt, alloc, Which::Any),
-        "peer_server_first" => servers::server(rt, alloc, Which::First),
-        _ => see_without(rt, alloc, name),
+        _ => see_without(alloc, name),
     }
 }
 
 // The same for calls that take no memory.
-fn see_without<R: Wait>(rt: &R, alloc: Global, name: &str) -> Option<Seen> {
+fn see_without(alloc: Global, name: &str) -> Option<Seen> {
     match name {
         "without_views" => without::views(alloc),
         "without_sinks" => without::sinks(alloc),
@@ -160,7 +143,6 @@ fn see_without<R: Wait>(rt: &R, alloc: Global, name: &str) -> Option<Seen> {
         "without_heads" => without::heads(alloc),
         "without_replies" => without::replies(alloc),
         "without_flights" => without::flights(alloc),
-        "without_pool" => without::pool(rt, alloc),
         "without_lane" => without::lanes(alloc),
         _ => Some(Seen::Wrong("no such call")),
     }

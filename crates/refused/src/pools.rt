@@ -1,11 +1,11 @@
 //! Pools in one thread: how one is opened, asked and worked for.
-ghost use Rattle.std.specs.Prelude.{◌≡◌};
+ghost use Rattle.std.specs.Prelude.{◌≡◌, All};
 ghost use Rattle.peer_fill.specs.Pools.{IsConnSeatOf, IsFillSeatOf};
 
 use crate::seen::Seen;
-use crate::sources::{ECHO, fill_of, finds, seed};
+use crate::sources::{ECHO, fill_of, finds};
 use crate::window;
-use peer_fill::{ConnSeat, FillSeat, NoGate, OpenFault, Opened, Pool, Report, pop_conn, pop_fill};
+use peer_fill::{ConnSeat, FillSeat, OpenFault, Opened, Pool, Report};
 use peer_flight::{AskFault, Claim};
 use peer_source::{DemoSource, Fill, Outcome};
 use peer_view::ByteView;
@@ -13,6 +13,7 @@ use std::alloc::{AllocError, Global};
 use std::marker::Brand;
 use std::sync::Wait;
 use std::sync::ledger::{Blank, Ledger};
+use test_sources::{ask_for, do_jobs, seed};
 
 /// How many bytes the caches of a pool keep here.
 pub const CACHE_BYTES: u64 = 1000;
@@ -64,8 +65,8 @@ pub enum Before {
     Fill,
 }
 
-// What a seat counted.
-fn counts<L: Ledger>(seat: &ConnSeat<DemoSource, L>) -> [u64; 4] {
+/// What a seat counted.
+pub fn counts<L: Ledger>(seat: &ConnSeat<DemoSource, L>) -> [u64; 4] {
     [seat.asked(), seat.hits(), seat.led(), seat.joined()]
 }
 
@@ -78,90 +79,78 @@ fn usual_counts(before: Before) -> [u64; 4] {
     }
 }
 
-// Asks for the key `k`.
-fn ask_for_k<L: Ledger, R: Wait>(
-    rt: &R,
-    alloc: Global,
-    pool: &Pool<DemoSource, L>,
-    seat: &mut ConnSeat<DemoSource, L>,
-) -> Option<()>
-    requires { IsConnSeatOf pool.now seat.old }
-    ensures { IsConnSeatOf pool.now seat.new }
-{
-    let key = ByteView::copy_of(alloc, b"k").ok()?;
-    match pool.ask(rt, alloc, seat, ECHO, key) {
-        Ok(_claim) => Some(()),
-        Err(_) => None,
-    }
-}
-
 // Does what comes before the ask whose growths are counted.
 fn go_before<L: Ledger, R: Wait>(
     rt: &R,
     alloc: Global,
     pool: &Pool<DemoSource, L>,
+    fills: &mut Vec<FillSeat<DemoSource, L>>,
     seat: &mut ConnSeat<DemoSource, L>,
-    fill: FillSeat<DemoSource, L>,
     before: Before,
 ) -> Option<()>
+    requires fills { All (IsFillSeatOf pool.now) fills.old.items }
     requires seat { IsConnSeatOf pool.now seat.old }
-    requires fill { IsFillSeatOf pool.now fill }
-    ensures { IsConnSeatOf pool.now seat.new }
+    ensures fills { All (IsFillSeatOf pool.now) fills.new.items }
+    ensures seat { IsConnSeatOf pool.now seat.new }
 {
     match before {
         Before::Nothing => Some(()),
-        Before::Ask => ask_for_k(rt, alloc, pool, seat),
-        Before::Fill => {
-            ask_for_k(rt, alloc, pool, seat)?;
-            pool.stop();
-            let _done = pool.run_worker(rt, alloc, fill, &NoGate);
+        Before::Ask => {
+            ask_for(rt, alloc, pool, seat, b"k")?;
             Some(())
+        }
+        Before::Fill => {
+            ask_for(rt, alloc, pool, seat, b"k")?;
+            pool.stop();
+            do_jobs(rt, alloc, pool, fills)
         }
     }
 }
 
-// `Pool::ask`, in a ledger. Where it is refused, the same ask is then what it would have been.
-fn ask_in<L: Ledger, R: Wait>(rt: &R, alloc: Global, before: Before, blank: Blank) -> Option<Seen>
-    requires name { blank.name ≡ L.name }
-    requires parts { (blank.parts ≡ L.parts) × (blank.parts ≡ 16) }
+// Asks with growths counted. Where it is refused, the same ask is then what it would have been.
+fn ask_counted<L: Ledger, R: Wait>(
+    rt: &R,
+    alloc: Global,
+    pool: &Pool<DemoSource, L>,
+    seat: &mut ConnSeat<DemoSource, L>,
+) -> Option<Seen>
+    requires { IsConnSeatOf pool.now seat.old }
+    ensures { IsConnSeatOf pool.now seat.new }
 {
-    let opened = Pool::<DemoSource, L>::open(alloc, DemoSource, CACHE_BYTES, seed()?, 1, 1, blank);
-    let Ok(
-        Opened {
-            pool,
-            mut fills,
-            mut conns,
-        },
-    ) = opened
-    else {
-        return None;
-    };
-    let mut seat = pop_conn(&pool, &mut conns)?;
-    let fill = pop_fill(&pool, &mut fills)?;
-    go_before(rt, alloc, &pool, &mut seat, fill, before)?;
     let key = ByteView::copy_of(alloc, b"k").ok()?;
-    let counted = counts(&seat);
+    let counted = counts(seat);
     window::begin(alloc);
-    let asked = pool.ask(rt, alloc, &mut seat, ECHO, key);
+    let asked = pool.ask(rt, alloc, seat, ECHO, key);
     window::end(alloc);
-    let seen = match asked {
-        Ok(claim) => Seen::Answered.only_if(claim.key().eq_bytes(b"k"), "another key"),
+    match asked {
+        Ok(claim) => Some(Seen::Answered.only_if(claim.key().eq_bytes(b"k"), "another key")),
         Err(AskFault::Memory) => {
-            let same = counts(&seat) == counted;
-            ask_for_k(rt, alloc, &pool, &mut seat)?;
-            Seen::Refused.only_if(same, "the seat counted")
+            let same = counts(seat) == counted;
+            ask_for(rt, alloc, pool, seat, b"k")?;
+            Some(Seen::Refused.only_if(same, "the seat counted"))
         }
-        Err(AskFault::Worn) => Seen::Wrong("worn"),
-    };
-    Some(seen.only_if(
-        counts(&seat) == usual_counts(before),
-        "the counts do not fit",
-    ))
+        Err(AskFault::Worn) => Some(Seen::Wrong("worn")),
+    }
 }
 
-/// `Pool::ask`.
-pub fn ask<R: Wait>(rt: &R, alloc: Global, before: Before) -> Option<Seen> {
-    ask_in::<Brand, R>(rt, alloc, before, Blank::new(16))
+/// `Pool::ask` behind what comes before it.
+pub fn ask<L: Ledger, R: Wait>(
+    rt: &R,
+    alloc: Global,
+    pool: &Pool<DemoSource, L>,
+    fills: &mut Vec<FillSeat<DemoSource, L>>,
+    seat: &mut ConnSeat<DemoSource, L>,
+    before: Before,
+) -> Option<Seen>
+    requires fills { All (IsFillSeatOf pool.now) fills.old.items }
+    requires seat { IsConnSeatOf pool.now seat.old }
+    ensures fills { All (IsFillSeatOf pool.now) fills.new.items }
+    ensures seat { IsConnSeatOf pool.now seat.new }
+{
+    go_before(rt, alloc, pool, fills, seat, before)?;
+    let seen = ask_counted(rt, alloc, pool, seat)?;
+    let usual = counts(seat) == usual_counts(before);
+    Some(seen.only_if(usual, "the counts do not fit"))
 }
 
 // What a claim's fill is, where it is there.
@@ -182,79 +171,50 @@ fn made(fill: &Fill<DemoSource>) -> Seen {
     }
 }
 
-// `Pool::run_worker`, in a ledger. The pool can be closed, and its report is of one call.
-fn work_in<L: Ledger, R: Wait>(rt: &R, alloc: Global, blank: Blank) -> Option<Seen>
-    requires name { blank.name ≡ L.name }
-    requires parts { (blank.parts ≡ L.parts) × (blank.parts ≡ 16) }
+/// `Pool::run_worker` with one job.
+pub fn work<L: Ledger, R: Wait>(
+    rt: &R,
+    alloc: Global,
+    pool: &Pool<DemoSource, L>,
+    fills: &mut Vec<FillSeat<DemoSource, L>>,
+    seat: &mut ConnSeat<DemoSource, L>,
+) -> Option<Seen>
+    requires fills { All (IsFillSeatOf pool.now) fills.old.items }
+    requires seat { IsConnSeatOf pool.now seat.old }
+    ensures fills { All (IsFillSeatOf pool.now) fills.new.items }
+    ensures seat { IsConnSeatOf pool.now seat.new }
 {
-    let opened = Pool::<DemoSource, L>::open(alloc, DemoSource, CACHE_BYTES, seed()?, 1, 1, blank);
-    let Ok(
-        Opened {
-            pool,
-            mut fills,
-            mut conns,
-        },
-    ) = opened
-    else {
-        return None;
-    };
-    let mut seat = pop_conn(&pool, &mut conns)?;
-    let fill = pop_fill(&pool, &mut fills)?;
-    let key = ByteView::copy_of(alloc, b"k").ok()?;
-    let claim = pool.ask(rt, alloc, &mut seat, ECHO, key).ok()?;
+    let claim = ask_for(rt, alloc, pool, seat, b"k")?;
     pool.stop();
     window::begin(alloc);
-    let fill = pool.run_worker(rt, alloc, fill, &NoGate);
+    let done = do_jobs(rt, alloc, pool, fills);
     window::end(alloc);
-    let seen = fill_seen(&claim);
-    let Ok(()) = fills.push(fill) else {
-        return None;
-    };
-    let Ok(()) = conns.push(seat) else {
-        return None;
-    };
-    let report = pool.close(rt, fills, conns).ok()?;
-    let one = report.led == 1 && report.calls == 1 && report.left == 0;
-    Some(seen.only_if(one && adds_up(&report), "the report does not fit"))
+    done.map(|()| fill_seen(&claim))
 }
 
-/// `Pool::run_worker`.
-pub fn work<R: Wait>(rt: &R, alloc: Global) -> Option<Seen> {
-    work_in::<Brand, R>(rt, alloc, Blank::new(16))
+// What a refill gave.
+fn refill_seen(refilled: Result<Option<Fill<DemoSource>>, AllocError>) -> Seen {
+    match refilled {
+        Ok(Some(fill)) => made(&fill).only_if(fill.key().eq_bytes(b"k"), "another key"),
+        Ok(None) => Seen::Wrong("another key's fill was taken"),
+        Err(AllocError) => Seen::Refused,
+    }
 }
 
-// `Pool::refill` of a fill of another key, in a ledger.
-fn refill_in<L: Ledger, R: Wait>(rt: &R, alloc: Global, blank: Blank) -> Option<Seen>
-    requires name { blank.name ≡ L.name }
-    requires parts { (blank.parts ≡ L.parts) × (blank.parts ≡ 16) }
+/// `Pool::refill` of a fill of another key.
+pub fn refill<L: Ledger, R: Wait>(
+    rt: &R,
+    alloc: Global,
+    pool: &Pool<DemoSource, L>,
+    seat: &mut ConnSeat<DemoSource, L>,
+) -> Option<Seen>
+    requires { IsConnSeatOf pool.now seat.old }
+    ensures { IsConnSeatOf pool.now seat.new }
 {
-    let opened = Pool::<DemoSource, L>::open(alloc, DemoSource, CACHE_BYTES, seed()?, 1, 1, blank);
-    let Ok(
-        Opened {
-            pool,
-            fills: _,
-            mut conns,
-        },
-    ) = opened
-    else {
-        return None;
-    };
-    let mut seat = pop_conn(&pool, &mut conns)?;
-    let key = ByteView::copy_of(alloc, b"k").ok()?;
-    let claim = pool.ask(rt, alloc, &mut seat, ECHO, key).ok()?;
+    let claim = ask_for(rt, alloc, pool, seat, b"k")?;
     let other = fill_of(alloc, ECHO, b"other")?;
     window::begin(alloc);
     let refilled = pool.refill(alloc, &claim, &other);
     window::end(alloc);
-    let seen = match refilled {
-        Ok(Some(fill)) => made(&fill).only_if(fill.key().eq_bytes(b"k"), "another key"),
-        Ok(None) => Seen::Wrong("another key's fill was taken"),
-        Err(AllocError) => Seen::Refused,
-    };
-    Some(seen.only_if(finds(&other, b"other"), "the other fill changed"))
-}
-
-/// `Pool::refill` of a fill of another key.
-pub fn refill<R: Wait>(rt: &R, alloc: Global) -> Option<Seen> {
-    refill_in::<Brand, R>(rt, alloc, Blank::new(16))
+    Some(refill_seen(refilled).only_if(finds(&other, b"other"), "the other fill changed"))
 }

@@ -3,7 +3,6 @@
 use crate::connections::{THREE, THREE_REPLIES, is_whole};
 use crate::pools::{CACHE_BYTES, adds_up};
 use crate::seen::Seen;
-use crate::sources::seed;
 use crate::window;
 use peer_fill::{OpenFault, Report};
 use peer_socket::{ServerFault, peer_server};
@@ -14,6 +13,7 @@ use std::net::{Net, Shutdown, TcpListener, TcpStream};
 use std::sync::Wait;
 use std::thread::Threads;
 use std::time::{Clock, Duration};
+use test_sources::seed;
 
 // How many seconds the client waits at most.
 const PATIENCE: u64 = 30;

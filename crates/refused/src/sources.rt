@@ -2,12 +2,10 @@
 
 use crate::seen::Seen;
 use crate::window;
-use peer_source::{DemoSource, Fill, GroupId, MainCache, Outcome};
+use peer_source::{DemoSource, Fill, GroupId, MainCache, Outcome, Source};
 use peer_view::ByteView;
 use std::alloc::{AllocError, Global};
-use std::hash::RandomState;
-use std::io;
-use std::random::RandomSource;
+use test_sources::seed;
 
 /// The group whose values are the keys.
 pub const ECHO: GroupId = GroupId { number: 0 };
@@ -17,21 +15,6 @@ pub const SQUARE: GroupId = GroupId { number: 1 };
 
 /// The group of so many letters.
 pub const FILL: GroupId = GroupId { number: 2 };
-
-// Gives zeros, so that each run has the same seed.
-struct Zeros;
-
-impl RandomSource for Zeros {
-    fn fill_bytes(&self, buf: &mut [u8]) -> io::Result<()> {
-        buf.fill(0);
-        Ok(())
-    }
-}
-
-/// The seed of caches.
-pub fn seed() -> Option<RandomState> {
-    RandomState::new(&Zeros).ok()
-}
 
 /// A fill, where memory is there.
 pub fn fill_of(alloc: Global, group: GroupId, key: &[u8]) -> Option<Fill<DemoSource>> {
@@ -45,7 +28,7 @@ pub fn fill_of(alloc: Global, group: GroupId, key: &[u8]) -> Option<Fill<DemoSou
 }
 
 /// Whether a fill found this value.
-pub fn finds(fill: &Fill<DemoSource>, value: &[u8]) -> bool {
+pub fn finds<S: Source>(fill: &Fill<S>, value: &[u8]) -> bool {
     match fill.outcome() {
         Outcome::Found(found) => found.eq_bytes(value),
         _ => false,
@@ -196,13 +179,5 @@ pub fn cache_grows(alloc: Global) -> Option<Seen> {
     window::begin(alloc);
     let refused = add_many(&mut cache, &fills, &mut evicted);
     window::end(alloc);
-    let whole = cache.len() as u64;
-    Some(match refused {
-        Some(0) => Seen::Answered.only_if(whole == u64::from(MANY), "entries are missing"),
-        Some(refused) => Seen::Refused.only_if(
-            whole.wrapping_add(refused) == u64::from(MANY),
-            "entries are missing",
-        ),
-        None => Seen::Wrong("the counts do not fit"),
-    })
+    Some(Seen::of_many(MANY, refused, cache.len() as u64))
 }

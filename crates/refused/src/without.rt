@@ -1,14 +1,15 @@
 //! Calls that promise to take no memory. Each is made with all growths refused.
-ghost use Rattle.std.specs.Prelude.{◌≡◌};
+ghost use Rattle.peer_fill.specs.Pools.{IsConnSeatOf};
 
 use crate::connections::{FIRST_REPLY, THREE};
 use crate::heads::reader_of;
-use crate::pools::{CACHE_BYTES, adds_up};
+use crate::pools::counts;
 use crate::seen::Seen;
-use crate::sources::{ECHO, cache_with, fill_of, finds, seed};
+use crate::sources::{ECHO, cache_with, fill_of, finds};
+use crate::uses::{Call, over_pool};
 use crate::window;
 use bytes::Bytes;
-use peer_fill::{Opened, Pool, pop_conn};
+use peer_fill::{ConnSeat, Pool};
 use peer_flight::{Ask, Table};
 use peer_head::{FieldPlaces, HeadBuf, Look};
 use peer_lane::{Body, Ticket, beside, lane};
@@ -16,10 +17,11 @@ use peer_path::locate;
 use peer_reply::{Fault, HeadRoom, Reply, read_response};
 use peer_source::{DemoSource, Fill, Names, Source};
 use peer_view::{AllocSink, ByteView, MemReader, MemWriter, PeerRead, TruncSink, ViewSink};
-use std::alloc::Global;
-use std::marker::Brand;
+use std::alloc::{AllocError, Global};
 use std::sync::Wait;
-use std::sync::ledger::{Blank, Ledger};
+use std::sync::ledger::Ledger;
+use std::thread::Threads;
+use test_sources::ask_for;
 
 const TEXT: &[u8] = b"what was there";
 
@@ -170,7 +172,8 @@ fn is_reply(reply: &Reply<'_>, text: &[u8]) -> bool {
 }
 
 const NO_KEY: &[u8] =
-    b"HTTP/1.1 400 Bad Request\r\nContent-Type: text/plain; charset=utf-8\r\nX-Content-Type-Options: nosniff\r\nContent-Length: 12\r\n\r\nbad request\n";
+    b"HTTP/1.1 400 Bad Request\r\nContent-Type: text/plain; charset=utf-8\r\nX-Content-Type-Options: nosniff\r\n\
+    Content-Length: 12\r\n\r\nbad request\n";
 
 // Whether the reply to a fault is this text.
 fn tells(room: &mut HeadRoom, fault: &Fault, text: &[u8]) -> bool {
@@ -229,57 +232,40 @@ pub fn flights(alloc: Global) -> Option<Seen> {
     all(&[empty, none, own, put.kept, found, named, open, landed])
 }
 
-// The calls of a pool that was asked once, in a ledger.
-fn pool_in<L: Ledger, R: Wait>(rt: &R, alloc: Global, blank: Blank) -> Option<Seen>
-    requires name { blank.name ≡ L.name }
-    requires parts { (blank.parts ≡ L.parts) × (blank.parts ≡ 16) }
+// Whether no other fill was needed.
+fn is_enough(refilled: Result<Option<Fill<DemoSource>>, AllocError>) -> bool {
+    match refilled {
+        Ok(None) => true,
+        _ => false,
+    }
+}
+
+/// The calls of a pool that was asked once. Growths are counted on behind them.
+pub fn calls<L: Ledger, R: Wait>(
+    rt: &R,
+    alloc: Global,
+    pool: &Pool<DemoSource, L>,
+    seat: &mut ConnSeat<DemoSource, L>,
+) -> Option<Seen>
+    requires { IsConnSeatOf pool.now seat.old }
+    ensures { IsConnSeatOf pool.now seat.new }
 {
-    let opened = Pool::<DemoSource, L>::open(alloc, DemoSource, CACHE_BYTES, seed()?, 1, 1, blank);
-    let Ok(
-        Opened {
-            pool,
-            fills,
-            mut conns,
-        },
-    ) = opened
-    else {
-        return None;
-    };
-    let mut seat = pop_conn(&pool, &mut conns)?;
-    let key = ByteView::copy_of(alloc, b"k").ok()?;
-    let claim = pool.ask(rt, alloc, &mut seat, ECHO, key).ok()?;
-    let fill = fill_of(alloc, ECHO, b"k")?;
+    let claim = ask_for(rt, alloc, pool, seat, b"k")?;
+    let own = fill_of(alloc, ECHO, b"k")?;
     window::begin(alloc);
     pool.stop();
     let named = pool.source().group(b"echo") == Some(ECHO);
-    let own = match pool.refill(alloc, &claim, &fill) {
-        Ok(None) => true,
-        _ => false,
-    };
+    let refilled = is_enough(pool.refill(alloc, &claim, &own));
     seat.add_strangers(1);
-    let counted = [
-        seat.asked(),
-        seat.hits(),
-        seat.led(),
-        seat.joined(),
-        seat.strangers(),
-    ];
-    let Ok(()) = conns.push(seat) else {
-        return None;
-    };
-    let report = pool.close(rt, fills, conns).ok()?;
-    window::end(alloc);
-    all(&[
-        named,
-        own,
-        counted == [1, 0, 1, 0, 1],
-        adds_up(&report) && report.left == 1,
-    ])
+    let counted = counts(seat) == [1, 0, 1, 0] && seat.strangers() == 1;
+    all(&[named, refilled, counted])
 }
 
-/// The calls of a pool.
-pub fn pool<R: Wait>(rt: &R, alloc: Global) -> Option<Seen> {
-    pool_in::<Brand, R>(rt, alloc, Blank::new(16))
+/// The calls of a pool, with the one that closes it.
+pub fn pool<H: Threads + Wait + Sync>(rt: &H, alloc: Global) -> Option<Seen> {
+    let seen = over_pool(rt, alloc, Call::Without);
+    window::end(alloc);
+    seen
 }
 
 // Whether a ticket was put.

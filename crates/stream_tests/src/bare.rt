@@ -17,23 +17,28 @@ fn heads_get_no_content(rt: HostRuntime) -> Result<(), Fail> {
         ),
         (
             b"HEAD /_groupcache/square/x HTTP/1.1\r\nHost: h\r\n\r\n",
-            b"HTTP/1.1 500 Internal Server Error\r\nContent-Type: text/plain; charset=utf-8\r\nX-Content-Type-Options: nosniff\r\nContent-Length: 13\r\n\r\n",
+            b"HTTP/1.1 500 Internal Server Error\r\nContent-Type: text/plain; charset=utf-8\r\nX-Content-Type-Options: nosniff\r\n\
+            Content-Length: 13\r\n\r\n",
         ),
         (
             b"HEAD /other HTTP/1.1\r\nHost: h\r\n\r\n",
-            b"HTTP/1.1 404 Not Found\r\nContent-Type: text/plain; charset=utf-8\r\nX-Content-Type-Options: nosniff\r\nContent-Length: 19\r\n\r\n",
+            b"HTTP/1.1 404 Not Found\r\nContent-Type: text/plain; charset=utf-8\r\nX-Content-Type-Options: nosniff\r\n\
+            Content-Length: 19\r\n\r\n",
         ),
         (
             b"HEAD /_groupcache/nope/k HTTP/1.1\r\nHost: h\r\n\r\n",
-            b"HTTP/1.1 404 Not Found\r\nContent-Type: text/plain; charset=utf-8\r\nX-Content-Type-Options: nosniff\r\nContent-Length: 20\r\n\r\n",
+            b"HTTP/1.1 404 Not Found\r\nContent-Type: text/plain; charset=utf-8\r\nX-Content-Type-Options: nosniff\r\n\
+            Content-Length: 20\r\n\r\n",
         ),
         (
             b"HEAD /_groupcache/echo/k HTTP/1.1\r\n\r\n",
-            b"HTTP/1.1 400 Bad Request\r\nContent-Type: text/plain; charset=utf-8\r\nX-Content-Type-Options: nosniff\r\nContent-Length: 9\r\nConnection: close\r\n\r\n",
+            b"HTTP/1.1 400 Bad Request\r\nContent-Type: text/plain; charset=utf-8\r\nX-Content-Type-Options: nosniff\r\n\
+            Content-Length: 9\r\nConnection: close\r\n\r\n",
         ),
         (
             b"HEAD / HTTP/1.1\r\nHost: h\r\nTransfer-Encoding: chunked\r\n\r\n",
-            b"HTTP/1.1 501 Not Implemented\r\nContent-Type: text/plain; charset=utf-8\r\nX-Content-Type-Options: nosniff\r\nContent-Length: 30\r\nConnection: close\r\n\r\n",
+            b"HTTP/1.1 501 Not Implemented\r\nContent-Type: text/plain; charset=utf-8\r\nX-Content-Type-Options: nosniff\r\n\
+            Content-Length: 30\r\nConnection: close\r\n\r\n",
         ),
         (
             b"head /_groupcache/echo/k HTTP/1.1\r\nHost: h\r\n\r\n",
@@ -51,7 +56,8 @@ fn the_reply_behind_a_bare_one_has_its_content(rt: HostRuntime) -> Result<(), Fa
     demand_all_ways(
         &rt,
         b"HEAD /_groupcache/echo/k HTTP/1.1\r\nHost: h\r\n\r\nGET /_groupcache/echo/k HTTP/1.1\r\nHost: h\r\n\r\n",
-        b"HTTP/1.1 200 OK\r\nContent-Type: application/x-protobuf\r\nContent-Length: 3\r\n\r\nHTTP/1.1 200 OK\r\nContent-Type: application/x-protobuf\r\nContent-Length: 3\r\n\r\n\x0A\x01k",
+        b"HTTP/1.1 200 OK\r\nContent-Type: application/x-protobuf\r\nContent-Length: 3\r\n\r\nHTTP/1.1 200 OK\r\n\
+        Content-Type: application/x-protobuf\r\nContent-Length: 3\r\n\r\n\x0A\x01k",
         End::Clean,
     )?;
     Ok(())
@@ -62,7 +68,8 @@ fn a_broken_head_of_that_method_has_its_content(rt: HostRuntime) -> Result<(), F
     demand_all_ways(
         &rt,
         b"HEAD /_groupcache/echo/k HTTP/1.1\nHost: h\r\n\r\n",
-        b"HTTP/1.1 400 Bad Request\r\nContent-Type: text/plain; charset=utf-8\r\nX-Content-Type-Options: nosniff\r\nContent-Length: 9\r\nConnection: close\r\n\r\nbad head\n",
+        b"HTTP/1.1 400 Bad Request\r\nContent-Type: text/plain; charset=utf-8\r\nX-Content-Type-Options: nosniff\r\n\
+        Content-Length: 9\r\nConnection: close\r\n\r\nbad head\n",
         End::Clean,
     )?;
     Ok(())

@@ -1,25 +1,20 @@
 //! How often a source is called under a connection, and when.
-ghost use Rattle.std.specs.Prelude.{Some};
 
+use crate::ends::{TWO, TWO_REPLIES};
 use crate::ordered::Holding;
 use crate::pooled::{Devices, Pooled, Setup, serve_pooled};
 use crate::runs::{READS, whole};
-use crate::sources::{Watch, Watched};
+use crate::sources::{Watch, watched_demo};
 use crate::steps::Step;
+use crate::tellers::{ActingWriter, Telling};
 use peer_conn::End;
 use peer_fill::{Gate, NoGate};
-use peer_view::{MemReader, MemWriter, PeerWrite, WriteFailed};
+use peer_view::{MemReader, MemWriter};
 use std::alloc::{AllocError, Global};
 use std::sync::Wait;
 use std::sync::atomic::Ordering::SeqCst;
 use std::test::Fail;
 use std::thread::Threads;
-
-const TWO: &[u8] =
-    b"GET /_groupcache/echo/a HTTP/1.1\r\nHost: h\r\n\r\nGET /_groupcache/echo/b HTTP/1.1\r\nHost: h\r\n\r\n";
-
-const TWO_REPLIES: &[u8] =
-    b"HTTP/1.1 200 OK\r\nContent-Type: application/x-protobuf\r\nContent-Length: 3\r\n\r\n\x0A\x01aHTTP/1.1 200 OK\r\nContent-Type: application/x-protobuf\r\nContent-Length: 3\r\n\r\n\x0A\x01b";
 
 // How often the source was called, how often the report says so, and how often the pool was asked.
 #[derive(Clone, Copy, Debug, PartialEq, Eq)]
@@ -51,12 +46,8 @@ fn counts_of<G: Gate, H: Threads + Wait + Sync>(
     text: &[u8],
 ) -> Result<Option<Counts>, AllocError> {
     let watch = Watch::new();
-    let source = Watched {
-        watch: &watch,
-        patient: false,
-    };
     let setup = Setup {
-        source,
+        source: watched_demo(&watch, false),
         cache_bytes,
         workers: 2,
         gate,
@@ -103,46 +94,27 @@ fn a_hot_key_is_called_for_as_the_report_says(rt: HostRuntime) -> Result<(), Fai
     Ok(())
 }
 
-// Tells of its first write.
-#[derive(Drop)]
-struct TellingWriter<'a> {
-    writer: MemWriter,
-    watch: &'a Watch,
-}
-
-impl<'a> PeerWrite for TellingWriter<'a> {
-    ghost taken = { λ w. Some w.writer.taken };
-
-    ghost failures = { λ w. w.writer.failures };
-
-    fn write(&mut self, bytes: &[u8]) -> Result<usize, WriteFailed> {
-        self.watch.first_reply.tell();
-        self.writer.write(bytes)
-    }
-}
-
 #[test]
 fn a_reply_is_written_before_a_later_fill_is_there(rt: HostRuntime) -> Result<(), Fail> {
     let watch = Watch::new();
     let setup = Setup {
-        source: Watched {
-            watch: &watch,
-            patient: true,
-        },
+        source: watched_demo(&watch, true),
         cache_bytes: 0,
         workers: 1,
         gate: &NoGate,
     };
     let devices = Devices {
         reader: MemReader::new(whole(rt.alloc(), TWO)?, false),
-        writer: TellingWriter {
+        writer: ActingWriter {
             writer: MemWriter::new(rt.alloc(), 65_536, None),
-            watch: &watch,
+            before: Telling {
+                step: &watch.first_reply,
+            },
         },
         reads: READS,
     };
     let run = serve_pooled(&rt, rt.alloc(), setup, devices);
-    let same = run.map(|run| run.served.writer.writer.taken() == TWO_REPLIES);
+    let same = run.map(|run| run.served.writer.writer.taken() == TWO_REPLIES.as_slice());
     assert_eq!(rt;
         (same, watch.first_reply.has_expired()),
         (Some(true), false)

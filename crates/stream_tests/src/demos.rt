@@ -3,7 +3,7 @@
 use crate::pooled::{Devices, Pooled, Setup, serve_pooled};
 use crate::runs::READS;
 use peer_conn::End;
-use peer_fill::NoGate;
+use peer_fill::{Gate, NoGate};
 use peer_source::DemoSource;
 use peer_view::{MemReader, MemWriter};
 use std::alloc::Global;
@@ -20,33 +20,40 @@ pub fn demo(workers: usize, cache_bytes: u64) -> Setup<'static, DemoSource, NoGa
     }
 }
 
-/// A connection whose reader gives these pieces and then fails or tells its end.
+/// A pool of two workers without a cache, behind a gate.
+pub fn gated<G: Gate>(gate: &G) -> Setup<'_, DemoSource, G> {
+    Setup {
+        source: DemoSource,
+        cache_bytes: 0,
+        workers: 2,
+        gate,
+    }
+}
+
+/// The device of a connection that fails: none, the reader behind its pieces, or the writer at a limit.
+#[derive(Clone, Copy)]
+pub enum Failing {
+    Nothing,
+    Reader,
+    Writer(usize),
+}
+
+/// A connection whose reader gives these pieces.
 pub fn over_pieces<H: Threads + Wait + Sync>(
     rt: &H,
     alloc: Global,
     setup: Setup<'_, DemoSource, NoGate>,
     pieces: Vec<Vec<u8>>,
-    fails: bool,
+    failing: Failing,
 ) -> Option<Pooled<MemReader, MemWriter>> {
+    let (fails, limit) = match failing {
+        Failing::Nothing => (false, None),
+        Failing::Reader => (true, None),
+        Failing::Writer(limit) => (false, Some(limit)),
+    };
     let devices = Devices {
         reader: MemReader::new(pieces, fails),
-        writer: MemWriter::new(alloc, 65_536, None),
-        reads: READS,
-    };
-    serve_pooled(rt, alloc, setup, devices)
-}
-
-/// The same with a writer that fails at a limit.
-pub fn over_pieces_into<H: Threads + Wait + Sync>(
-    rt: &H,
-    alloc: Global,
-    setup: Setup<'_, DemoSource, NoGate>,
-    pieces: Vec<Vec<u8>>,
-    limit: usize,
-) -> Option<Pooled<MemReader, MemWriter>> {
-    let devices = Devices {
-        reader: MemReader::new(pieces, false),
-        writer: MemWriter::new(alloc, 4096, Some(limit)),
+        writer: MemWriter::new(alloc, 65_536, limit),
         reads: READS,
     };
     serve_pooled(rt, alloc, setup, devices)

@@ -6,13 +6,25 @@ use peer_conn::End;
 use std::alloc::{AllocError, Global};
 use std::test::Fail;
 
+/// Two requests of 45 bytes.
+pub const TWO: &[u8; 90] =
+    b"GET /_groupcache/echo/a HTTP/1.1\r\nHost: h\r\n\r\nGET /_groupcache/echo/b HTTP/1.1\r\nHost: h\r\n\r\n";
+
+/// Their replies, of 79 bytes each.
+pub const TWO_REPLIES: &[u8; 158] =
+    b"HTTP/1.1 200 OK\r\nContent-Type: application/x-protobuf\r\nContent-Length: 3\r\n\r\n\x0A\x01aHTTP/1.1 200 OK\r\n\
+    Content-Type: application/x-protobuf\r\nContent-Length: 3\r\n\r\n\x0A\x01b";
+
 /// Three requests of 45 bytes.
 pub const THREE: &[u8; 135] =
-    b"GET /_groupcache/echo/a HTTP/1.1\r\nHost: h\r\n\r\nGET /_groupcache/echo/b HTTP/1.1\r\nHost: h\r\n\r\nGET /_groupcache/echo/c HTTP/1.1\r\nHost: h\r\n\r\n";
+    b"GET /_groupcache/echo/a HTTP/1.1\r\nHost: h\r\n\r\nGET /_groupcache/echo/b HTTP/1.1\r\nHost: h\r\n\r\n\
+    GET /_groupcache/echo/c HTTP/1.1\r\nHost: h\r\n\r\n";
 
 /// Their replies, of 79 bytes each.
 pub const THREE_REPLIES: &[u8; 237] =
-    b"HTTP/1.1 200 OK\r\nContent-Type: application/x-protobuf\r\nContent-Length: 3\r\n\r\n\x0A\x01aHTTP/1.1 200 OK\r\nContent-Type: application/x-protobuf\r\nContent-Length: 3\r\n\r\n\x0A\x01bHTTP/1.1 200 OK\r\nContent-Type: application/x-protobuf\r\nContent-Length: 3\r\n\r\n\x0A\x01c";
+    b"HTTP/1.1 200 OK\r\nContent-Type: application/x-protobuf\r\nContent-Length: 3\r\n\r\n\x0A\x01aHTTP/1.1 200 OK\r\n\
+    Content-Type: application/x-protobuf\r\nContent-Length: 3\r\n\r\n\x0A\x01bHTTP/1.1 200 OK\r\n\
+    Content-Type: application/x-protobuf\r\nContent-Length: 3\r\n\r\n\x0A\x01c";
 
 // A text in three pieces, or in its shorter parts where the places are past its end.
 fn thirds(

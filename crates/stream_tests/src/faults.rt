@@ -40,7 +40,9 @@ fn the_fault_is_written_out(rt: HostRuntime) -> Result<(), Fail> {
     assert_eq!(rt; reply.len(), 134);
     assert_eq!(rt;
         reply.as_slice(),
-        b"HTTP/1.1 400 Bad Request\r\nContent-Type: text/plain; charset=utf-8\r\nX-Content-Type-Options: nosniff\r\nContent-Length: 12\r\n\r\nbad request\n".as_slice()
+        b"HTTP/1.1 400 Bad Request\r\nContent-Type: text/plain; charset=utf-8\r\nX-Content-Type-Options: nosniff\r\n\
+        Content-Length: 12\r\n\r\nbad request\n"
+            .as_slice()
     );
     Ok(())
 }
@@ -67,29 +69,28 @@ fn a_key_is_needed(rt: HostRuntime) -> Result<(), Fail> {
 }
 
 #[test]
-fn groups_are_those_of_the_source(rt: HostRuntime) -> Result<(), Fail> {
-    for (target, text) in [
-        ("/_groupcache/nope/k", "no such group: nope"),
-        ("/_groupcache//k", "no such group: "),
-        ("/_groupcache/a%2Fb/c", "no such group: a"),
-        ("/_groupcache", "404 page not found"),
-        ("HTTP://h", "404 page not found"),
-        ("/other", "404 page not found"),
+fn targets_and_groups_are_judged(rt: HostRuntime) -> Result<(), Fail> {
+    for (target, status, text) in [
+        (
+            "/_groupcache/nope/k",
+            "404 Not Found",
+            "no such group: nope",
+        ),
+        ("/_groupcache//k", "404 Not Found", "no such group: "),
+        ("/_groupcache/a%2Fb/c", "404 Not Found", "no such group: a"),
+        ("/_groupcache", "404 Not Found", "404 page not found"),
+        ("HTTP://h", "404 Not Found", "404 page not found"),
+        ("/other", "404 Not Found", "404 page not found"),
+        ("/_groupcache/echo/%G1", "400 Bad Request", "bad escape"),
+        ("/other%2", "400 Bad Request", "bad escape"),
+        (
+            "https://h/_groupcache/echo/k",
+            "400 Bad Request",
+            "bad target",
+        ),
+        ("*", "400 Bad Request", "bad target"),
     ] {
-        demand_fault(&rt, target, "404 Not Found", text)?;
-    }
-    Ok(())
-}
-
-#[test]
-fn targets_and_escapes_are_read(rt: HostRuntime) -> Result<(), Fail> {
-    for (target, text) in [
-        ("/_groupcache/echo/%G1", "bad escape"),
-        ("/other%2", "bad escape"),
-        ("https://h/_groupcache/echo/k", "bad target"),
-        ("*", "bad target"),
-    ] {
-        demand_fault(&rt, target, "400 Bad Request", text)?;
+        demand_fault(&rt, target, status, text)?;
     }
     Ok(())
 }

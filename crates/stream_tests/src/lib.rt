@@ -55,6 +55,8 @@ mod stops;
 #[cfg(test)]
 mod tables;
 #[cfg(test)]
+mod tellers;
+#[cfg(test)]
 mod texts;
 #[cfg(test)]
 mod threads;

@@ -1,7 +1,7 @@
 //! The limit of a head, skipped pairs included, and the limit of its fields.
 
 use crate::runs::demand_all_ways;
-use crate::texts::{Then, fault_reply, joined, value_reply};
+use crate::texts::{Then, fault_reply, joined, too_long_reply, value_reply};
 use peer_conn::End;
 use std::alloc::{AllocError, Global};
 use std::test::Fail;
@@ -33,16 +33,6 @@ fn with_fields(alloc: Global, count: usize) -> Result<Vec<u8>, AllocError> {
     Ok(text)
 }
 
-// The reply to a head that is too long.
-fn too_long(alloc: Global) -> Result<Vec<u8>, AllocError> {
-    fault_reply(
-        alloc,
-        Then::Closes,
-        "431 Request Header Fields Too Large",
-        "head too long",
-    )
-}
-
 #[test]
 fn pairs_alone_are_no_request(rt: HostRuntime) -> Result<(), Fail> {
     demand_all_ways(&rt, b"", b"", End::Clean)?;
@@ -59,7 +49,7 @@ fn pairs_count_for_the_limit(rt: HostRuntime) -> Result<(), Fail> {
     }
     demand_all_ways(&rt, &text, b"", End::Clean)?;
     text.extend_from_slice(b"\r\n")?;
-    let replies = too_long(rt.alloc())?;
+    let replies = too_long_reply(rt.alloc())?;
     assert_eq!(rt; replies.len(), 175);
     demand_all_ways(&rt, &text, &replies, End::Clean)?;
     Ok(())
@@ -68,7 +58,7 @@ fn pairs_count_for_the_limit(rt: HostRuntime) -> Result<(), Fail> {
 #[test]
 fn a_head_has_16384_bytes_at_most(rt: HostRuntime) -> Result<(), Fail> {
     let found = value_reply(rt.alloc(), Then::Stays, b"\x0A\x01k")?;
-    let too_long = too_long(rt.alloc())?;
+    let too_long = too_long_reply(rt.alloc())?;
     for (pairs, letters) in [(0, 16_332), (1, 16_330)] {
         let fits = padded(rt.alloc(), pairs, letters)?;
         assert_eq!(rt; fits.len(), 16_384);

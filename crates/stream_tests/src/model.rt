@@ -8,7 +8,9 @@ mod place;
 use crate::model::demo::{Answer, answer_of};
 use crate::model::head::{Head, fault_of, head_of, is_closing};
 use crate::model::place::place_of;
-use crate::texts::{Then, fault_reply, joined, method_reply, text_reply, value_reply};
+use crate::texts::{
+    Then, fault_reply, joined, method_reply, text_reply, too_long_reply, value_reply,
+};
 use peer_conn::End;
 use std::alloc::{AllocError, Global};
 
@@ -43,7 +45,7 @@ pub fn outcome_of(alloc: Global, text: &[u8]) -> Result<Outcome, AllocError> {
     for number in 1..=10_000 {
         match front_of(rest) {
             Front::TooLong => {
-                replies.extend_from_slice(&too_long(alloc)?)?;
+                replies.extend_from_slice(&too_long_reply(alloc)?)?;
                 break;
             }
             Front::Unfinished { is_inside } => {
@@ -99,16 +101,6 @@ fn past_blank_line(text: &[u8]) -> Option<(&[u8], &[u8])> {
         .windows(4)
         .position(|part| part == b"\r\n\r\n".as_slice())?;
     Some(text.split_at(at.saturating_add(4).min(text.len())))
-}
-
-// The reply to a text that is too long.
-fn too_long(alloc: Global) -> Result<Vec<u8>, AllocError> {
-    fault_reply(
-        alloc,
-        Then::Closes,
-        "431 Request Header Fields Too Large",
-        "head too long",
-    )
 }
 
 // The reply to a block.

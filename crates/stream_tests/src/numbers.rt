@@ -1,15 +1,14 @@
 //! A source that answers each call with its number: who waits for one call gets one number.
-ghost use Rattle.std.specs.Prelude.{◌≡◌, IfSome};
+ghost use Rattle.std.specs.Prelude.{◌≡◌, All, IfSome};
 ghost use Rattle.peer_source.specs.Reports.{reported};
 ghost use Rattle.peer_fill.specs.Pools.{IsConnSeatOf, IsFillSeatOf};
 ghost use Rattle.stream_tests.specs.Numbers.{IsNumber, echo_number, echo_numbered, number_limited, some_number};
 
-use crate::pooled::seed;
 use itoa::Buffer;
-use peer_fill::{ConnSeat, FillSeat, NoGate, Opened, Pool, pop_conn, pop_fill};
+use peer_fill::{Pool, pop_conn};
 use peer_flight::Claim;
 use peer_source::{GetFault, GroupId, Outcome, Source};
-use peer_view::{AllocSink, ByteView};
+use peer_view::AllocSink;
 use std::alloc::Global;
 use std::marker::Brand;
 use std::sync::Wait;
@@ -17,6 +16,7 @@ use std::sync::atomic::AtomicU64;
 use std::sync::atomic::Ordering::SeqCst;
 use std::sync::ledger::{Blank, Ledger};
 use std::test::Fail;
+use test_sources::{SeatLists, ask_for, do_jobs, open_pool};
 
 // Finds the number of its call, from 1.
 #[derive(Drop)]
@@ -74,21 +74,6 @@ impl Source for Numbering {
     ghost numbered = { λ s name i e. echo_numbered name i e };
 }
 
-// A claim on the key `k` of the group `echo`.
-fn ask<S: Source, L: Ledger, R: Wait>(
-    rt: &R,
-    alloc: Global,
-    pool: &Pool<S, L>,
-    seat: &mut ConnSeat<S, L>,
-) -> Option<Claim<S>>
-    requires { IsConnSeatOf pool.now seat.old }
-    ensures { IsConnSeatOf pool.now seat.new }
-{
-    let key = ByteView::copy_of(alloc, b"k").ok()?;
-    let group = pool.source().group(b"echo")?;
-    pool.ask(rt, alloc, seat, group, key).ok()
-}
-
 // Whether a claim shows this value.
 fn shows<S: Source, L: Ledger, R: Wait>(
     rt: &R,
@@ -107,20 +92,18 @@ fn show_numbers<S: Source, L: Ledger, R: Wait>(
     rt: &R,
     alloc: Global,
     pool: &Pool<S, L>,
-    fill: FillSeat<S, L>,
-    one: ConnSeat<S, L>,
-    two: ConnSeat<S, L>,
+    lists: &mut SeatLists<S, L>,
 ) -> Option<[bool; 3]>
-    requires fill { IsFillSeatOf pool.now fill }
-    requires one { IsConnSeatOf pool.now one }
-    requires two { IsConnSeatOf pool.now two }
+    requires fills { All (IsFillSeatOf pool.now) lists.old.fills.items }
+    requires conns { All (IsConnSeatOf pool.now) lists.old.conns.items }
 {
-    let (mut one, mut two) = (one, two);
-    let first = ask(rt, alloc, pool, &mut one)?;
-    let second = ask(rt, alloc, pool, &mut two)?;
-    let fill = pool.run_worker(rt, alloc, fill, &NoGate);
-    let third = ask(rt, alloc, pool, &mut one)?;
-    let _fill = pool.run_worker(rt, alloc, fill, &NoGate);
+    let mut one = pop_conn(pool, &mut lists.conns)?;
+    let mut two = pop_conn(pool, &mut lists.conns)?;
+    let first = ask_for(rt, alloc, pool, &mut one, b"k")?;
+    let second = ask_for(rt, alloc, pool, &mut two, b"k")?;
+    do_jobs(rt, alloc, pool, &mut lists.fills)?;
+    let third = ask_for(rt, alloc, pool, &mut one, b"k")?;
+    do_jobs(rt, alloc, pool, &mut lists.fills)?;
     Some([
         shows(rt, pool, &first, b"1"),
         shows(rt, pool, &second, b"1"),
@@ -136,22 +119,11 @@ fn shown<L: Ledger, R: Wait>(rt: &R, alloc: Global, blank: Blank) -> Option<[boo
     let source = Numbering {
         calls: AtomicU64::new(0),
     };
-    let opened = Pool::<Numbering, L>::open(alloc, source, 0, seed()?, 1, 2, blank);
-    let Ok(
-        Opened {
-            pool,
-            mut fills,
-            mut conns,
-        },
-    ) = opened
-    else {
+    let Some((pool, mut lists)) = open_pool::<Numbering, L>(alloc, source, 0, 1, 2, blank) else {
         return None;
     };
     pool.stop();
-    let fill = pop_fill(&pool, &mut fills)?;
-    let one = pop_conn(&pool, &mut conns)?;
-    let two = pop_conn(&pool, &mut conns)?;
-    show_numbers(rt, alloc, &pool, fill, one, two)
+    show_numbers(rt, alloc, &pool, &mut lists)
 }
 
 #[test]

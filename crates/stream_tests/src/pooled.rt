@@ -5,33 +5,17 @@ ghost use Rattle.peer_fill.specs.Pools.{IsConnSeatOf, IsFillSeatOf};
 
 use peer_conn::{Served, serve_connection};
 use peer_fill::{
-    ConnSeat, FillSeat, Gate, KeepsFill, Opened, Pool, Report, join_fills, pop_conn, pop_fill,
+    ConnSeat, FillSeat, Gate, KeepsFill, Pool, Report, join_fills, pop_conn, pop_fill,
 };
 use peer_source::Source;
 use peer_view::{PeerRead, PeerWrite};
 use std::alloc::Global;
-use std::hash::RandomState;
 use std::marker::Brand;
-use std::random::RandomSource;
 use std::sync::Wait;
 use std::sync::ledger::{Blank, Ledger};
+use std::thread;
 use std::thread::Threads;
-use std::{io, thread};
-
-// Gives zeros, so that each run has the same seed.
-struct Zeros;
-
-impl RandomSource for Zeros {
-    fn fill_bytes(&self, buf: &mut [u8]) -> io::Result<()> {
-        buf.fill(0);
-        Ok(())
-    }
-}
-
-/// The seed of the caches of a test.
-pub fn seed() -> Option<RandomState> {
-    RandomState::new(&Zeros).ok()
-}
+use test_sources::{SeatLists, close_pool, open_pool, push_conn};
 
 /// What a pool is opened with: its source, the limit of each cache in bytes, the number of its workers, and the gate
 /// round their calls.
@@ -59,9 +43,9 @@ pub struct Pooled<R, W> {
     pub report: Report,
 }
 
-// The seats of a pool with one connection.
+// The seats of a pool with one connection, off its list.
 #[derive(Drop)]
-struct Seats<S: Source, L: Ledger> {
+struct OneConn<S: Source, L: Ledger> {
     fills: Vec<FillSeat<S, L>>,
     conn: ConnSeat<S, L>,
 }
@@ -78,31 +62,33 @@ fn use_pool<
     rt: &H,
     alloc: Global,
     pool: &Pool<S, L>,
-    seats: Seats<S, L>,
+    seats: OneConn<S, L>,
     gate: &G,
     devices: Devices<R, W>,
-) -> Option<(Seats<S, L>, Served<R, W>)>
+) -> Option<(OneConn<S, L>, Served<R, W>)>
     requires fills { All (IsFillSeatOf pool.now) seats.fills.items }
     requires conn { IsConnSeatOf pool.now seats.conn }
     requires calls { R.calls devices.reader + devices.reads < 2 ^ 64 }
     requires failures { W.failures devices.writer < 2 ^ 64 - 1 }
-    ensures { IfSome result (λ run. All (IsFillSeatOf pool.now) run.0.fills.items × IsConnSeatOf pool.now run.0.conn) }
+    ensures fills { IfSome result (λ run. All (IsFillSeatOf pool.now) run.0.fills.items) }
+    ensures conn { IfSome result (λ run. IsConnSeatOf pool.now run.0.conn) }
 {
     let Devices {
         reader,
         writer,
         reads,
     } = devices;
-    let Seats { mut fills, conn } = seats;
+    let OneConn { mut fills, conn } = seats;
     thread::scope(
         thread::scope_env(),
         rt,
-        move |scope| -> Option<(Seats<S, L>, Served<R, W>)>
+        move |scope| -> Option<(OneConn<S, L>, Served<R, W>)>
             requires fills { All (IsFillSeatOf pool.now) fills.items }
             requires conn { IsConnSeatOf pool.now conn }
             requires calls { R.calls reader + reads < 2 ^ 64 }
             requires failures { W.failures writer < 2 ^ 64 - 1 }
-            ensures { IfSome result (λ run. All (IsFillSeatOf pool.entry.now) run.0.fills.items × IsConnSeatOf pool.entry.now run.0.conn) }
+            ensures fills { IfSome result (λ run. All (IsFillSeatOf pool.entry.now) run.0.fills.items) }
+            ensures conn { IfSome result (λ run. IsConnSeatOf pool.entry.now run.0.conn) }
         {
             let mut working = Vec::new(alloc);
             while let Some(seat) = pop_fill(pool, &mut fills) {
@@ -123,13 +109,45 @@ fn use_pool<
             let (served, conn) = serve_connection(rt, alloc, pool, conn, reader, writer, reads);
             pool.stop();
             join_fills(rt, pool, working, &mut fills);
-            Some((Seats { fills, conn }, served))
+            Some((OneConn { fills, conn }, served))
         },
     )
 }
 
+// The same with the seats of these lists: what was served, and how often the connection asked.
+fn use_lists<
+    S: Source,
+    L: Ledger + Send + Sync,
+    R: PeerRead + Send + Drop,
+    W: PeerWrite + Drop,
+    G: Gate,
+    H: Threads + Wait + Sync,
+>(
+    rt: &H,
+    alloc: Global,
+    pool: &Pool<S, L>,
+    lists: SeatLists<S, L>,
+    gate: &G,
+    devices: Devices<R, W>,
+) -> Option<(SeatLists<S, L>, Served<R, W>, u64)>
+    requires fills { All (IsFillSeatOf pool.now) lists.fills.items }
+    requires conns { All (IsConnSeatOf pool.now) lists.conns.items }
+    requires calls { R.calls devices.reader + devices.reads < 2 ^ 64 }
+    requires failures { W.failures devices.writer < 2 ^ 64 - 1 }
+    ensures fills { IfSome result (λ used. All (IsFillSeatOf pool.now) used.0.fills.items) }
+    ensures conns { IfSome result (λ used. All (IsConnSeatOf pool.now) used.0.conns.items) }
+{
+    let SeatLists { fills, mut conns } = lists;
+    let conn = pop_conn(pool, &mut conns)?;
+    let (seats, served) = use_pool(rt, alloc, pool, OneConn { fills, conn }, gate, devices)?;
+    let OneConn { fills, conn } = seats;
+    let asked = conn.asked();
+    push_conn(pool, &mut conns, conn)?;
+    Some((SeatLists { fills, conns }, served, asked))
+}
+
 // Opens a pool with one connection, serves it and closes the pool.
-fn over_pool<
+fn serve_over<
     S: Source,
     L: Ledger + Send + Sync,
     R: PeerRead + Send + Drop,
@@ -154,23 +172,12 @@ fn over_pool<
         workers,
         gate,
     } = setup;
-    let opened = Pool::<S, L>::open(alloc, source, cache_bytes, seed()?, workers, 1, blank);
-    let Ok(
-        Opened {
-            pool,
-            fills,
-            mut conns,
-        },
-    ) = opened
+    let Some((pool, lists)) = open_pool::<S, L>(alloc, source, cache_bytes, workers, 1, blank)
     else {
         return None;
     };
-    let conn = pop_conn(&pool, &mut conns)?;
-    let (seats, served) = use_pool(rt, alloc, &pool, Seats { fills, conn }, gate, devices)?;
-    let Seats { fills, conn } = seats;
-    let asked = conn.asked();
-    let conns = Vec::from_array(alloc, [conn]).ok()?;
-    let report = pool.close(rt, fills, conns).ok()?;
+    let (lists, served, asked) = use_lists(rt, alloc, &pool, lists, gate, devices)?;
+    let report = close_pool(rt, pool, lists)?;
     Some(Pooled {
         served,
         asked,
@@ -189,5 +196,5 @@ pub fn serve_pooled<
     requires calls { R.calls devices.reader + devices.reads < 2 ^ 64 }
     requires failures { W.failures devices.writer < 2 ^ 64 - 1 }
 {
-    over_pool::<S, Brand, R, W, G, H>(rt, alloc, setup, devices, Blank::new(16))
+    serve_over::<S, Brand, R, W, G, H>(rt, alloc, setup, devices, Blank::new(16))
 }

@@ -1,8 +1,10 @@
 //! Runs of a connection over texts cut into pieces.
 ghost use Rattle.std.specs.Prelude.{◌≤◌, ◌<◌, length};
 
-use crate::demos::{demo, is_served, over_pieces};
+use crate::demos::{Failing, demo, is_served, over_pieces};
+use crate::pooled::Setup;
 use peer_conn::{End, Served, serve_serial, serve_told};
+use peer_fill::NoGate;
 use peer_source::DemoSource;
 use peer_view::{MemReader, MemWriter};
 use std::alloc::{AllocError, Global};
@@ -83,6 +85,19 @@ pub fn demand(rt: &(impl Abort + AllocGlobal), pieces: Vec<Vec<u8>>, replies: &[
     assert_eq!(rt; served.writer.taken(), replies);
 }
 
+// Whether these pieces are answered so over a pool.
+fn is_served_over<H: Threads + Wait + Sync>(
+    rt: &H,
+    alloc: Global,
+    setup: Setup<'_, DemoSource, NoGate>,
+    pieces: Vec<Vec<u8>>,
+    replies: &[u8],
+    end: End,
+) -> bool {
+    let run = over_pieces(rt, alloc, setup, pieces, Failing::Nothing);
+    is_served(&run, replies, end) == [true; 2]
+}
+
 // Whether a text is answered so by pools of 1, 2 and 16 workers, each without a cache, with one of 4 bytes and with
 // one of 1 MiB: in one piece and byte by byte.
 fn is_served_by_pools<H: Threads + Wait + Sync>(
@@ -104,22 +119,10 @@ fn is_served_by_pools<H: Threads + Wait + Sync>(
         (16, 4),
         (16, 1_048_576),
     ] {
-        let one = over_pieces(
-            rt,
-            alloc,
-            demo(workers, cache_bytes),
-            whole(alloc, text)?,
-            false,
-        );
-        let cut = over_pieces(
-            rt,
-            alloc,
-            demo(workers, cache_bytes),
-            by_bytes(alloc, text)?,
-            false,
-        );
-        same &= is_served(&one, replies, end) == [true; 2];
-        same &= is_served(&cut, replies, end) == [true; 2];
+        let setup = demo(workers, cache_bytes);
+        same &= is_served_over(rt, alloc, setup, whole(alloc, text)?, replies, end);
+        let setup = demo(workers, cache_bytes);
+        same &= is_served_over(rt, alloc, setup, by_bytes(alloc, text)?, replies, end);
     }
     Ok(same)
 }

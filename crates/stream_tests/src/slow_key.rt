@@ -1,11 +1,10 @@
 //! Two connections of one pool, served at the same moment, that wait for one slow key.
-ghost use Rattle.std.specs.Prelude.{◌≡◌};
+ghost use Rattle.std.specs.Prelude.{◌≡◌, All};
 ghost use Rattle.peer_fill.specs.Pools.{IsConnSeatOf, IsFillSeatOf};
 
-use crate::pooled::seed;
 use crate::runs::{READS, whole};
 use peer_conn::{End, serve_connection_functional};
-use peer_fill::{ConnSeat, FillSeat, Gate, Opened, Pool, pop_conn, pop_fill};
+use peer_fill::{ConnSeat, Gate, Pool, pop_conn, pop_fill};
 use peer_source::{DemoSource, FunctionalSource, GroupId};
 use peer_view::{MemReader, MemWriter};
 use std::alloc::Global;
@@ -15,6 +14,7 @@ use std::sync::Wait;
 use std::sync::ledger::{Blank, Ledger};
 use std::test::Fail;
 use std::thread::{Threads, join};
+use test_sources::{SeatLists, open_pool};
 
 const REQUEST: &[u8] = b"GET /_groupcache/echo/k HTTP/1.1\r\nHost: h\r\n\r\n";
 
@@ -57,14 +57,14 @@ fn are_answered<S: FunctionalSource, L: Ledger + Send + Sync, H: Threads + Wait 
     rt: &H,
     alloc: Global,
     pool: &Pool<S, L>,
-    fill: FillSeat<S, L>,
-    one: ConnSeat<S, L>,
-    two: ConnSeat<S, L>,
-) -> (bool, bool)
-    requires fill { IsFillSeatOf pool.now fill }
-    requires one { IsConnSeatOf pool.now one }
-    requires two { IsConnSeatOf pool.now two }
+    lists: &mut SeatLists<S, L>,
+) -> Option<(bool, bool)>
+    requires fills { All (IsFillSeatOf pool.now) lists.old.fills.items }
+    requires conns { All (IsConnSeatOf pool.now) lists.old.conns.items }
 {
+    let fill = pop_fill(pool, &mut lists.fills)?;
+    let one = pop_conn(pool, &mut lists.conns)?;
+    let two = pop_conn(pool, &mut lists.conns)?;
     let (_seat, answered) = join(
         rt,
         move ||
@@ -87,7 +87,7 @@ fn are_answered<S: FunctionalSource, L: Ledger + Send + Sync, H: Threads + Wait 
             answered
         },
     );
-    answered
+    Some(answered)
 }
 
 // A pool of its own, and its two connections.
@@ -99,21 +99,11 @@ fn round<L: Ledger + Send + Sync, H: Threads + Wait + Sync>(
     requires name { blank.name ≡ L.name }
     requires parts { (blank.parts ≡ L.parts) × (blank.parts ≡ 16) }
 {
-    let opened = Pool::<DemoSource, L>::open(alloc, DemoSource, 0, seed()?, 1, 2, blank);
-    let Ok(
-        Opened {
-            pool,
-            mut fills,
-            mut conns,
-        },
-    ) = opened
+    let Some((pool, mut lists)) = open_pool::<DemoSource, L>(alloc, DemoSource, 0, 1, 2, blank)
     else {
         return None;
     };
-    let fill = pop_fill(&pool, &mut fills)?;
-    let one = pop_conn(&pool, &mut conns)?;
-    let two = pop_conn(&pool, &mut conns)?;
-    Some(are_answered(rt, alloc, &pool, fill, one, two))
+    are_answered(rt, alloc, &pool, &mut lists)
 }
 
 #[test]

@@ -1,12 +1,12 @@
 //! A reader stops behind a failed write, also where no other request comes.
-ghost use Rattle.std.specs.Prelude.{Some};
 
 use crate::demos::demo;
 use crate::pooled::{Devices, serve_pooled};
 use crate::runs::{READS, whole};
 use crate::steps::Step;
+use crate::tellers::{ActingReader, ActingWriter, BeforeCall, Telling};
 use peer_conn::End;
-use peer_view::{MemReader, MemWriter, PeerRead, PeerWrite, ReadFailed, WriteFailed};
+use peer_view::{MemReader, MemWriter};
 use std::alloc::{AllocError, Global};
 use std::sync::atomic::AtomicU64;
 use std::sync::atomic::Ordering::SeqCst;
@@ -22,46 +22,18 @@ struct Watch {
 
 // Each read but the first waits for the first write, and then takes a while.
 #[derive(Drop)]
-struct LateReader<'a> {
-    reader: MemReader,
+struct LateReads<'a> {
     watch: &'a Watch,
 }
 
-impl<'a> PeerRead for LateReader<'a> {
-    ghost given = { λ r. Some r.reader.given };
-
-    ghost calls = { λ r. r.reader.calls };
-
-    ghost ends = { λ r. r.reader.ends };
-
-    ghost failures = { λ r. r.reader.failures };
-
-    fn read(&mut self, room: &mut [u8]) -> Result<usize, ReadFailed> {
+impl<'a> BeforeCall for LateReads<'a> {
+    fn act(&self) {
         if self.watch.reads.fetch_add(1, SeqCst) > 0 {
             self.watch.first_write.wait();
             for _ in 0..1000 {
                 yield_now();
             }
         }
-        self.reader.read(room)
-    }
-}
-
-// Tells of its first write.
-#[derive(Drop)]
-struct TellingWriter<'a> {
-    writer: MemWriter,
-    watch: &'a Watch,
-}
-
-impl<'a> PeerWrite for TellingWriter<'a> {
-    ghost taken = { λ w. Some w.writer.taken };
-
-    ghost failures = { λ w. w.writer.failures };
-
-    fn write(&mut self, bytes: &[u8]) -> Result<usize, WriteFailed> {
-        self.watch.first_write.tell();
-        self.writer.write(bytes)
     }
 }
 
@@ -84,13 +56,15 @@ fn a_failed_write_stops_a_reader_that_gets_no_request(rt: HostRuntime) -> Result
         first_write: Step::new(),
     };
     let devices = Devices {
-        reader: LateReader {
+        reader: ActingReader {
             reader: MemReader::new(pieces(rt.alloc())?, false),
-            watch: &watch,
+            before: LateReads { watch: &watch },
         },
-        writer: TellingWriter {
+        writer: ActingWriter {
             writer: MemWriter::new(rt.alloc(), 4096, Some(0)),
-            watch: &watch,
+            before: Telling {
+                step: &watch.first_write,
+            },
         },
         reads: READS,
     };

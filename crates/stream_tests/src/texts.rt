@@ -46,6 +46,12 @@ pub fn fault_reply(
     text_reply(alloc, then, status, text.as_bytes())
 }
 
+/// The reply to a head that is too long.
+pub fn too_long_reply(alloc: Global) -> Result<Vec<u8>, AllocError> {
+    let status = "431 Request Header Fields Too Large";
+    fault_reply(alloc, Then::Closes, status, "head too long")
+}
+
 /// The same with a text of any bytes.
 pub fn text_reply(
     alloc: Global,

@@ -1,19 +1,20 @@
 //! Connections whose reader and writer are threads: what they ask for, and how they end.
 
-use crate::demos::{demo, is_served, over_pieces, over_pieces_into};
+use crate::demos::{Failing, demo, gated, is_served, over_pieces};
 use crate::ends::{THREE, THREE_REPLIES};
-use crate::pooled::{Devices, Pooled, Setup, serve_pooled};
+use crate::pooled::{Devices, Pooled, serve_pooled};
 use crate::runs::{READS, by_bytes, whole};
 use crate::steps::Step;
 use crate::texts::{Then, joined, request, value_reply};
 use peer_conn::End;
 use peer_fill::{Gate, Report};
-use peer_source::{DemoSource, GroupId};
+use peer_source::GroupId;
 use peer_view::{MemReader, MemWriter};
 use std::alloc::{AllocError, Global};
 use std::sync::Wait;
 use std::test::Fail;
 use std::thread::Threads;
+use test_sources::all_called;
 
 // A request of 45 bytes.
 const REQUEST: &[u8] = b"GET /_groupcache/echo/k HTTP/1.1\r\nHost: h\r\n\r\n";
@@ -28,7 +29,8 @@ fn asks<H: Threads + Wait + Sync>(
     alloc: Global,
     text: &[u8],
 ) -> Result<Option<[u64; 2]>, AllocError> {
-    let run = over_pieces(rt, alloc, demo(2, 0), whole(alloc, text)?, false);
+    let pieces = whole(alloc, text)?;
+    let run = over_pieces(rt, alloc, demo(2, 0), pieces, Failing::Nothing);
     Ok(run.map(|run| [run.asked, run.report.asked]))
 }
 
@@ -80,37 +82,51 @@ fn counts(run: Option<Pooled<MemReader, MemWriter>>) -> Option<(u64, Report)> {
 #[test]
 fn more_replies_than_places_come_in_order(rt: HostRuntime) -> Result<(), Fail> {
     let (text, replies) = two_hundred(rt.alloc())?;
-    let expected = Report {
-        asked: 200,
-        hits: 0,
-        led: 200,
-        joined: 0,
-        strangers: 0,
-        calls: 200,
-        rehits: 0,
-        left: 0,
-    };
-    let run = over_pieces(
-        &rt,
-        rt.alloc(),
-        demo(2, 0),
-        whole(rt.alloc(), &text)?,
-        false,
-    );
+    let pieces = whole(rt.alloc(), &text)?;
+    let run = over_pieces(&rt, rt.alloc(), demo(2, 0), pieces, Failing::Nothing);
     assert_eq!(rt; is_served(&run, &replies, End::Clean), [true; 2]);
-    assert_eq!(rt; counts(run), Some((200, expected)));
+    assert_eq!(rt; counts(run), Some((200, all_called(200))));
     Ok(())
 }
 
-// Whether each limit of a writer gives the bytes up to it and a fault, in one piece and byte by byte.
+// The text, which device fails, and what is written then, with the end.
+struct Case<'a> {
+    text: &'a [u8],
+    failing: Failing,
+    replies: &'a [u8],
+    end: End,
+}
+
+// Whether pools of so many workers do so, in one piece and byte by byte.
+fn is_right<H: Threads + Wait + Sync>(
+    rt: &H,
+    alloc: Global,
+    workers: usize,
+    case: Case<'_>,
+) -> Result<bool, AllocError> {
+    let Case {
+        text,
+        failing,
+        replies,
+        end,
+    } = case;
+    let one = over_pieces(rt, alloc, demo(workers, 0), whole(alloc, text)?, failing);
+    let cut = over_pieces(rt, alloc, demo(workers, 4), by_bytes(alloc, text)?, failing);
+    Ok(is_served(&one, replies, end) == [true; 2] && is_served(&cut, replies, end) == [true; 2])
+}
+
+// Whether each limit of a writer gives the bytes up to it and a fault.
 fn fails_at_limits<H: Threads + Wait + Sync>(rt: &H, alloc: Global) -> Result<bool, AllocError> {
     let mut right = true;
     for limit in 0..237 {
         let (replies, _) = THREE_REPLIES.as_slice().split_at(limit);
-        let one = over_pieces_into(rt, alloc, demo(2, 0), whole(alloc, THREE)?, limit);
-        let cut = over_pieces_into(rt, alloc, demo(2, 4), by_bytes(alloc, THREE)?, limit);
-        right &= is_served(&one, replies, End::WriteFault) == [true; 2];
-        right &= is_served(&cut, replies, End::WriteFault) == [true; 2];
+        let case = Case {
+            text: THREE,
+            failing: Failing::Writer(limit),
+            replies,
+            end: End::WriteFault,
+        };
+        right &= is_right(rt, alloc, 2, case)?;
     }
     Ok(right)
 }
@@ -130,10 +146,14 @@ fn fails_behind_beginnings<H: Threads + Wait + Sync>(
     for count in 0..=135 {
         let (text, _) = THREE.as_slice().split_at(count);
         let (replies, _) = THREE_REPLIES.as_slice().split_at(count / 45 * 79);
-        let one = over_pieces(rt, alloc, demo(1, 0), whole(alloc, text)?, true);
-        let cut = over_pieces(rt, alloc, demo(1, 4), by_bytes(alloc, text)?, true);
-        right &= is_served(&one, replies, End::ReadFault) == [true; 2];
-        right &= is_served(&cut, replies, End::ReadFault) == [true; 2];
+        let (failing, end) = (Failing::Reader, End::ReadFault);
+        let case = Case {
+            text,
+            failing,
+            replies,
+            end,
+        };
+        right &= is_right(rt, alloc, 1, case)?;
     }
     Ok(right)
 }
@@ -170,7 +190,7 @@ fn one_a_piece(alloc: Global, count: usize) -> Result<Vec<Vec<u8>>, AllocError> 
 #[test]
 fn a_failed_write_stops_the_reader(rt: HostRuntime) -> Result<(), Fail> {
     let pieces = one_a_piece(rt.alloc(), 5000)?;
-    let run = over_pieces_into(&rt, rt.alloc(), demo(1, 0), pieces, 10);
+    let run = over_pieces(&rt, rt.alloc(), demo(1, 0), pieces, Failing::Writer(10));
     assert_eq!(rt; is_served(&run, b"HTTP/1.1 2", End::WriteFault), [true; 2]);
     let asked = counts(run).map_or(5000, |(asked, _)| asked);
     assert!(rt; asked < 1000, "{asked} asks");
@@ -214,18 +234,12 @@ fn beyond_a_lane(alloc: Global) -> Result<Vec<u8>, AllocError> {
 #[test]
 fn tickets_are_taken_behind_a_failed_write(rt: HostRuntime) -> Result<(), Fail> {
     let gate = Holding { full: Step::new() };
-    let setup = Setup {
-        source: DemoSource,
-        cache_bytes: 0,
-        workers: 2,
-        gate: &gate,
-    };
     let devices = Devices {
         reader: MemReader::new(whole(rt.alloc(), &beyond_a_lane(rt.alloc())?)?, false),
         writer: MemWriter::new(rt.alloc(), 4096, Some(10)),
         reads: READS,
     };
-    let run = serve_pooled(&rt, rt.alloc(), setup, devices);
+    let run = serve_pooled(&rt, rt.alloc(), gated(&gate), devices);
     assert_eq!(rt; is_served(&run, b"HTTP/1.1 2", End::WriteFault), [true; 2]);
     assert!(rt; !gate.full.has_expired());
     Ok(())
@@ -242,13 +256,8 @@ fn the_10000th_reply_closes(rt: HostRuntime) -> Result<(), Fail> {
         replies.extend_from_slice(REPLY)?;
     }
     replies.extend_from_slice(&value_reply(rt.alloc(), Then::Closes, b"\x0A\x01k")?)?;
-    let run = over_pieces(
-        &rt,
-        rt.alloc(),
-        demo(2, 0),
-        whole(rt.alloc(), &text)?,
-        false,
-    );
+    let pieces = whole(rt.alloc(), &text)?;
+    let run = over_pieces(&rt, rt.alloc(), demo(2, 0), pieces, Failing::Nothing);
     assert_eq!(rt; is_served(&run, &replies, End::Clean), [true; 2]);
     assert_eq!(rt; counts(run).map(|(asked, _)| asked), Some(10_000));
     Ok(())

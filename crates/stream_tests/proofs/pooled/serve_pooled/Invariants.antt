@@ -1,4 +1,4 @@
 use Rattle.stream_tests.proofs.pooled.serve_pooled.Given as goal
 
-abbrev pub ghosts-over_pool : goal.ghosts-over_pool
-ghosts-over_pool g a = record { name = a.blank.name; parts = a.blank.parts }
+abbrev pub ghosts-serve_over : goal.ghosts-serve_over
+ghosts-serve_over g a = record { name = a.blank.name; parts = a.blank.parts }

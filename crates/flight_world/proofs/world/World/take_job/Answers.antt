@@ -3,7 +3,7 @@ use Rattle.std.proofs.lemmas.Bool.{ltb-true, true≢false}
 use Rattle.peer_flight.specs.World.{World, Flight}
 use Rattle.peer_flight.specs.Events.{JobTaken, TakesJob}
 use Rattle.flight_world.specs.Worlds.{world_of}
-use Rattle.flight_world.proofs.Reaching.{borrowed, reached_after}
+use Rattle.flight_world.proofs.Reaching.{lent, reached_after}
 use Rattle.flight_world.proofs.WorldCalls.{none_past, first_rest, refuses_worker, refuses_both, taken_once, takes_job, takes_no_flight, takes_with_full_hands}
 use Rattle.flight_world.proofs.world.World.take_job.Goals as goal
 
@@ -18,43 +18,33 @@ returns-in_default-get_mut g c =
 pub returns-then-not-is_idle : goal.returns-then-not-is_idle
 returns-then-not-is_idle g c =
     let w : World = world_of c.args.self.now in
-    let taker = c.in-Some.taker.now in
-    let here = borrowed w.workers c.args.worker taker (ltb-true _ _ (sym c.in-Some.ensures.item.0)) c.in-Some.ensures.value in
-    refuses_both w (TakesJob c.args.worker) c.args.worker c.in-Some-front.number.now taker c.in-Some-get_mut.flight.now c.in-Some.ensures.value c.in-Some-get_mut.ensures.value
-    (takes_with_full_hands w c.args.worker taker here (λ idle. true≢false (sym (c.is_idle.ensures.1 idle) ∙ c.if-not-is_idle.true)))
+    let here = lent w.workers c.args.worker c.in-Some.taker.now c.in-Some.ensures.item.0 c.in-Some.ensures.value in
+    refuses_both w (TakesJob c.args.worker) c.args.worker c.in-Some-front.number.now c.in-Some.taker.now c.in-Some-get_mut.flight.now c.in-Some.ensures.value c.in-Some-get_mut.ensures.value
+    (takes_with_full_hands w c.args.worker c.in-Some.taker.now here (λ idle. true≢false (sym (c.is_idle.ensures.1 idle) ∙ c.if-not-is_idle.true)))
 
 pub overflow_add-flight : goal.overflow_add-flight
 overflow_add-flight g c =
     let w : World = world_of c.args.self.now in
-    let number = c.in-Some-front.number.now in
-    let led = borrowed w.flights number c.in-Some-get_mut.flight.now (ltb-true _ _ (sym c.in-Some-get_mut.ensures.item.0)) c.in-Some-get_mut.ensures.value in
-    let once = taken_once w c.args.self.now.reached number c.in-Some-get_mut.flight.now led in
+    let led = lent w.flights c.in-Some-front.number.now c.in-Some-get_mut.flight.now c.in-Some-get_mut.ensures.item.0 c.in-Some-get_mut.ensures.value in
+    let once = taken_once w c.args.self.now.reached c.in-Some-front.number.now c.in-Some-get_mut.flight.now led in
     let same : c.flight.inside.taken ≡ c.in-Some-get_mut.flight.now.taken = ap (λ (f : Flight). f.taken) c.flight.view_is in
     omega arith
 
 pub invariant_of-self-2 : goal.invariant_of-self-2
 invariant_of-self-2 g c =
     let w : World = world_of c.args.self.now in
-    let taker = c.in-Some.taker.now in
-    let number = c.in-Some-front.number.now in
-    let flight = c.in-Some-get_mut.flight.now in
-    let here = borrowed w.workers c.args.worker taker (ltb-true _ _ (sym c.in-Some.ensures.item.0)) c.in-Some.ensures.value in
-    let led = borrowed w.flights number flight (ltb-true _ _ (sym c.in-Some-get_mut.ensures.item.0)) c.in-Some-get_mut.ensures.value in
-    let first = first_rest w.jobs c.pop_front-first.new.self.items number (ltb-true _ _ (sym c.in-Some-front.ensures.item.0)) c.in-Some-front.ensures.lookup c.pop_front-first.ensures.rest in
-    let is = c.flight.view_is in
-    let took = takes_job w c.args.worker number taker flight _ c.pop_front-first.new.self.items here (c.is_idle.ensures.0 c.if-not-is_idle.false) led first
-    (λ i. record { place = (is i).place; outcome = (is i).outcome; spent = (is i).spent; taken = (is i).taken + 1; sets = (is i).sets; landed = (is i).landed }) in
+    let here = lent w.workers c.args.worker c.in-Some.taker.now c.in-Some.ensures.item.0 c.in-Some.ensures.value in
+    let led = lent w.flights c.in-Some-front.number.now c.in-Some-get_mut.flight.now c.in-Some-get_mut.ensures.item.0 c.in-Some-get_mut.ensures.value in
+    let first = first_rest w.jobs c.pop_front-first.new.self.items c.in-Some-front.number.now (ltb-true _ _ (sym c.in-Some-front.ensures.item.0)) c.in-Some-front.ensures.lookup c.pop_front-first.ensures.rest in
+    let took = takes_job w c.args.worker c.in-Some-front.number.now c.in-Some.taker.now c.in-Some-get_mut.flight.now _ c.pop_front-first.new.self.items here
+    (c.is_idle.ensures.0 c.if-not-is_idle.false) led first (ap (λ (f : Flight). record f { taken = f.taken + 1 }) c.flight.view_is) in
     record { reached = reached_after w _ (JobTaken c.args.worker) c.args.self.now.reached took }
 
 pub returns : goal.returns
 returns g c =
     let w : World = world_of c.args.self.now in
-    let taker = c.in-Some.taker.now in
-    let number = c.in-Some-front.number.now in
-    let flight = c.in-Some-get_mut.flight.now in
-    let here = borrowed w.workers c.args.worker taker (ltb-true _ _ (sym c.in-Some.ensures.item.0)) c.in-Some.ensures.value in
-    let led = borrowed w.flights number flight (ltb-true _ _ (sym c.in-Some-get_mut.ensures.item.0)) c.in-Some-get_mut.ensures.value in
-    let first = first_rest w.jobs c.pop_front-first.new.self.items number (ltb-true _ _ (sym c.in-Some-front.ensures.item.0)) c.in-Some-front.ensures.lookup c.pop_front-first.ensures.rest in
-    let is = c.flight.view_is in
-    takes_job w c.args.worker number taker flight _ c.pop_front-first.new.self.items here (c.is_idle.ensures.0 c.if-not-is_idle.false) led first
-    (λ i. record { place = (is i).place; outcome = (is i).outcome; spent = (is i).spent; taken = (is i).taken + 1; sets = (is i).sets; landed = (is i).landed })
+    let here = lent w.workers c.args.worker c.in-Some.taker.now c.in-Some.ensures.item.0 c.in-Some.ensures.value in
+    let led = lent w.flights c.in-Some-front.number.now c.in-Some-get_mut.flight.now c.in-Some-get_mut.ensures.item.0 c.in-Some-get_mut.ensures.value in
+    let first = first_rest w.jobs c.pop_front-first.new.self.items c.in-Some-front.number.now (ltb-true _ _ (sym c.in-Some-front.ensures.item.0)) c.in-Some-front.ensures.lookup c.pop_front-first.ensures.rest in
+    takes_job w c.args.worker c.in-Some-front.number.now c.in-Some.taker.now c.in-Some-get_mut.flight.now _ c.pop_front-first.new.self.items here
+    (c.is_idle.ensures.0 c.if-not-is_idle.false) led first (ap (λ (f : Flight). record f { taken = f.taken + 1 }) c.flight.view_is)

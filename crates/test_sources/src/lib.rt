@@ -1,0 +1,21 @@
+//! What tests of several crates have in common: the seed of their caches, the source for demonstrations with something
+//! done before each of its calls, and the pools, seats and workers that they use.
+//!
+//! It stands on the pools of `peer_fill` and the sources of `peer_source`. No crate of the product uses it.
+#![tactic(auto)]
+
+mod asks;
+mod hooked;
+mod pools;
+mod reports;
+mod seats;
+mod seeds;
+mod workers;
+
+pub use asks::ask_for;
+pub use hooked::{Hook, Hooked, Refusing};
+pub use pools::{close_pool, open_pool};
+pub use reports::all_called;
+pub use seats::{SeatLists, push_conn, push_fill};
+pub use seeds::seed;
+pub use workers::{beside_worker, do_jobs};
