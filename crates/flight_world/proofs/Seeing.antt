@@ -2,7 +2,6 @@
 use Rattle.std.proofs.Common.{◌≡◌, ℕ, false, true, List, [], ◌∷◌, ◌++◌, Option, Some, None, refl, ap, sym, subst, ◌∙◌, inl, inr, ◌<◌, length, get_or, arith}
 use Rattle.peer_source.specs.Answers.{Answer, Found, Failed, Filled}
 use Rattle.peer_source.specs.Outcomes.{answer_of}
-use Rattle.peer_source.specs.declared.source.Source as Source
 use Rattle.peer_source.specs.declared.fill.Outcome.{Outcome}
 use Rattle.peer_source.specs.declared.fill.Outcome.TheVariants as source
 use Rattle.std.specs.Option.{IfSome}
@@ -10,19 +9,7 @@ use Rattle.std.specs.List.{slice_get, slice_set}
 use Rattle.peer_flight.specs.SingleFlight.{Place, State}
 use Rattle.peer_flight.specs.World.{Wish, Ticket, Flight, Connection, Written, World}
 use Rattle.peer_flight.specs.Events.{WantsAs, SeesOutcome, RepliesBy, MayBring}
-use Rattle.flight_world.specs.Views.{Brings, WantsAt, hand_of, outcome_by}
-use Rattle.flight_world.specs.declared.connection.Connection.{Connection as Plain}
-
--- a connection as contracts see it
-abbrev pub seen_of : {S : Type 0} {g : Source.Ghosts S} → Plain S g → Connection
-seen_of c = record {
-  arrived = c.arrived.items;
-  hand = hand_of c.hand;
-  lane = c.lane.items;
-  waiting = c.waiting.items;
-  written = c.written.items;
-  ended = c.ended;
-}
+use Rattle.flight_world.specs.Views.{Brings, WantsAt, outcome_by}
 
 -- a source that had memory gave an answer
 pub answer_there : (o : Outcome) → (o ≡ source.NoMemory → ⊥) → (a : Answer) × (answer_of o ≡ Some a)

@@ -4,13 +4,20 @@ use Rattle.peer_source.specs.Answers.{Answer, Filled}
 use Rattle.peer_source.specs.Outcomes.{answer_of}
 use Rattle.peer_flight.specs.World.{Connection}
 use Rattle.peer_flight.specs.Events.{SeesOutcome}
-use Rattle.flight_world.specs.Views.{Brings}
-use Rattle.flight_world.proofs.Seeing.{answer_there, end_seen, answer_seen, first_of, seen_of}
+use Rattle.flight_world.specs.Views.{hand_of, Brings}
+use Rattle.flight_world.proofs.Seeing.{answer_there, end_seen, answer_seen, first_of}
 use Rattle.flight_world.proofs.connection.Connection.see_outcome.Goals as goal
 
 pub returns-in-NoMemory-clause-seen : goal.returns-in-NoMemory-clause-seen
 returns-in-NoMemory-clause-seen g c =
-    let was : Connection = seen_of c.self.inside in
+    let was : Connection = record {
+      arrived = c.self.inside.arrived.items;
+      hand = hand_of c.self.inside.hand;
+      lane = c.self.inside.lane.items;
+      waiting = c.self.inside.waiting.items;
+      written = c.self.inside.written.items;
+      ended = c.self.inside.ended;
+    } in
     let t = c.in-Some.ticket.now in
     let fill = c.in-Some-brought.fill.now in
     let first = first_of c.self.inside.waiting.items t (ltb-true _ _ (sym c.in-Some.ensures.item.0)) c.in-Some.ensures.lookup in
@@ -20,7 +27,14 @@ returns-in-NoMemory-clause-seen g c =
 
 pub returns-clause-seen : goal.returns-clause-seen
 returns-clause-seen g c =
-    let was : Connection = seen_of c.self.inside in
+    let was : Connection = record {
+      arrived = c.self.inside.arrived.items;
+      hand = hand_of c.self.inside.hand;
+      lane = c.self.inside.lane.items;
+      waiting = c.self.inside.waiting.items;
+      written = c.self.inside.written.items;
+      ended = c.self.inside.ended;
+    } in
     let t = c.in-Some-pop_front.ticket in
     let fill = c.in-Some-brought.fill.now in
     let first : was.waiting ≡ t ∷ c.pop_front.new.self.items = c.in-Some-pop_front.ensures.items in

@@ -28,10 +28,10 @@ returns-then-not-is_of g c =
     let w : World = world_of c.args.self.now in
     let here = lent w.workers c.args.worker c.in-Some.filler.now c.in-Some.ensures.item.0 c.in-Some.ensures.value in
     let led = lent w.flights c.in-Some-filling.number c.in-Some-get_mut.flight.now c.in-Some-get_mut.ensures.item.0 c.in-Some-get_mut.ensures.value in
-    let other = λ of. true≢false (sym (c.is_of.ensures.1 of) ∙ c.if-not-is_of.true) in
     refuses_both w (SetsFill g.S.Source.allowed c.args.fill c.args.worker) c.args.worker c.in-Some-filling.number c.in-Some.filler.now c.in-Some-get_mut.flight.now
     c.in-Some.ensures.value c.in-Some-get_mut.ensures.value
-    (sets_another_place w g.S.Source.allowed c.args.fill c.args.worker c.in-Some.filler.now here c.in-Some-filling.number c.in-Some-filling.ensures c.in-Some-get_mut.flight.now led other)
+    (sets_another_place w g.S.Source.allowed c.args.fill c.args.worker c.in-Some.filler.now here c.in-Some-filling.number c.in-Some-filling.ensures c.in-Some-get_mut.flight.now led
+    (λ of. true≢false (sym (c.is_of.ensures.1 of) ∙ c.if-not-is_of.true)))
 
 pub overflow_add-flight : goal.overflow_add-flight
 overflow_add-flight g c =
