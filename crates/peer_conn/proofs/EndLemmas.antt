@@ -145,9 +145,9 @@ connects_sides {S} {L} {R} {W} {g} {k} {m} {numbers} {answers} {q} {p} {served} 
     subst (λ x. P x served.writer served.end) (sym h.gave) (subst (λ y. P h.requests.reader y served.end) (sym h.took) (subst (λ e. P h.requests.reader h.responses.out.writer e) (sym h.end) all))
 
 -- where memory was refused before the first read
-pub connects_refused : {R W : Type 0} (G : Read.Ghosts R) (H : Write.Ghosts W) (numbers : List ℕ → Option ℕ) (answers : ℕ → List ℕ → Answer → Type 0) (reads a : ℕ) (r r' : R) (w w' : W) (e : End) →
+pub connects_refused : {R W : Type 0} (G : Read.Ghosts R) (H : Write.Ghosts W) {numbers : List ℕ → Option ℕ} {answers : ℕ → List ℕ → Answer → Type 0} {reads a : ℕ} {r r' : R} {w w' : W} {e : End} →
     r' ≡ r → w' ≡ w → e ≡ end.Memory → Connects numbers answers reads (reading G r r') (writing H w w') a a e
-connects_refused {R} {W} G H numbers answers reads a r r' w w' e same_reader same_writer is =
+connects_refused {R} {W} G H {numbers} {answers} {reads} {a} {r} {r'} {w} {w'} {e} same_reader same_writer is =
     let Q : R → W → End → Type 0 = λ x y z. Connects numbers answers reads (reading G r x) (writing H w y) a a z in
     let nothing : IsRead numbers reads (reading G r r) [] (stop.Refused ask.Memory) =
     record { text = []; gave = Appends-nil (G.given r); calls = omega arith; stops = inl ([], Open-none numbers 0 [] (omega arith)) } in

@@ -69,8 +69,7 @@ short_fill : (text : List ℕ) → IsShort (fill_answer text)
 short_fill text =
     (elim (number_in 7 text) as (λ o. IsShort (elim o as (λ _. Answer) [
       | Some n ↦ cond (nat_le n 2000000) (found_within (replicate n 120)) (Failed (codes "not a size"))
-      | None ↦
-          Failed (codes "not a size")
+      | None ↦ Failed (codes "not a size")
     ])) [
       | Some n ↦ short_cond (nat_le n 2000000) (found_within (replicate n 120)) (Failed (codes "not a size"))
           (found_is_within (replicate n 120)) tt

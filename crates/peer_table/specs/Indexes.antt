@@ -49,8 +49,7 @@ pub record AreTabs (bytes : List ℕ) (first second : ℕ) : Type 0 where
   pub line : line_of bytes ≡ Some (record {
     group = take first bytes;
     key = slice_range bytes (first + 1) second;
-    value =
-        drop (second + 1) bytes;
+    value = drop (second + 1) bytes;
   })
   pub front : take second bytes ≡ joined (take first bytes) (slice_range bytes (first + 1) second)
   pub plain : IsPlain (take first bytes)

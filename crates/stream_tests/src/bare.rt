@@ -5,8 +5,8 @@ use peer_conn::End;
 use std::test::Fail;
 
 #[test]
-fn heads_get_no_content(rt: HostRuntime) -> Result<(), Fail> {
-    let rows: [(&[u8], &[u8]); 8] = [
+fn a_head_for_a_value_gets_no_content(rt: HostRuntime) -> Result<(), Fail> {
+    let rows: [(&[u8], &[u8]); 2] = [
         (
             b"HEAD /_groupcache/echo/k HTTP/1.1\r\nHost: h\r\n\r\n",
             b"HTTP/1.1 200 OK\r\nContent-Type: application/x-protobuf\r\nContent-Length: 3\r\n\r\n",
@@ -15,6 +15,16 @@ fn heads_get_no_content(rt: HostRuntime) -> Result<(), Fail> {
             b"HEAD /_groupcache/fill/1048576 HTTP/1.0\r\n\r\n",
             b"HTTP/1.1 200 OK\r\nContent-Type: application/x-protobuf\r\nContent-Length: 1048580\r\nConnection: close\r\n\r\n",
         ),
+    ];
+    for (asked, replies) in rows {
+        demand_all_ways(&rt, asked, replies, End::Clean)?;
+    }
+    Ok(())
+}
+
+#[test]
+fn a_head_with_a_fault_gets_no_content(rt: HostRuntime) -> Result<(), Fail> {
+    let rows: [(&[u8], &[u8]); 6] = [
         (
             b"HEAD /_groupcache/square/x HTTP/1.1\r\nHost: h\r\n\r\n",
             b"HTTP/1.1 500 Internal Server Error\r\nContent-Type: text/plain; charset=utf-8\r\nX-Content-Type-Options: nosniff\r\n\
