@@ -19,6 +19,3 @@ pub use ticket::{Hand, Ticket, Written};
 pub use wish::Wish;
 pub use worker::{Hands, Worker};
 pub use world::World;
-
-#[cfg(test)]
-mod tests;

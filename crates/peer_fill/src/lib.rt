@@ -34,6 +34,3 @@ pub use keeping::{KeepsConn, KeepsFill, join_conns, join_fills};
 pub use open::{OpenFault, Opened};
 pub use pool::Pool;
 pub use seats::{ConnSeat, FillSeat};
-
-#[cfg(test)]
-mod tests;

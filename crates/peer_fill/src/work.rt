@@ -125,6 +125,13 @@ impl<S: Source, L: Ledger> Pool<S, L> {
         }
     }
 
+    /// Keeps a value that was found in the cache of its group, unless memory refuses that. What is evicted for it is
+    /// dropped once the caches are unlocked, where the list has room for it.
+    pub fn keep<R: Wait>(&self, rt: &R, fill: &Fill<S>, evicted: &mut Evicted) {
+        let _ = lock(rt, &self.caches).add(fill, evicted);
+        evicted.clear();
+    }
+
     // Looks into the cache again, and calls the source where there is no value. What the source finds is kept, unless
     // memory refuses that.
     fn make<R: Wait>(
@@ -141,8 +148,7 @@ impl<S: Source, L: Ledger> Pool<S, L> {
             return Made::Rehit(fill);
         }
         let fill = Fill::run(alloc, &self.source, group, key);
-        let _ = lock(rt, &self.caches).add(&fill, evicted);
-        evicted.clear();
+        self.keep(rt, &fill, evicted);
         Made::Called(fill)
     }
 

@@ -18,6 +18,3 @@ pub use table::{Ask, AskFault, Table};
 
 /// How many replies a connection gets at most. The last of them closes.
 pub const MAX_REPLIES: u64 = 10_000;
-
-#[cfg(test)]
-mod tests;

@@ -26,6 +26,3 @@ pub use fault::HeadFault;
 pub use head::HeadView;
 pub use look::Look;
 pub use places::FieldPlaces;
-
-#[cfg(test)]
-mod tests;

@@ -17,6 +17,3 @@ pub use lane_out::LaneOut;
 pub use pair::{beside, lane};
 pub use signal::Signal;
 pub use ticket::{Body, Ticket};
-
-#[cfg(test)]
-mod tests;

@@ -1,13 +1,14 @@
 -- The parts of a decoded path, by the places that the code finds.
-use Rattle.std.proofs.Common.{◌≡◌, ℕ, ◌+◌, true, List, length, take, drop, nat_eq, Some, None, Result}
+use Rattle.std.proofs.Common.{◌≡◌, ℕ, ◌+◌, true, false, List, length, take, drop, nat_eq, Some, None, Result}
 use Rattle.std.proofs.Common.{Ok, Err, ◌-◌, sym, refl, ap, ◌∙◌, arith}
 use Rattle.std.specs.List.{starts_with}
+use Rattle.std.proofs.lemmas.Bool.{false≢true}
 use Rattle.std.proofs.lemmas.List.{drop-drop}
 use Rattle.std.proofs.lemmas.Slice.Eq.{bytes_eq-Decides}
 use Rattle.memchr.specs.Find.{IsFirstByte, is_byte}
 use Rattle.std.specs.Cmp.Lexicographic.{pointwise}
-use Rattle.peer_path.specs.Places.{PlaceParts, Refusal, NoKey, slash, base_path, split_key, place_below_base}
-use Rattle.peer_path.proofs.Searches.{position_or_len-found, list_any-found, list_any-absent}
+use Rattle.peer_path.specs.Places.{PlaceParts, Refusal, Outside, NoKey, slash, base_path, split_key, place_below_base}
+use Rattle.peer_path.proofs.Searches.{false_from_not, position_or_len-found, list_any-found, list_any-absent}
 
 -- a path that begins with the base path leads where what is left of it leads
 pub place_below_base-base : (path rest : List ℕ) → pointwise nat_eq (take (length base_path) path) base_path ≡ true
@@ -16,6 +17,15 @@ place_below_base-base path rest begins behind =
     let starts : starts_with nat_eq path base_path ≡ true =
     (bytes_eq-Decides base_path _).1 (sym ((bytes_eq-Decides (take (length base_path) path) base_path).0 begins)) in
     rw starts (ap split_key (sym behind))
+
+-- a path that begins otherwise leads nowhere
+pub place_below_base-other : (path : List ℕ) → pointwise nat_eq (take (length base_path) path) base_path ≡ false
+    → place_below_base path ≡ Err Outside
+place_below_base-other path differs =
+    let begins_not : starts_with nat_eq path base_path ≡ false =
+    false_from_not _ (λ begins. false≢true (sym differs
+    ∙ (bytes_eq-Decides (take (length base_path) path) base_path).1 (sym ((bytes_eq-Decides base_path _).0 begins)))) in
+    rw begins_not refl
 
 -- a place of these two parts
 abbrev parts_of : List ℕ → List ℕ → Result PlaceParts Refusal

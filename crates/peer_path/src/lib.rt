@@ -12,8 +12,6 @@ mod escape;
 mod fault;
 mod place;
 mod target;
-#[cfg(test)]
-mod tests;
 
 pub use fault::PathFault;
 pub use place::{Place, locate};

@@ -17,6 +17,3 @@ pub use head::HeadRoom;
 pub use reply::Reply;
 pub use response::{PbFault, read_response};
 pub use wish::{Wish, WishBody};
-
-#[cfg(test)]
-mod tests;

@@ -15,8 +15,6 @@ mod occupancy;
 mod server;
 mod start;
 mod stream;
-#[cfg(test)]
-mod tests;
 mod threads;
 
 pub use limits::Limits;

@@ -23,6 +23,3 @@ pub use functional::FunctionalSource;
 pub use group::GroupId;
 pub use names::Names;
 pub use source::{GetFault, Source};
-
-#[cfg(test)]
-mod tests;

@@ -29,6 +29,3 @@ pub use trunc_sink::TruncSink;
 pub use view::{ByteView, TextFault};
 pub use view_sink::ViewSink;
 pub use writer::{PeerWrite, WriteFailed, WriteFault, write_all};
-
-#[cfg(test)]
-mod tests;

@@ -18,6 +18,3 @@ mod waiter;
 pub use mutex::lock;
 pub use notice::Notice;
 pub use waiter::Waiter;
-
-#[cfg(test)]
-mod tests;

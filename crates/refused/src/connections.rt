@@ -13,7 +13,7 @@ use std::alloc::Global;
 use std::sync::Wait;
 use std::sync::ledger::Ledger;
 use std::thread::Threads;
-use test_sources::{beside_worker, push_fill};
+use test_support::{beside_worker, push_fill};
 
 /// Three requests of 45 bytes.
 pub const THREE: &[u8] =
@@ -55,6 +55,14 @@ fn ended(served: &Served<MemReader, MemWriter>) -> Seen {
     }
 }
 
+// The same where one was served.
+fn ended_if_served(served: &Option<Served<MemReader, MemWriter>>) -> Option<Seen> {
+    match served {
+        Some(served) => Some(ended(served)),
+        None => None,
+    }
+}
+
 /// A call that serves in one thread.
 #[derive(Clone, Copy)]
 pub enum Alone {
@@ -76,23 +84,24 @@ pub fn in_one_thread(alloc: Global, call: Alone) -> Option<Seen> {
     Some(ended(&served))
 }
 
-// Serves the three requests over a pool, with growths counted.
+// Serves the three requests over a pool, with growths counted. None was served where memory was refused before.
 fn serve_three<S: Source, L: Ledger + Send + Sync, H: Threads + Wait + Sync>(
     rt: &H,
     alloc: Global,
     pool: &Pool<S, L>,
     conn: ConnSeat<S, L>,
-    reader: MemReader,
-) -> (ConnSeat<S, L>, Served<MemReader, MemWriter>)
-    requires conn { IsConnSeatOf pool.now conn }
-    requires calls { reader.calls ≡ 0 }
+) -> (ConnSeat<S, L>, Option<Served<MemReader, MemWriter>>)
+    requires { IsConnSeatOf pool.now conn }
     ensures { IsConnSeatOf pool.now result.0 }
 {
+    let Some(reader) = reader_of(alloc, THREE) else {
+        return (conn, None);
+    };
     let writer = MemWriter::new(alloc, 65_536, None);
     window::begin(alloc);
     let (served, conn) = serve_connection(rt, alloc, pool, conn, reader, writer, READS);
     window::end(alloc);
-    (conn, served)
+    (conn, Some(served))
 }
 
 /// Serves the three requests over a pool, beside a worker of this list.
@@ -102,21 +111,19 @@ pub fn serve_beside<S: Source, L: Ledger + Send + Sync, H: Threads + Wait + Sync
     pool: &Pool<S, L>,
     fills: &mut Vec<FillSeat<S, L>>,
     conn: ConnSeat<S, L>,
-) -> Option<(ConnSeat<S, L>, Served<MemReader, MemWriter>)>
+) -> Option<(ConnSeat<S, L>, Option<Served<MemReader, MemWriter>>)>
     requires fills { All (IsFillSeatOf pool.now) fills.old.items }
     requires conn { IsConnSeatOf pool.now conn }
     ensures fills { All (IsFillSeatOf pool.now) fills.new.items }
     ensures conn { IfSome result (λ used. IsConnSeatOf pool.now used.0) }
 {
-    let reader = reader_of(alloc, THREE)?;
     let fill = pop_fill(pool, fills)?;
-    let serve = move || -> (ConnSeat<S, L>, Served<MemReader, MemWriter>)
-        requires conn { IsConnSeatOf pool.now conn }
-        requires calls { reader.calls ≡ 0 }
+    let serve = move || -> (ConnSeat<S, L>, Option<Served<MemReader, MemWriter>>)
+        requires { IsConnSeatOf pool.now conn }
         ensures { IsConnSeatOf pool.entry.now result.0 }
-    { serve_three(rt, alloc, pool, conn, reader) };
+    { serve_three(rt, alloc, pool, conn) };
     let (fill, used) = beside_worker(rt, alloc, pool, fill, serve)?;
-    push_fill(pool, fills, fill)?;
+    push_fill(pool, fills, fill);
     Some(used)
 }
 
@@ -127,12 +134,12 @@ pub fn connection<L: Ledger + Send + Sync, H: Threads + Wait + Sync>(
     pool: &Pool<DemoSource, L>,
     fills: &mut Vec<FillSeat<DemoSource, L>>,
     conn: ConnSeat<DemoSource, L>,
-) -> Option<(ConnSeat<DemoSource, L>, Seen)>
+) -> Option<(ConnSeat<DemoSource, L>, Option<Seen>)>
     requires fills { All (IsFillSeatOf pool.now) fills.old.items }
     requires conn { IsConnSeatOf pool.now conn }
     ensures fills { All (IsFillSeatOf pool.now) fills.new.items }
     ensures conn { IfSome result (λ used. IsConnSeatOf pool.now used.0) }
 {
     let (conn, served) = serve_beside(rt, alloc, pool, fills, conn)?;
-    Some((conn, ended(&served)))
+    Some((conn, ended_if_served(&served)))
 }

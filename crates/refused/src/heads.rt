@@ -8,7 +8,7 @@ use crate::window;
 use peer_conn::wish_of;
 use peer_head::{FieldPlaces, HeadBuf, Look};
 use peer_lane::{beside, lane};
-use peer_path::{PathFault, locate};
+use peer_path::{PathFault, Place, locate};
 use peer_reply::{Fault, Wish, WishBody};
 use peer_source::{DemoSource, GetFault, GroupId, Names, Source};
 use peer_table::{TableFault, TableSource};
@@ -26,25 +26,30 @@ pub fn head_buf(alloc: Global) -> Option<Seen> {
     })
 }
 
-/// `locate` of a target with an escape. A fault that has no need of memory is told, whatever is refused.
-pub fn locate_escaped(alloc: Global) -> Option<Seen> {
-    window::begin(alloc);
-    let located = locate(alloc, b"/_groupcache/echo/%61b");
-    let bad = locate(alloc, b"/_groupcache/echo/%6");
-    window::end(alloc);
-    let seen = match located {
+// What was seen of a target that names the key `ab` of `echo`.
+fn place_seen(located: &Result<Place<'_>, PathFault>) -> Seen {
+    match located {
         Ok(place) => {
             let same = place.group() == b"echo".as_slice() && place.key() == b"ab".as_slice();
             Seen::Answered.only_if(same, "another place")
         }
         Err(PathFault::Memory) => Seen::Refused,
         Err(_) => Seen::Wrong("a fault that is none"),
-    };
-    let told = match bad {
-        Err(PathFault::Escape) => true,
-        _ => false,
-    };
-    Some(seen.only_if(told, "a bad escape was not told"))
+    }
+}
+
+// Whether a bad escape was told.
+fn is_bad_escape(located: &Result<Place<'_>, PathFault>) -> bool {
+    matches!(located, Err(PathFault::Escape))
+}
+
+/// `locate` of a target with an escape. A fault that has no need of memory is told, whatever is refused.
+pub fn locate_escaped(alloc: Global) -> Option<Seen> {
+    window::begin(alloc);
+    let located = locate(alloc, b"/_groupcache/echo/%61b");
+    let bad = locate(alloc, b"/_groupcache/echo/%6");
+    window::end(alloc);
+    Some(place_seen(&located).only_if(is_bad_escape(&bad), "a bad escape was not told"))
 }
 
 /// A reader of one piece.

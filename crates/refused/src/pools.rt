@@ -13,7 +13,7 @@ use std::alloc::{AllocError, Global};
 use std::marker::Brand;
 use std::sync::Wait;
 use std::sync::ledger::{Blank, Ledger};
-use test_sources::{ask_for, do_jobs, seed};
+use test_support::{ask_for, do_jobs, seed};
 
 /// How many bytes the caches of a pool keep here.
 pub const CACHE_BYTES: u64 = 1000;
@@ -79,6 +79,22 @@ fn usual_counts(before: Before) -> [u64; 4] {
     }
 }
 
+// Asks for the key `k`, and lets go of the claim.
+fn ask_once<L: Ledger, R: Wait>(
+    rt: &R,
+    alloc: Global,
+    pool: &Pool<DemoSource, L>,
+    seat: &mut ConnSeat<DemoSource, L>,
+) -> Option<()>
+    requires { IsConnSeatOf pool.now seat.old }
+    ensures { IsConnSeatOf pool.now seat.new }
+{
+    match ask_for(rt, alloc, pool, seat, b"k") {
+        Some(_claim) => Some(()),
+        None => None,
+    }
+}
+
 // Does what comes before the ask whose growths are counted.
 fn go_before<L: Ledger, R: Wait>(
     rt: &R,
@@ -95,12 +111,9 @@ fn go_before<L: Ledger, R: Wait>(
 {
     match before {
         Before::Nothing => Some(()),
-        Before::Ask => {
-            ask_for(rt, alloc, pool, seat, b"k")?;
-            Some(())
-        }
+        Before::Ask => ask_once(rt, alloc, pool, seat),
         Before::Fill => {
-            ask_for(rt, alloc, pool, seat, b"k")?;
+            ask_once(rt, alloc, pool, seat)?;
             pool.stop();
             do_jobs(rt, alloc, pool, fills)
         }
@@ -126,7 +139,7 @@ fn ask_counted<L: Ledger, R: Wait>(
         Ok(claim) => Some(Seen::Answered.only_if(claim.key().eq_bytes(b"k"), "another key")),
         Err(AskFault::Memory) => {
             let same = counts(seat) == counted;
-            ask_for(rt, alloc, pool, seat, b"k")?;
+            ask_once(rt, alloc, pool, seat)?;
             Some(Seen::Refused.only_if(same, "the seat counted"))
         }
         Err(AskFault::Worn) => Some(Seen::Wrong("worn")),

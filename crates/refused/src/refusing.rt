@@ -14,12 +14,15 @@ use std::marker::Brand;
 use std::sync::Wait;
 use std::sync::ledger::{Blank, Ledger};
 use std::thread::Threads;
-use test_sources::{
+use test_support::{
     Hooked, Refusing, SeatLists, all_called, ask_for, close_pool, do_jobs, open_pool, push_conn,
 };
 
-// Whether the claim's fill found `b`.
-fn found_b(claim: &Claim<Hooked<Refusing>>) -> bool {
+// Whether the claim is there, and its fill found `b`.
+fn found_b(claim: &Option<Claim<Hooked<Refusing>>>) -> bool {
+    let Some(claim) = claim else {
+        return false;
+    };
     let mut note = claim.note();
     match claim.look(&mut note) {
         Some(fill) => finds(fill, b"b"),
@@ -27,8 +30,11 @@ fn found_b(claim: &Claim<Hooked<Refusing>>) -> bool {
     }
 }
 
-// What is seen of the first reply, and then the end.
-fn ended(served: &Served<MemReader, MemWriter>) -> Seen {
+// What is seen of the first reply, and then the end, where a connection was served.
+fn ended(served: &Option<Served<MemReader, MemWriter>>) -> Seen {
+    let Some(served) = served else {
+        return Seen::Prepared;
+    };
     Seen::Refused
         .only_if(served.end == End::Memory, "another end")
         .only_if(
@@ -52,10 +58,12 @@ fn once<L: Ledger + Send + Sync, H: Threads + Wait + Sync>(
     let conn = pop_conn(pool, &mut lists.conns)?;
     let (mut conn, served) = serve_beside(rt, alloc, pool, &mut lists.fills, conn)?;
     let claim = ask_for(rt, alloc, pool, &mut conn, b"b");
-    push_conn(pool, &mut lists.conns, conn)?;
-    do_jobs(rt, alloc, pool, &mut lists.fills)?;
-    let found = found_b(&claim?);
-    Some(ended(&served).only_if(found, "the pool does not fill what it was refused"))
+    push_conn(pool, &mut lists.conns, conn);
+    do_jobs(rt, alloc, pool, &mut lists.fills);
+    Some(ended(&served).only_if(
+        found_b(&claim),
+        "the pool does not fill what it was refused",
+    ))
 }
 
 // What was seen, if the report fits to it.

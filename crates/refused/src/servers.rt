@@ -13,7 +13,7 @@ use std::net::{Net, Shutdown, TcpListener, TcpStream};
 use std::sync::Wait;
 use std::thread::Threads;
 use std::time::{Clock, Duration};
-use test_sources::seed;
+use test_support::seed;
 
 // How many seconds the client waits at most.
 const PATIENCE: u64 = 30;

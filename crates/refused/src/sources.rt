@@ -5,7 +5,7 @@ use crate::window;
 use peer_source::{DemoSource, Fill, GroupId, MainCache, Outcome, Source};
 use peer_view::ByteView;
 use std::alloc::{AllocError, Global};
-use test_sources::seed;
+use test_support::seed;
 
 /// The group whose values are the keys.
 pub const ECHO: GroupId = GroupId { number: 0 };

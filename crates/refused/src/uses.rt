@@ -13,7 +13,7 @@ use std::marker::Brand;
 use std::sync::Wait;
 use std::sync::ledger::{Blank, Ledger};
 use std::thread::Threads;
-use test_sources::{SeatLists, close_pool, open_pool, push_conn};
+use test_support::{SeatLists, close_pool, open_pool, push_conn};
 
 /// The call that is made over a pool.
 #[derive(Clone, Copy)]
@@ -46,7 +46,7 @@ fn make<L: Ledger + Send + Sync, H: Threads + Wait + Sync>(
     fills: &mut Vec<FillSeat<DemoSource, L>>,
     mut conn: ConnSeat<DemoSource, L>,
     call: Call,
-) -> Option<(ConnSeat<DemoSource, L>, Seen)>
+) -> Option<(ConnSeat<DemoSource, L>, Option<Seen>)>
     requires fills { All (IsFillSeatOf pool.now) fills.old.items }
     requires conn { IsConnSeatOf pool.now conn }
     ensures fills { All (IsFillSeatOf pool.now) fills.new.items }
@@ -59,7 +59,7 @@ fn make<L: Ledger + Send + Sync, H: Threads + Wait + Sync>(
         Call::Without => without::calls(rt, alloc, pool, &mut conn),
         Call::Connection => return connection(rt, alloc, pool, fills, conn),
     };
-    Some((conn, seen?))
+    Some((conn, seen))
 }
 
 // Makes the call with seats from these lists, and says what was seen and how often the connection asked.
@@ -78,8 +78,8 @@ fn make_with<L: Ledger + Send + Sync, H: Threads + Wait + Sync>(
     let conn = pop_conn(pool, &mut lists.conns)?;
     let (conn, seen) = make(rt, alloc, pool, &mut lists.fills, conn, call)?;
     let asked = conn.asked();
-    push_conn(pool, &mut lists.conns, conn)?;
-    Some((seen, asked))
+    push_conn(pool, &mut lists.conns, conn);
+    Some((seen?, asked))
 }
 
 // What was seen, if the report fits to it.

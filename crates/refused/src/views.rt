@@ -12,7 +12,7 @@ const NEW: &[u8] = b"what is set";
 const NEW_TEXT: &str = "what is set";
 
 // Whether a view was given that has these bytes.
-fn given(view: Result<ByteView, AllocError>, bytes: &[u8]) -> Seen {
+fn given(view: &Result<ByteView, AllocError>, bytes: &[u8]) -> Seen {
     match view {
         Ok(view) => Seen::Answered.only_if(view.eq_bytes(bytes), "other bytes"),
         Err(AllocError) => Seen::Refused,
@@ -24,7 +24,7 @@ pub fn copy_of(alloc: Global) -> Option<Seen> {
     window::begin(alloc);
     let copy = ByteView::copy_of(alloc, NEW);
     window::end(alloc);
-    Some(given(copy, NEW))
+    Some(given(&copy, NEW))
 }
 
 /// `ByteView::share`.
@@ -33,7 +33,7 @@ pub fn share(alloc: Global) -> Option<Seen> {
     window::begin(alloc);
     let shared = view.share();
     window::end(alloc);
-    Some(given(shared, OLD).only_if(view.eq_bytes(OLD), "the view changed"))
+    Some(given(&shared, OLD).only_if(view.eq_bytes(OLD), "the view changed"))
 }
 
 /// `ByteView::slice`.
@@ -45,7 +45,7 @@ pub fn slice(alloc: Global) -> Option<Seen> {
     window::begin(alloc);
     let part = view.slice(5, 8);
     window::end(alloc);
-    Some(given(part, b"was").only_if(view.eq_bytes(OLD), "the view changed"))
+    Some(given(&part, b"was").only_if(view.eq_bytes(OLD), "the view changed"))
 }
 
 /// `ByteView::slice_from`.
@@ -57,7 +57,15 @@ pub fn slice_from(alloc: Global) -> Option<Seen> {
     window::begin(alloc);
     let part = view.slice_from(9);
     window::end(alloc);
-    Some(given(part, b"there").only_if(view.eq_bytes(OLD), "the view changed"))
+    Some(given(&part, b"there").only_if(view.eq_bytes(OLD), "the view changed"))
+}
+
+// Whether a list was given that has these bytes.
+fn bytes_given(list: &Result<Vec<u8>, AllocError>, bytes: &[u8]) -> Seen {
+    match list {
+        Ok(list) => Seen::Answered.only_if(list.as_slice() == bytes, "other bytes"),
+        Err(AllocError) => Seen::Refused,
+    }
 }
 
 /// `ByteView::to_vec`.
@@ -66,10 +74,21 @@ pub fn to_vec(alloc: Global) -> Option<Seen> {
     window::begin(alloc);
     let bytes = view.to_vec(alloc);
     window::end(alloc);
-    Some(match bytes {
-        Ok(bytes) => Seen::Answered.only_if(bytes.as_slice() == OLD, "other bytes"),
-        Err(AllocError) => Seen::Refused,
-    })
+    Some(bytes_given(&bytes, OLD))
+}
+
+// Whether this text was given.
+fn text_given(given: &Result<String, TextFault>, text: &str) -> Seen {
+    match given {
+        Ok(given) => Seen::Answered.only_if(given.as_str() == text, "another text"),
+        Err(TextFault::Memory) => Seen::Refused,
+        Err(TextFault::NotUtf8) => Seen::Wrong("a text was taken for none"),
+    }
+}
+
+// Whether it was told that bytes are no text.
+fn is_no_text(given: &Result<String, TextFault>) -> bool {
+    matches!(given, Err(TextFault::NotUtf8))
 }
 
 /// `ByteView::to_text`. What is no text is told, whatever is refused.
@@ -80,16 +99,7 @@ pub fn to_text(alloc: Global) -> Option<Seen> {
     let text = view.to_text(alloc);
     let fault = no_text.to_text(alloc);
     window::end(alloc);
-    let seen = match text {
-        Ok(text) => Seen::Answered.only_if(text.as_str() == NEW_TEXT, "another text"),
-        Err(TextFault::Memory) => Seen::Refused,
-        Err(TextFault::NotUtf8) => Seen::Wrong("a text was taken for none"),
-    };
-    let told = match fault {
-        Err(TextFault::NotUtf8) => true,
-        _ => false,
-    };
-    Some(seen.only_if(told, "what is no text was not told"))
+    Some(text_given(&text, NEW_TEXT).only_if(is_no_text(&fault), "what is no text was not told"))
 }
 
 /// How a sink is set.

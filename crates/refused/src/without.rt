@@ -1,5 +1,6 @@
 //! Calls that promise to take no memory. Each is made with all growths refused.
 ghost use Rattle.peer_fill.specs.Pools.{IsConnSeatOf};
+ghost use Rattle.peer_lane.specs.Lanes.{IsSameIn, IsSameOut};
 
 use crate::connections::{FIRST_REPLY, THREE};
 use crate::heads::reader_of;
@@ -12,7 +13,7 @@ use bytes::Bytes;
 use peer_fill::{ConnSeat, Pool};
 use peer_flight::{Ask, Table};
 use peer_head::{FieldPlaces, HeadBuf, Look};
-use peer_lane::{Body, Ticket, beside, lane};
+use peer_lane::{Body, LaneIn, LaneOut, Ticket, beside, lane};
 use peer_path::locate;
 use peer_reply::{Fault, HeadRoom, Reply, read_response};
 use peer_source::{DemoSource, Fill, Names, Source};
@@ -21,7 +22,7 @@ use std::alloc::{AllocError, Global};
 use std::sync::Wait;
 use std::sync::ledger::Ledger;
 use std::thread::Threads;
-use test_sources::ask_for;
+use test_support::ask_for;
 
 const TEXT: &[u8] = b"what was there";
 
@@ -276,12 +277,30 @@ fn is_put(put: Result<(), Ticket<DemoSource>>) -> bool {
     }
 }
 
+// Puts a ticket that closes, and says whether there was room.
+fn puts(put: &mut LaneIn<DemoSource>) -> bool
+    ensures { IsSameIn put.old put.new }
+{
+    is_put(put.put(Ticket {
+        closing: true,
+        bare: false,
+        body: Body::Fault(Fault::Host),
+    }))
+}
+
 // Whether a ticket was taken that closes.
-fn closes(taken: Option<Ticket<DemoSource>>) -> bool {
+fn is_closing(taken: Option<Ticket<DemoSource>>) -> bool {
     match taken {
         Some(ticket) => ticket.closing,
         None => false,
     }
+}
+
+// Takes a ticket, and says whether it is one that closes.
+fn takes(taken: &mut LaneOut<DemoSource>) -> bool
+    ensures { IsSameOut taken.old taken.new }
+{
+    is_closing(taken.take())
 }
 
 /// The calls of a lane.
@@ -289,15 +308,10 @@ pub fn lanes(alloc: Global) -> Option<Seen> {
     let Ok((mut put, mut taken)) = lane::<DemoSource>(alloc) else {
         return None;
     };
-    let ticket = Ticket {
-        closing: true,
-        bare: false,
-        body: Body::Fault(Fault::Host),
-    };
     window::begin(alloc);
-    let one = is_put(put.put(ticket));
+    let one = puts(&mut put);
     let left = beside(&mut put, &mut taken) == 1;
-    let same = closes(taken.take());
+    let same = takes(&mut taken);
     let empty = beside(&mut put, &mut taken) == 0;
     window::end(alloc);
     all(&[one, left, same, empty])

@@ -4,13 +4,13 @@ use crate::demos::demo;
 use crate::ends::{TWO, TWO_REPLIES};
 use crate::pooled::{Devices, Pooled, serve_pooled};
 use crate::runs::{READS, halves};
-use crate::steps::Step;
 use crate::tellers::{ActingReader, ActingWriter, BeforeCall};
 use peer_conn::End;
 use peer_view::{MemReader, MemWriter};
 use std::sync::atomic::AtomicU64;
 use std::sync::atomic::Ordering::SeqCst;
 use std::test::Fail;
+use test_support::Step;
 
 // The second read and the first write, which wait for one another.
 #[derive(Drop)]

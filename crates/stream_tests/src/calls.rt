@@ -5,16 +5,18 @@ use crate::ordered::Holding;
 use crate::pooled::{Devices, Pooled, Setup, serve_pooled};
 use crate::runs::{READS, whole};
 use crate::sources::{Watch, watched_demo};
-use crate::steps::Step;
-use crate::tellers::{ActingWriter, Telling};
+use crate::tellers::{ActingReader, ActingWriter, Telling, TellingLater};
+use crate::texts::{ASK_K, repeated};
 use peer_conn::End;
 use peer_fill::{Gate, NoGate};
 use peer_view::{MemReader, MemWriter};
 use std::alloc::{AllocError, Global};
 use std::sync::Wait;
+use std::sync::atomic::AtomicU64;
 use std::sync::atomic::Ordering::SeqCst;
 use std::test::Fail;
 use std::thread::Threads;
+use test_support::Step;
 
 // How often the source was called, how often the report says so, and how often the pool was asked.
 #[derive(Clone, Copy, Debug, PartialEq, Eq)]
@@ -25,8 +27,7 @@ struct Counts {
 }
 
 // The counts of a connection that ended clean.
-fn counted<W: Drop>(watch: &Watch, run: Option<Pooled<MemReader, W>>) -> Option<Counts> {
-    let run = run?;
+fn counted(watch: &Watch, run: &Pooled<MemReader, MemWriter>) -> Option<Counts> {
     match run.served.end {
         End::Clean => Some(Counts {
             called: watch.calls.load(SeqCst),
@@ -45,6 +46,11 @@ fn counts_of<G: Gate, H: Threads + Wait + Sync>(
     cache_bytes: u64,
     text: &[u8],
 ) -> Result<Option<Counts>, AllocError> {
+    let devices = Devices {
+        reader: MemReader::new(whole(alloc, text)?, false),
+        writer: MemWriter::new(alloc, 65_536, None),
+        reads: READS,
+    };
     let watch = Watch::new();
     let setup = Setup {
         source: watched_demo(&watch, false),
@@ -52,12 +58,10 @@ fn counts_of<G: Gate, H: Threads + Wait + Sync>(
         workers: 2,
         gate,
     };
-    let devices = Devices {
-        reader: MemReader::new(whole(alloc, text)?, false),
-        writer: MemWriter::new(alloc, 65_536, None),
-        reads: READS,
-    };
-    Ok(counted(&watch, serve_pooled(rt, alloc, setup, devices)))
+    Ok(match serve_pooled(rt, alloc, setup, devices) {
+        Some(run) => counted(&watch, &run),
+        None => None,
+    })
 }
 
 #[test]
@@ -83,10 +87,7 @@ fn is_shared(counts: Option<Counts>) -> [bool; 2] {
 
 #[test]
 fn a_hot_key_is_called_for_as_the_report_says(rt: HostRuntime) -> Result<(), Fail> {
-    let mut text = Vec::new(rt.alloc());
-    for _ in 0..500 {
-        text.extend_from_slice(b"GET /_groupcache/echo/k HTTP/1.1\r\nHost: h\r\n\r\n")?;
-    }
+    let text = repeated(rt.alloc(), ASK_K, 500)?;
     for cache_bytes in [0, 1_048_576] {
         let counts = counts_of(&rt, rt.alloc(), &NoGate, cache_bytes, &text)?;
         assert_eq!(rt; is_shared(counts), [true; 2]);
@@ -104,7 +105,13 @@ fn a_reply_is_written_before_a_later_fill_is_there(rt: HostRuntime) -> Result<()
         gate: &NoGate,
     };
     let devices = Devices {
-        reader: MemReader::new(whole(rt.alloc(), TWO)?, false),
+        reader: ActingReader {
+            reader: MemReader::new(whole(rt.alloc(), TWO)?, false),
+            before: TellingLater {
+                calls: AtomicU64::new(0),
+                step: &watch.all_read,
+            },
+        },
         writer: ActingWriter {
             writer: MemWriter::new(rt.alloc(), 65_536, None),
             before: Telling {
@@ -115,9 +122,7 @@ fn a_reply_is_written_before_a_later_fill_is_there(rt: HostRuntime) -> Result<()
     };
     let run = serve_pooled(&rt, rt.alloc(), setup, devices);
     let same = run.map(|run| run.served.writer.writer.taken() == TWO_REPLIES.as_slice());
-    assert_eq!(rt;
-        (same, watch.first_reply.has_expired()),
-        (Some(true), false)
-    );
+    let expired = watch.all_read.has_expired() || watch.first_reply.has_expired();
+    assert_eq!(rt; (same, expired), (Some(true), false));
     Ok(())
 }

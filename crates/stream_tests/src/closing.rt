@@ -1,41 +1,35 @@
 //! Replies that close their connection.
 
 use crate::runs::{READS, demand_all_ways, served, whole};
-use crate::texts::{Then, joined, request, value_reply};
+use crate::texts::{FOUND_K_LAST, Then, Told, reply};
 use peer_conn::End;
 use std::test::Fail;
 
 #[test]
 fn nothing_follows_a_closing_reply(rt: HostRuntime) -> Result<(), Fail> {
-    let asked = joined(
-        rt.alloc(),
-        &[
-            request(rt.alloc(), "/_groupcache/echo/a")?.as_slice(),
-            b"GET /_groupcache/echo/b HTTP/1.1\r\nHost: h\r\nConnection: Keep-Alive, CLOSE\r\n\r\n".as_slice(),
-            request(rt.alloc(), "/_groupcache/echo/c")?.as_slice(),
-        ],
+    demand_all_ways(
+        &rt,
+        b"GET /_groupcache/echo/a HTTP/1.1\r\nHost: h\r\n\r\n\
+        GET /_groupcache/echo/b HTTP/1.1\r\nHost: h\r\nConnection: Keep-Alive, CLOSE\r\n\r\n\
+        GET /_groupcache/echo/c HTTP/1.1\r\nHost: h\r\n\r\n",
+        b"HTTP/1.1 200 OK\r\nContent-Type: application/x-protobuf\r\nContent-Length: 3\r\n\r\n\x0A\x01a\
+        HTTP/1.1 200 OK\r\nContent-Type: application/x-protobuf\r\nContent-Length: 3\r\nConnection: close\r\n\r\n\x0A\x01b",
+        End::Clean,
     )?;
-    let replies = joined(
-        rt.alloc(),
-        &[
-            value_reply(rt.alloc(), Then::Stays, b"\x0A\x01a")?.as_slice(),
-            value_reply(rt.alloc(), Then::Closes, b"\x0A\x01b")?.as_slice(),
-        ],
-    )?;
-    demand_all_ways(&rt, &asked, &replies, End::Clean)?;
     Ok(())
 }
 
 #[test]
 fn the_older_version_closes(rt: HostRuntime) -> Result<(), Fail> {
-    let replies = value_reply(rt.alloc(), Then::Closes, b"\x0A\x01k")?;
-    assert_eq!(rt; replies.len(), 98);
-    assert_eq!(rt;
-        replies.as_slice(),
-        b"HTTP/1.1 200 OK\r\nContent-Type: application/x-protobuf\r\nContent-Length: 3\r\nConnection: close\r\n\r\n\x0A\x01k".as_slice()
-    );
     let asked = b"GET /_groupcache/echo/k HTTP/1.0\r\n\r\n";
-    demand_all_ways(&rt, asked, &replies, End::Clean)?;
+    demand_all_ways(&rt, asked, FOUND_K_LAST, End::Clean)?;
+    Ok(())
+}
+
+#[test]
+fn the_value_is_written_out(rt: HostRuntime) -> Result<(), Fail> {
+    let reply = reply(rt.alloc(), Then::Closes, Told::Value(b"\x0A\x01k"))?;
+    assert_eq!(rt; reply.as_slice(), FOUND_K_LAST);
     Ok(())
 }
 
@@ -53,10 +47,9 @@ fn a_fault_of_a_target_closes_as_its_head_says(rt: HostRuntime) -> Result<(), Fa
 
 #[test]
 fn nothing_is_read_behind_a_closing_reply(rt: HostRuntime) -> Result<(), Fail> {
-    let asked = b"GET /_groupcache/echo/a HTTP/1.1\r\nHost: h\r\nConnection: close\r\n\r\n";
+    let asked = b"GET /_groupcache/echo/k HTTP/1.1\r\nHost: h\r\nConnection: close\r\n\r\n";
     let served = served(rt.alloc(), whole(rt.alloc(), asked)?, true, READS);
     assert_eq!(rt; served.end, End::Clean);
-    let replies = value_reply(rt.alloc(), Then::Closes, b"\x0A\x01a")?;
-    assert_eq!(rt; served.writer.taken(), replies.as_slice());
+    assert_eq!(rt; served.writer.taken(), FOUND_K_LAST);
     Ok(())
 }

@@ -2,7 +2,7 @@
 
 use crate::pooled::{Devices, Pooled, Setup, serve_pooled};
 use crate::runs::READS;
-use peer_conn::End;
+use peer_conn::{End, Served};
 use peer_fill::{Gate, NoGate};
 use peer_source::DemoSource;
 use peer_view::{MemReader, MemWriter};
@@ -59,14 +59,29 @@ pub fn over_pieces<H: Threads + Wait + Sync>(
     serve_pooled(rt, alloc, setup, devices)
 }
 
-/// Whether the connection wrote these bytes, and whether it ended so.
-pub fn is_served(
-    run: &Option<Pooled<MemReader, MemWriter>>,
-    replies: &[u8],
-    end: End,
-) -> [bool; 2] {
+/// Whether a connection wrote these bytes, and ended so.
+pub fn is_told(served: &Served<MemReader, MemWriter>, replies: &[u8], end: End) -> bool {
+    served.end == end && served.writer.taken() == replies
+}
+
+/// The same of one over a pool.
+pub fn is_served(run: &Option<Pooled<MemReader, MemWriter>>, replies: &[u8], end: End) -> bool {
     match run {
-        Some(run) => [run.served.writer.taken() == replies, run.served.end == end],
-        None => [false; 2],
+        Some(run) => is_told(&run.served, replies, end),
+        None => false,
     }
+}
+
+/// Whether a connection over a pool, whose reader gives these pieces, writes these bytes and ends so.
+pub fn is_served_over<H: Threads + Wait + Sync>(
+    rt: &H,
+    alloc: Global,
+    setup: Setup<'_, DemoSource, NoGate>,
+    pieces: Vec<Vec<u8>>,
+    failing: Failing,
+    told: (&[u8], End),
+) -> bool {
+    let run = over_pieces(rt, alloc, setup, pieces, failing);
+    let (replies, end) = told;
+    is_served(&run, replies, end)
 }

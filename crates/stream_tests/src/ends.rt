@@ -1,7 +1,7 @@
 //! Ends of connections: cuts at every place, and reads that are used up.
 
-use crate::runs::{by_bytes, demand, demand_all_ways, served, whole};
-use crate::texts::{Then, fault_reply, joined, request, value_reply};
+use crate::runs::{add_piece, by_bytes, demand, demand_all_ways, demand_within, whole};
+use crate::texts::TOO_LONG;
 use peer_conn::End;
 use std::alloc::{AllocError, Global};
 use std::test::Fail;
@@ -36,9 +36,9 @@ fn thirds(
     let mut pieces = Vec::new(alloc);
     let (head, rest) = text.split_at(first.min(text.len()));
     let (middle, tail) = rest.split_at(second.min(rest.len()));
-    pieces.push(head.to_vec(alloc)?)?;
-    pieces.push(middle.to_vec(alloc)?)?;
-    pieces.push(tail.to_vec(alloc)?)?;
+    add_piece(alloc, &mut pieces, head)?;
+    add_piece(alloc, &mut pieces, middle)?;
+    add_piece(alloc, &mut pieces, tail)?;
     Ok(pieces)
 }
 
@@ -75,22 +75,20 @@ fn each_beginning_gets_its_whole_replies(rt: HostRuntime) -> Result<(), Fail> {
 
 #[test]
 fn reads_are_used_up(rt: HostRuntime) -> Result<(), Fail> {
-    let one = request(rt.alloc(), "/_groupcache/echo/k")?;
-    let reply = value_reply(rt.alloc(), Then::Stays, b"\x0A\x01k")?;
-    let many = joined(
-        rt.alloc(),
-        &[one.as_slice(), one.as_slice(), one.as_slice()],
-    )?;
-    let two = joined(rt.alloc(), &[reply.as_slice(), reply.as_slice()])?;
+    let (one, _) = THREE_REPLIES.as_slice().split_at(79);
     for (reads, replies) in [
-        (100, two.as_slice()),
-        (90, two.as_slice()),
-        (89, reply.as_slice()),
+        (100, TWO_REPLIES.as_slice()),
+        (90, TWO_REPLIES.as_slice()),
+        (89, one),
         (0, b"".as_slice()),
     ] {
-        let served = served(rt.alloc(), by_bytes(rt.alloc(), &many)?, false, reads);
-        assert_eq!(rt; served.end, End::Spent, "at {reads}");
-        assert_eq!(rt; served.writer.taken(), replies, "at {reads}");
+        demand_within(
+            &rt,
+            by_bytes(rt.alloc(), THREE)?,
+            reads,
+            replies,
+            End::Spent,
+        );
     }
     Ok(())
 }
@@ -99,35 +97,21 @@ fn reads_are_used_up(rt: HostRuntime) -> Result<(), Fail> {
 fn pairs(alloc: Global, count: usize) -> Result<Vec<Vec<u8>>, AllocError> {
     let mut pieces = Vec::new(alloc);
     for _ in 0..count {
-        pieces.push(b"\r\n".as_slice().to_vec(alloc)?)?;
+        add_piece(alloc, &mut pieces, b"\r\n")?;
     }
     Ok(pieces)
 }
 
 #[test]
 fn pairs_use_up_reads_and_the_limit(rt: HostRuntime) -> Result<(), Fail> {
-    let short = served(rt.alloc(), pairs(rt.alloc(), 8200)?, false, 8191);
-    assert_eq!(rt; short.end, End::Spent);
-    assert_eq!(rt; short.writer.taken(), b"".as_slice());
-    let long = served(rt.alloc(), pairs(rt.alloc(), 8200)?, false, 8192);
-    let replies = fault_reply(
-        rt.alloc(),
-        Then::Closes,
-        "431 Request Header Fields Too Large",
-        "head too long",
-    )?;
-    assert_eq!(rt; long.end, End::Clean);
-    assert_eq!(rt; long.writer.taken(), replies.as_slice());
+    demand_within(&rt, pairs(rt.alloc(), 8200)?, 8191, b"", End::Spent);
+    demand_within(&rt, pairs(rt.alloc(), 8200)?, 8192, TOO_LONG, End::Clean);
     Ok(())
 }
 
 #[test]
 fn the_last_read_may_tell_the_end(rt: HostRuntime) -> Result<(), Fail> {
-    let spent = served(rt.alloc(), whole(rt.alloc(), THREE)?, false, 1);
-    assert_eq!(rt; spent.end, End::Spent);
-    assert_eq!(rt; spent.writer.taken(), THREE_REPLIES.as_slice());
-    let clean = served(rt.alloc(), whole(rt.alloc(), THREE)?, false, 2);
-    assert_eq!(rt; clean.end, End::Clean);
-    assert_eq!(rt; clean.writer.taken(), THREE_REPLIES.as_slice());
+    demand_within(&rt, whole(rt.alloc(), THREE)?, 1, THREE_REPLIES, End::Spent);
+    demand_within(&rt, whole(rt.alloc(), THREE)?, 2, THREE_REPLIES, End::Clean);
     Ok(())
 }

@@ -1,7 +1,7 @@
 //! Texts that are refused: targets, groups, methods, lengths, hosts and heads.
 
-use crate::runs::demand_all_ways;
-use crate::texts::{Then, fault_reply, joined, method_reply, request, value_reply};
+use crate::runs::{demand_all_ways, demand_told};
+use crate::texts::{ASK_K, FOUND_K, Then, Told, joined, reply};
 use peer_conn::End;
 use std::alloc::AllocError;
 use std::process::Abort;
@@ -16,9 +16,7 @@ fn demand_fault(
     status: &str,
     text: &str,
 ) -> Result<(), AllocError> {
-    let asked = request(rt.alloc(), target)?;
-    let replies = fault_reply(rt.alloc(), Then::Stays, status, text)?;
-    demand_all_ways(rt, &asked, &replies, End::Clean)
+    demand_told(rt, target, Told::Text(status, text.as_bytes()))
 }
 
 // Demands one closing fault for a head, and no reply to the request behind it.
@@ -28,16 +26,19 @@ fn demand_closing_fault(
     status: &str,
     text: &str,
 ) -> Result<(), AllocError> {
-    let behind = request(rt.alloc(), "/_groupcache/echo/k")?;
-    let asked = joined(rt.alloc(), &[head, behind.as_slice()])?;
-    let replies = fault_reply(rt.alloc(), Then::Closes, status, text)?;
+    let asked = joined(rt.alloc(), &[head, ASK_K])?;
+    let replies = reply(
+        rt.alloc(),
+        Then::Closes,
+        Told::Text(status, text.as_bytes()),
+    )?;
     demand_all_ways(rt, &asked, &replies, End::Clean)
 }
 
 #[test]
 fn the_fault_is_written_out(rt: HostRuntime) -> Result<(), Fail> {
-    let reply = fault_reply(rt.alloc(), Then::Stays, "400 Bad Request", "bad request")?;
-    assert_eq!(rt; reply.len(), 134);
+    let told = Told::Text("400 Bad Request", b"bad request");
+    let reply = reply(rt.alloc(), Then::Stays, told)?;
     assert_eq!(rt;
         reply.as_slice(),
         b"HTTP/1.1 400 Bad Request\r\nContent-Type: text/plain; charset=utf-8\r\nX-Content-Type-Options: nosniff\r\n\
@@ -49,21 +50,14 @@ fn the_fault_is_written_out(rt: HostRuntime) -> Result<(), Fail> {
 
 #[test]
 fn a_key_is_needed(rt: HostRuntime) -> Result<(), Fail> {
-    let asked = joined(
-        rt.alloc(),
-        &[
-            request(rt.alloc(), "/_groupcache/echo")?.as_slice(),
-            request(rt.alloc(), "/_groupcache/echo/k")?.as_slice(),
-        ],
+    demand_all_ways(
+        &rt,
+        b"GET /_groupcache/echo HTTP/1.1\r\nHost: h\r\n\r\nGET /_groupcache/echo/k HTTP/1.1\r\nHost: h\r\n\r\n",
+        b"HTTP/1.1 400 Bad Request\r\nContent-Type: text/plain; charset=utf-8\r\nX-Content-Type-Options: nosniff\r\n\
+        Content-Length: 12\r\n\r\nbad request\nHTTP/1.1 200 OK\r\nContent-Type: application/x-protobuf\r\n\
+        Content-Length: 3\r\n\r\n\x0A\x01k",
+        End::Clean,
     )?;
-    let replies = joined(
-        rt.alloc(),
-        &[
-            fault_reply(rt.alloc(), Then::Stays, "400 Bad Request", "bad request")?.as_slice(),
-            value_reply(rt.alloc(), Then::Stays, b"\x0A\x01k")?.as_slice(),
-        ],
-    )?;
-    demand_all_ways(&rt, &asked, &replies, End::Clean)?;
     demand_fault(&rt, "/_groupcache/", "400 Bad Request", "bad request")?;
     Ok(())
 }
@@ -97,27 +91,14 @@ fn targets_and_groups_are_judged(rt: HostRuntime) -> Result<(), Fail> {
 
 #[test]
 fn faults_of_targets_stay_open(rt: HostRuntime) -> Result<(), Fail> {
-    let asked = joined(
-        rt.alloc(),
-        &[
-            request(rt.alloc(), "/_groupcache/echo/%G1")?.as_slice(),
-            request(rt.alloc(), "/other")?.as_slice(),
-        ],
+    demand_all_ways(
+        &rt,
+        b"GET /_groupcache/echo/%G1 HTTP/1.1\r\nHost: h\r\n\r\nGET /other HTTP/1.1\r\nHost: h\r\n\r\n",
+        b"HTTP/1.1 400 Bad Request\r\nContent-Type: text/plain; charset=utf-8\r\nX-Content-Type-Options: nosniff\r\n\
+        Content-Length: 11\r\n\r\nbad escape\nHTTP/1.1 404 Not Found\r\nContent-Type: text/plain; charset=utf-8\r\n\
+        X-Content-Type-Options: nosniff\r\nContent-Length: 19\r\n\r\n404 page not found\n",
+        End::Clean,
     )?;
-    let replies = joined(
-        rt.alloc(),
-        &[
-            fault_reply(rt.alloc(), Then::Stays, "400 Bad Request", "bad escape")?.as_slice(),
-            fault_reply(
-                rt.alloc(),
-                Then::Stays,
-                "404 Not Found",
-                "404 page not found",
-            )?
-            .as_slice(),
-        ],
-    )?;
-    demand_all_ways(&rt, &asked, &replies, End::Clean)?;
     Ok(())
 }
 
@@ -133,23 +114,25 @@ fn one_host_is_needed(rt: HostRuntime) -> Result<(), Fail> {
     Ok(())
 }
 
+// The reply to a method that is not served, and the value that is asked for behind it.
+const NOT_ALLOWED_AND_K: &[u8] =
+    b"HTTP/1.1 405 Method Not Allowed\r\nAllow: GET, HEAD\r\nContent-Length: 0\r\n\r\n\
+    HTTP/1.1 200 OK\r\nContent-Type: application/x-protobuf\r\nContent-Length: 3\r\n\r\n\x0A\x01k";
+
+// Demands that this method is told not to be served, and that the request behind it is answered.
+fn demand_other_method(
+    rt: &(impl Abort + AllocGlobal + Threads + Wait + Sync),
+    method: &[u8],
+) -> Result<(), AllocError> {
+    let line = b" /_groupcache/echo/k HTTP/1.1\r\nHost: h\r\n\r\n".as_slice();
+    let asked = joined(rt.alloc(), &[method, line, ASK_K])?;
+    demand_all_ways(rt, &asked, NOT_ALLOWED_AND_K, End::Clean)
+}
+
 #[test]
 fn other_methods_are_not_allowed(rt: HostRuntime) -> Result<(), Fail> {
-    let reply = method_reply(rt.alloc(), Then::Stays)?;
-    assert_eq!(rt; reply.len(), 72);
-    assert_eq!(rt;
-        reply.as_slice(),
-        b"HTTP/1.1 405 Method Not Allowed\r\nAllow: GET, HEAD\r\nContent-Length: 0\r\n\r\n".as_slice()
-    );
-    let next = request(rt.alloc(), "/_groupcache/echo/k")?;
-    let found = value_reply(rt.alloc(), Then::Stays, b"\x0A\x01k")?;
-    let replies = joined(rt.alloc(), &[reply.as_slice(), found.as_slice()])?;
     for method in ["POST", "head", "get", "GE", "GETS", "HEADS"] {
-        let line = format!(in rt.alloc();
-            "{method} /_groupcache/echo/k HTTP/1.1\r\nHost: h\r\n\r\n"
-        )?;
-        let asked = joined(rt.alloc(), &[line.as_bytes(), next.as_slice()])?;
-        demand_all_ways(&rt, &asked, &replies, End::Clean)?;
+        demand_other_method(&rt, method.as_bytes())?;
     }
     Ok(())
 }
@@ -191,9 +174,8 @@ fn content_is_refused(rt: HostRuntime) -> Result<(), Fail> {
 
 #[test]
 fn a_length_of_zeros_is_no_content(rt: HostRuntime) -> Result<(), Fail> {
-    let replies = value_reply(rt.alloc(), Then::Stays, b"\x0A\x01k")?;
     let asked = b"GET /_groupcache/echo/k HTTP/1.1\r\nHost: h\r\nContent-Length: 00\r\n\r\n";
-    demand_all_ways(&rt, asked, &replies, End::Clean)?;
+    demand_all_ways(&rt, asked, FOUND_K, End::Clean)?;
     Ok(())
 }
 

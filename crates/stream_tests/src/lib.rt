@@ -49,8 +49,6 @@ mod slow_key;
 #[cfg(test)]
 mod sources;
 #[cfg(test)]
-mod steps;
-#[cfg(test)]
 mod stops;
 #[cfg(test)]
 mod tables;

@@ -1,23 +1,22 @@
 //! A connection has 10,000 replies at most.
 
 use crate::runs::demand_all_ways;
-use crate::texts::{Then, value_reply};
+use crate::texts::{ASK_K, FOUND_K, FOUND_K_LAST, repeated};
 use peer_conn::End;
+use std::alloc::{AllocError, Global};
 use std::test::Fail;
+
+// The replies, of which the last one closes.
+fn replies(alloc: Global) -> Result<Vec<u8>, AllocError> {
+    let mut replies = repeated(alloc, FOUND_K, 9_999)?;
+    replies.extend_from_slice(FOUND_K_LAST)?;
+    Ok(replies)
+}
 
 #[test]
 fn the_10000th_reply_closes(rt: HostRuntime) -> Result<(), Fail> {
-    let mut text = Vec::new(rt.alloc());
-    for _ in 0..10_001 {
-        text.extend_from_slice(b"GET /_groupcache/echo/k HTTP/1.1\r\nHost: h\r\n\r\n")?;
-    }
-    let mut replies = Vec::new(rt.alloc());
-    for _ in 0..9_999 {
-        replies.extend_from_slice(
-            b"HTTP/1.1 200 OK\r\nContent-Type: application/x-protobuf\r\nContent-Length: 3\r\n\r\n\x0A\x01k",
-        )?;
-    }
-    replies.extend_from_slice(&value_reply(rt.alloc(), Then::Closes, b"\x0A\x01k")?)?;
+    let text = repeated(rt.alloc(), ASK_K, 10_001)?;
+    let replies = replies(rt.alloc())?;
     assert_eq!(rt; replies.len(), 790_019);
     demand_all_ways(&rt, &text, &replies, End::Clean)?;
     Ok(())

@@ -7,7 +7,7 @@ ghost use Rattle.stream_tests.specs.Numbers.{IsNumber, echo_number, echo_numbere
 use itoa::Buffer;
 use peer_fill::{Pool, pop_conn};
 use peer_flight::Claim;
-use peer_source::{GetFault, GroupId, Outcome, Source};
+use peer_source::{Fill, GetFault, GroupId, Outcome, Source};
 use peer_view::AllocSink;
 use std::alloc::Global;
 use std::marker::Brand;
@@ -16,7 +16,7 @@ use std::sync::atomic::AtomicU64;
 use std::sync::atomic::Ordering::SeqCst;
 use std::sync::ledger::{Blank, Ledger};
 use std::test::Fail;
-use test_sources::{SeatLists, ask_for, do_jobs, open_pool};
+use test_support::{SeatLists, ask_for, do_jobs, open_pool};
 
 // Finds the number of its call, from 1.
 #[derive(Drop)]
@@ -74,16 +74,23 @@ impl Source for Numbering {
     ghost numbered = { λ s name i e. echo_numbered name i e };
 }
 
-// Whether a claim shows this value.
-fn shows<S: Source, L: Ledger, R: Wait>(
-    rt: &R,
-    pool: &Pool<S, L>,
-    claim: &Claim<S>,
-    value: &[u8],
-) -> bool {
-    match pool.wait_for(rt, claim).outcome() {
+// Whether a fill found this value.
+fn finds<S: Source>(fill: &Fill<S>, value: &[u8]) -> bool {
+    match fill.outcome() {
         Outcome::Found(found) => found.as_slice() == value,
         Outcome::Failed(_) | Outcome::NoMemory => false,
+    }
+}
+
+// Whether a claim is there, and its fill found this value.
+fn shows<S: Source>(claim: &Option<Claim<S>>, value: &[u8]) -> bool {
+    let Some(claim) = claim else {
+        return false;
+    };
+    let mut note = claim.note();
+    match claim.look(&mut note) {
+        Some(fill) => finds(fill, value),
+        None => false,
     }
 }
 
@@ -99,15 +106,15 @@ fn show_numbers<S: Source, L: Ledger, R: Wait>(
 {
     let mut one = pop_conn(pool, &mut lists.conns)?;
     let mut two = pop_conn(pool, &mut lists.conns)?;
-    let first = ask_for(rt, alloc, pool, &mut one, b"k")?;
-    let second = ask_for(rt, alloc, pool, &mut two, b"k")?;
-    do_jobs(rt, alloc, pool, &mut lists.fills)?;
-    let third = ask_for(rt, alloc, pool, &mut one, b"k")?;
-    do_jobs(rt, alloc, pool, &mut lists.fills)?;
+    let first = ask_for(rt, alloc, pool, &mut one, b"k");
+    let second = ask_for(rt, alloc, pool, &mut two, b"k");
+    do_jobs(rt, alloc, pool, &mut lists.fills);
+    let third = ask_for(rt, alloc, pool, &mut one, b"k");
+    do_jobs(rt, alloc, pool, &mut lists.fills);
     Some([
-        shows(rt, pool, &first, b"1"),
-        shows(rt, pool, &second, b"1"),
-        shows(rt, pool, &third, b"2"),
+        shows(&first, b"1"),
+        shows(&second, b"1"),
+        shows(&third, b"2"),
     ])
 }
 

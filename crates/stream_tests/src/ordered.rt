@@ -1,17 +1,16 @@
 //! Replies come in the order of their requests, whatever the order of their fills.
 
-use crate::demos::gated;
+use crate::demos::{gated, is_told};
 use crate::ends::{TWO, TWO_REPLIES};
 use crate::pooled::{Devices, Pooled, serve_pooled};
 use crate::runs::{READS, whole};
-use crate::steps::Step;
 use peer_conn::End;
 use peer_fill::{Gate, Report};
 use peer_source::GroupId;
 use peer_view::{MemReader, MemWriter};
 use std::sync::Wait;
 use std::test::Fail;
-use test_sources::all_called;
+use test_support::{Step, all_called};
 
 /// Holds the call for the key `a` back until the fill for the key `b` was put.
 #[derive(Drop)]
@@ -34,12 +33,10 @@ impl Gate for Holding {
 }
 
 // What was counted, where the connection wrote these bytes and ended between two heads.
-fn counted(run: Option<Pooled<MemReader, MemWriter>>, replies: &[u8]) -> Option<Report> {
-    let run = run?;
-    if run.served.writer.taken() == replies && run.served.end == End::Clean {
-        Some(run.report)
-    } else {
-        None
+fn counted(run: &Option<Pooled<MemReader, MemWriter>>, replies: &[u8]) -> Option<Report> {
+    match run {
+        Some(run) if is_told(&run.served, replies, End::Clean) => Some(run.report),
+        _ => None,
     }
 }
 
@@ -52,7 +49,7 @@ fn a_later_fill_waits_for_an_earlier_one(rt: HostRuntime) -> Result<(), Fail> {
         reads: READS,
     };
     let run = serve_pooled(&rt, rt.alloc(), gated(&gate), devices);
-    assert_eq!(rt; counted(run, TWO_REPLIES), Some(all_called(2)));
+    assert_eq!(rt; counted(&run, TWO_REPLIES), Some(all_called(2)));
     assert!(rt; !gate.put.has_expired());
     Ok(())
 }

@@ -15,7 +15,7 @@ use std::sync::Wait;
 use std::sync::ledger::{Blank, Ledger};
 use std::thread;
 use std::thread::Threads;
-use test_sources::{SeatLists, close_pool, open_pool, push_conn};
+use test_support::{SeatLists, close_pool, open_pool, push_conn};
 
 /// What a pool is opened with: its source, the limit of each cache in bytes, the number of its workers, and the gate
 /// round their calls.

@@ -14,7 +14,7 @@ use std::sync::Wait;
 use std::sync::ledger::{Blank, Ledger};
 use std::test::Fail;
 use std::thread::Threads;
-use test_sources::{
+use test_support::{
     Hooked, Refusing, SeatLists, all_called, beside_worker, close_pool, open_pool, push_conn,
     push_fill,
 };

@@ -1,10 +1,9 @@
 //! Runs of a connection over texts cut into pieces.
 ghost use Rattle.std.specs.Prelude.{◌≤◌, ◌<◌, length};
 
-use crate::demos::{Failing, demo, is_served, over_pieces};
-use crate::pooled::Setup;
+use crate::demos::{Failing, demo, is_served_over};
+use crate::texts::{Then, Told, reply, request};
 use peer_conn::{End, Served, serve_serial, serve_told};
-use peer_fill::NoGate;
 use peer_source::DemoSource;
 use peer_view::{MemReader, MemWriter};
 use std::alloc::{AllocError, Global};
@@ -18,10 +17,17 @@ pub const READS: u64 = 1_000_000;
 // Texts up to this length are cut in two at every place.
 const SHORT: usize = 400;
 
+/// Adds a piece with these bytes.
+pub fn add_piece(alloc: Global, pieces: &mut Vec<Vec<u8>>, bytes: &[u8]) -> Result<(), AllocError> {
+    let piece = bytes.to_vec(alloc)?;
+    pieces.push(piece)?;
+    Ok(())
+}
+
 /// A text in one piece.
 pub fn whole(alloc: Global, text: &[u8]) -> Result<Vec<Vec<u8>>, AllocError> {
     let mut pieces = Vec::new(alloc);
-    pieces.push(text.to_vec(alloc)?)?;
+    add_piece(alloc, &mut pieces, text)?;
     Ok(pieces)
 }
 
@@ -30,8 +36,8 @@ pub fn halves(alloc: Global, text: &[u8], at: usize) -> Result<Vec<Vec<u8>>, All
     requires { at ≤ length text.now }
 {
     let mut pieces = Vec::new(alloc);
-    pieces.push(text[..at].to_vec(alloc)?)?;
-    pieces.push(text[at..].to_vec(alloc)?)?;
+    add_piece(alloc, &mut pieces, &text[..at])?;
+    add_piece(alloc, &mut pieces, &text[at..])?;
     Ok(pieces)
 }
 
@@ -39,7 +45,7 @@ pub fn halves(alloc: Global, text: &[u8], at: usize) -> Result<Vec<Vec<u8>>, All
 pub fn by_bytes(alloc: Global, text: &[u8]) -> Result<Vec<Vec<u8>>, AllocError> {
     let mut pieces = Vec::new(alloc);
     for byte in text {
-        pieces.push([*byte].to_vec(alloc)?)?;
+        add_piece(alloc, &mut pieces, &[*byte])?;
     }
     Ok(pieces)
 }
@@ -78,24 +84,22 @@ pub fn served_into(
     )
 }
 
-/// Demands these bytes and this end for the pieces.
-pub fn demand(rt: &(impl Abort + AllocGlobal), pieces: Vec<Vec<u8>>, replies: &[u8], end: End) {
-    let served = served(rt.alloc(), pieces, false, READS);
+/// Demands these bytes and this end for the pieces, with so many reads.
+pub fn demand_within(
+    rt: &(impl Abort + AllocGlobal),
+    pieces: Vec<Vec<u8>>,
+    reads: u64,
+    replies: &[u8],
+    end: End,
+) {
+    let served = served(rt.alloc(), pieces, false, reads);
     assert_eq!(rt; served.end, end);
     assert_eq!(rt; served.writer.taken(), replies);
 }
 
-// Whether these pieces are answered so over a pool.
-fn is_served_over<H: Threads + Wait + Sync>(
-    rt: &H,
-    alloc: Global,
-    setup: Setup<'_, DemoSource, NoGate>,
-    pieces: Vec<Vec<u8>>,
-    replies: &[u8],
-    end: End,
-) -> bool {
-    let run = over_pieces(rt, alloc, setup, pieces, Failing::Nothing);
-    is_served(&run, replies, end) == [true; 2]
+/// The same with more reads than are needed.
+pub fn demand(rt: &(impl Abort + AllocGlobal), pieces: Vec<Vec<u8>>, replies: &[u8], end: End) {
+    demand_within(rt, pieces, READS, replies, end);
 }
 
 // Whether a text is answered so by pools of 1, 2 and 16 workers, each without a cache, with one of 4 bytes and with
@@ -119,10 +123,12 @@ fn is_served_by_pools<H: Threads + Wait + Sync>(
         (16, 4),
         (16, 1_048_576),
     ] {
+        let pieces = whole(alloc, text)?;
         let setup = demo(workers, cache_bytes);
-        same &= is_served_over(rt, alloc, setup, whole(alloc, text)?, replies, end);
+        same &= is_served_over(rt, alloc, setup, pieces, Failing::Nothing, (replies, end));
+        let pieces = by_bytes(alloc, text)?;
         let setup = demo(workers, cache_bytes);
-        same &= is_served_over(rt, alloc, setup, by_bytes(alloc, text)?, replies, end);
+        same &= is_served_over(rt, alloc, setup, pieces, Failing::Nothing, (replies, end));
     }
     Ok(same)
 }
@@ -147,4 +153,15 @@ pub fn demand_all_ways(
         "over pools"
     );
     Ok(())
+}
+
+/// Demands one reply, which does not close, for GET of a target.
+pub fn demand_told(
+    rt: &(impl Abort + AllocGlobal + Threads + Wait + Sync),
+    target: &str,
+    told: Told<'_>,
+) -> Result<(), AllocError> {
+    let text = request(rt.alloc(), target)?;
+    let replies = reply(rt.alloc(), Then::Stays, told)?;
+    demand_all_ways(rt, &text, &replies, End::Clean)
 }

@@ -2,7 +2,9 @@
 ghost use Rattle.std.specs.Prelude.{◌≡◌, All};
 ghost use Rattle.peer_fill.specs.Pools.{IsConnSeatOf, IsFillSeatOf};
 
+use crate::demos::is_told;
 use crate::runs::{READS, whole};
+use crate::texts::{ASK_K, FOUND_K};
 use peer_conn::{End, serve_connection_functional};
 use peer_fill::{ConnSeat, Gate, Pool, pop_conn, pop_fill};
 use peer_source::{DemoSource, FunctionalSource, GroupId};
@@ -14,12 +16,7 @@ use std::sync::Wait;
 use std::sync::ledger::{Blank, Ledger};
 use std::test::Fail;
 use std::thread::{Threads, join};
-use test_sources::{SeatLists, open_pool};
-
-const REQUEST: &[u8] = b"GET /_groupcache/echo/k HTTP/1.1\r\nHost: h\r\n\r\n";
-
-const REPLY: &[u8] =
-    b"HTTP/1.1 200 OK\r\nContent-Type: application/x-protobuf\r\nContent-Length: 3\r\n\r\n\x0A\x01k";
+use test_support::{SeatLists, open_pool};
 
 // Takes a while before each call, in which those who wait fall asleep.
 struct Slow;
@@ -43,13 +40,13 @@ fn is_answered<S: FunctionalSource, L: Ledger + Send + Sync, H: Threads + Wait +
 ) -> bool
     requires { IsConnSeatOf pool.now seat }
 {
-    let Ok(pieces) = whole(alloc, REQUEST) else {
+    let Ok(pieces) = whole(alloc, ASK_K) else {
         return false;
     };
     let reader = MemReader::new(pieces, false);
     let writer = MemWriter::new(alloc, 4096, None);
     let (served, _seat) = serve_connection_functional(rt, alloc, pool, seat, reader, writer, READS);
-    served.end == End::Clean && served.writer.taken() == REPLY
+    is_told(&served, FOUND_K, End::Clean)
 }
 
 // Whether two connections get the reply from one worker.

@@ -3,7 +3,6 @@
 use crate::demos::demo;
 use crate::pooled::{Devices, serve_pooled};
 use crate::runs::{READS, whole};
-use crate::steps::Step;
 use crate::tellers::{ActingReader, ActingWriter, BeforeCall, Telling};
 use peer_conn::End;
 use peer_view::{MemReader, MemWriter};
@@ -12,6 +11,7 @@ use std::sync::atomic::AtomicU64;
 use std::sync::atomic::Ordering::SeqCst;
 use std::test::Fail;
 use std::thread::yield_now;
+use test_support::Step;
 
 // The reads so far, and the first write, which fails.
 #[derive(Drop)]

@@ -1,8 +1,10 @@
 //! Devices in memory that do something before each of their calls.
 ghost use Rattle.std.specs.Prelude.{Some};
 
-use crate::steps::Step;
 use peer_view::{MemReader, MemWriter, PeerRead, PeerWrite, ReadFailed, WriteFailed};
+use std::sync::atomic::AtomicU64;
+use std::sync::atomic::Ordering::SeqCst;
+use test_support::Step;
 
 /// What a device does before each of its calls.
 pub trait BeforeCall: Send + Drop {
@@ -18,6 +20,21 @@ pub struct Telling<'a> {
 impl<'a> BeforeCall for Telling<'a> {
     fn act(&self) {
         self.step.tell();
+    }
+}
+
+/// Tells of each call but the first.
+#[derive(Drop)]
+pub struct TellingLater<'a> {
+    pub calls: AtomicU64,
+    pub step: &'a Step,
+}
+
+impl<'a> BeforeCall for TellingLater<'a> {
+    fn act(&self) {
+        if self.calls.fetch_add(1, SeqCst) > 0 {
+            self.step.tell();
+        }
     }
 }
 

@@ -1,11 +1,10 @@
 //! Connections whose reader and writer are threads: what they ask for, and how they end.
 
-use crate::demos::{Failing, demo, gated, is_served, over_pieces};
+use crate::demos::{Failing, demo, gated, is_served, is_served_over, over_pieces};
 use crate::ends::{THREE, THREE_REPLIES};
 use crate::pooled::{Devices, Pooled, serve_pooled};
-use crate::runs::{READS, by_bytes, whole};
-use crate::steps::Step;
-use crate::texts::{Then, joined, request, value_reply};
+use crate::runs::{READS, add_piece, by_bytes, whole};
+use crate::texts::{ASK_K, Then, Told, add_repeated, add_reply, add_request, repeated, request};
 use peer_conn::End;
 use peer_fill::{Gate, Report};
 use peer_source::GroupId;
@@ -14,14 +13,7 @@ use std::alloc::{AllocError, Global};
 use std::sync::Wait;
 use std::test::Fail;
 use std::thread::Threads;
-use test_sources::all_called;
-
-// A request of 45 bytes.
-const REQUEST: &[u8] = b"GET /_groupcache/echo/k HTTP/1.1\r\nHost: h\r\n\r\n";
-
-// Its reply, of 79 bytes.
-const REPLY: &[u8] =
-    b"HTTP/1.1 200 OK\r\nContent-Type: application/x-protobuf\r\nContent-Length: 3\r\n\r\n\x0A\x01k";
+use test_support::{Step, all_called};
 
 // How many asks the seat of a connection counted, and the pool, for a text in one piece.
 fn asks<H: Threads + Wait + Sync>(
@@ -37,7 +29,7 @@ fn asks<H: Threads + Wait + Sync>(
 #[test]
 fn a_request_with_a_known_group_is_asked_for(rt: HostRuntime) -> Result<(), Fail> {
     let rows: [(&[u8], u64); 8] = [
-        (REQUEST, 1),
+        (ASK_K, 1),
         (b"", 0),
         (b"GET /_groupcache/echo/k HTTP/1.1\r\nHo", 0),
         (b"HEAD /_groupcache/echo/k HTTP/1.1\r\nHost: h\r\n\r\n", 1),
@@ -60,36 +52,64 @@ fn a_request_with_a_known_group_is_asked_for(rt: HostRuntime) -> Result<(), Fail
     Ok(())
 }
 
-// GET of the keys 100 to 299 of `echo`, and the replies.
-fn two_hundred(alloc: Global) -> Result<(Vec<u8>, Vec<u8>), AllocError> {
+// GET of the keys 100 to 299 of `echo`.
+fn two_hundred(alloc: Global) -> Result<Vec<u8>, AllocError> {
     let mut text = Vec::new(alloc);
-    let mut replies = Vec::new(alloc);
     for number in 100..300 {
-        let target = format!(in alloc; "/_groupcache/echo/{number}")?;
-        let body = format!(in alloc; "\n\x03{number}")?;
-        text.extend_from_slice(&request(alloc, target.as_str())?)?;
-        replies.extend_from_slice(&value_reply(alloc, Then::Stays, body.as_bytes())?)?;
+        add_ask(alloc, &mut text, number)?;
     }
-    Ok((text, replies))
+    Ok(text)
+}
+
+// Adds GET of a number of `echo`.
+fn add_ask(alloc: Global, text: &mut Vec<u8>, number: u64) -> Result<(), AllocError> {
+    let target = format!(in alloc; "/_groupcache/echo/{number}")?;
+    add_request(text, target.as_str())
+}
+
+// The replies.
+fn two_hundred_replies(alloc: Global) -> Result<Vec<u8>, AllocError> {
+    let mut text = Vec::new(alloc);
+    for number in 100..300 {
+        add_value(alloc, &mut text, number)?;
+    }
+    Ok(text)
+}
+
+// Adds the reply with a number of three digits.
+fn add_value(alloc: Global, text: &mut Vec<u8>, number: u64) -> Result<(), AllocError> {
+    let body = format!(in alloc; "\n\x03{number}")?;
+    add_reply(alloc, text, Then::Stays, Told::Value(body.as_bytes()))
+}
+
+// How often the seat asked.
+fn asked(run: &Option<Pooled<MemReader, MemWriter>>) -> Option<u64> {
+    match run {
+        Some(run) => Some(run.asked),
+        None => None,
+    }
 }
 
 // What was asked for and counted.
-fn counts(run: Option<Pooled<MemReader, MemWriter>>) -> Option<(u64, Report)> {
-    let run = run?;
-    Some((run.asked, run.report))
+fn counts(run: &Option<Pooled<MemReader, MemWriter>>) -> Option<(u64, Report)> {
+    match run {
+        Some(run) => Some((run.asked, run.report)),
+        None => None,
+    }
 }
 
 #[test]
 fn more_replies_than_places_come_in_order(rt: HostRuntime) -> Result<(), Fail> {
-    let (text, replies) = two_hundred(rt.alloc())?;
-    let pieces = whole(rt.alloc(), &text)?;
+    let replies = two_hundred_replies(rt.alloc())?;
+    let pieces = whole(rt.alloc(), &two_hundred(rt.alloc())?)?;
     let run = over_pieces(&rt, rt.alloc(), demo(2, 0), pieces, Failing::Nothing);
-    assert_eq!(rt; is_served(&run, &replies, End::Clean), [true; 2]);
-    assert_eq!(rt; counts(run), Some((200, all_called(200))));
+    let told = is_served(&run, &replies, End::Clean);
+    assert_eq!(rt; (told, counts(&run)), (true, Some((200, all_called(200)))));
     Ok(())
 }
 
 // The text, which device fails, and what is written then, with the end.
+#[derive(Clone, Copy)]
 struct Case<'a> {
     text: &'a [u8],
     failing: Failing,
@@ -102,17 +122,14 @@ fn is_right<H: Threads + Wait + Sync>(
     rt: &H,
     alloc: Global,
     workers: usize,
-    case: Case<'_>,
+    case: &Case<'_>,
 ) -> Result<bool, AllocError> {
-    let Case {
-        text,
-        failing,
-        replies,
-        end,
-    } = case;
-    let one = over_pieces(rt, alloc, demo(workers, 0), whole(alloc, text)?, failing);
-    let cut = over_pieces(rt, alloc, demo(workers, 4), by_bytes(alloc, text)?, failing);
-    Ok(is_served(&one, replies, end) == [true; 2] && is_served(&cut, replies, end) == [true; 2])
+    let told = (case.replies, case.end);
+    let pieces = whole(alloc, case.text)?;
+    let one = is_served_over(rt, alloc, demo(workers, 0), pieces, case.failing, told);
+    let pieces = by_bytes(alloc, case.text)?;
+    let cut = is_served_over(rt, alloc, demo(workers, 4), pieces, case.failing, told);
+    Ok(one && cut)
 }
 
 // Whether each limit of a writer gives the bytes up to it and a fault.
@@ -126,7 +143,7 @@ fn fails_at_limits<H: Threads + Wait + Sync>(rt: &H, alloc: Global) -> Result<bo
             replies,
             end: End::WriteFault,
         };
-        right &= is_right(rt, alloc, 2, case)?;
+        right &= is_right(rt, alloc, 2, &case)?;
     }
     Ok(right)
 }
@@ -153,7 +170,7 @@ fn fails_behind_beginnings<H: Threads + Wait + Sync>(
             replies,
             end,
         };
-        right &= is_right(rt, alloc, 1, case)?;
+        right &= is_right(rt, alloc, 1, &case)?;
     }
     Ok(right)
 }
@@ -167,13 +184,13 @@ fn a_reader_fails_behind_each_beginning(rt: HostRuntime) -> Result<(), Fail> {
 #[test]
 fn nothing_is_read_without_reads(rt: HostRuntime) -> Result<(), Fail> {
     let devices = Devices {
-        reader: MemReader::new(whole(rt.alloc(), REQUEST)?, true),
+        reader: MemReader::new(whole(rt.alloc(), ASK_K)?, true),
         writer: MemWriter::new(rt.alloc(), 4096, None),
         reads: 0,
     };
     let run = serve_pooled(&rt, rt.alloc(), demo(1, 0), devices);
-    assert_eq!(rt; is_served(&run, b"", End::Spent), [true; 2]);
-    assert_eq!(rt; counts(run).map(|(asked, _)| asked), Some(0));
+    let told = is_served(&run, b"", End::Spent);
+    assert_eq!(rt; (told, asked(&run)), (true, Some(0)));
     Ok(())
 }
 
@@ -181,7 +198,7 @@ fn nothing_is_read_without_reads(rt: HostRuntime) -> Result<(), Fail> {
 fn one_a_piece(alloc: Global, count: usize) -> Result<Vec<Vec<u8>>, AllocError> {
     let mut pieces = Vec::new(alloc);
     for _ in 0..count {
-        pieces.push(REQUEST.to_vec(alloc)?)?;
+        add_piece(alloc, &mut pieces, ASK_K)?;
     }
     Ok(pieces)
 }
@@ -191,8 +208,8 @@ fn one_a_piece(alloc: Global, count: usize) -> Result<Vec<Vec<u8>>, AllocError> 
 fn a_failed_write_stops_the_reader(rt: HostRuntime) -> Result<(), Fail> {
     let pieces = one_a_piece(rt.alloc(), 5000)?;
     let run = over_pieces(&rt, rt.alloc(), demo(1, 0), pieces, Failing::Writer(10));
-    assert_eq!(rt; is_served(&run, b"HTTP/1.1 2", End::WriteFault), [true; 2]);
-    let asked = counts(run).map_or(5000, |(asked, _)| asked);
+    assert!(rt; is_served(&run, b"HTTP/1.1 2", End::WriteFault));
+    let asked = asked(&run).unwrap_or(5000);
     assert!(rt; asked < 1000, "{asked} asks");
     Ok(())
 }
@@ -219,13 +236,9 @@ impl Gate for Holding {
 // GET of a value that is too long to be buffered, then of 64 keys, then of `last`, then of 434 more.
 fn beyond_a_lane(alloc: Global) -> Result<Vec<u8>, AllocError> {
     let mut text = request(alloc, "/_groupcache/fill/9000")?;
-    for _ in 0..64 {
-        text.extend_from_slice(REQUEST)?;
-    }
-    text.extend_from_slice(&request(alloc, "/_groupcache/echo/last")?)?;
-    for _ in 0..434 {
-        text.extend_from_slice(REQUEST)?;
-    }
+    add_repeated(&mut text, ASK_K, 64)?;
+    add_request(&mut text, "/_groupcache/echo/last")?;
+    add_repeated(&mut text, ASK_K, 434)?;
     Ok(text)
 }
 
@@ -233,32 +246,22 @@ fn beyond_a_lane(alloc: Global) -> Result<Vec<u8>, AllocError> {
 // written, the lane is full and the reader has a ticket more.
 #[test]
 fn tickets_are_taken_behind_a_failed_write(rt: HostRuntime) -> Result<(), Fail> {
+    let pieces = whole(rt.alloc(), &beyond_a_lane(rt.alloc())?)?;
     let gate = Holding { full: Step::new() };
     let devices = Devices {
-        reader: MemReader::new(whole(rt.alloc(), &beyond_a_lane(rt.alloc())?)?, false),
+        reader: MemReader::new(pieces, false),
         writer: MemWriter::new(rt.alloc(), 4096, Some(10)),
         reads: READS,
     };
     let run = serve_pooled(&rt, rt.alloc(), gated(&gate), devices);
-    assert_eq!(rt; is_served(&run, b"HTTP/1.1 2", End::WriteFault), [true; 2]);
-    assert!(rt; !gate.full.has_expired());
+    let told = is_served(&run, b"HTTP/1.1 2", End::WriteFault);
+    assert_eq!(rt; (told, gate.full.has_expired()), (true, false));
     Ok(())
 }
 
 #[test]
-fn the_10000th_reply_closes(rt: HostRuntime) -> Result<(), Fail> {
-    let mut text = Vec::new(rt.alloc());
-    for _ in 0..10_001 {
-        text.extend_from_slice(REQUEST)?;
-    }
-    let mut replies = Vec::new(rt.alloc());
-    for _ in 0..9_999 {
-        replies.extend_from_slice(REPLY)?;
-    }
-    replies.extend_from_slice(&value_reply(rt.alloc(), Then::Closes, b"\x0A\x01k")?)?;
-    let pieces = whole(rt.alloc(), &text)?;
-    let run = over_pieces(&rt, rt.alloc(), demo(2, 0), pieces, Failing::Nothing);
-    assert_eq!(rt; is_served(&run, &replies, End::Clean), [true; 2]);
-    assert_eq!(rt; counts(run).map(|(asked, _)| asked), Some(10_000));
+fn a_connection_asks_10000_times_at_most(rt: HostRuntime) -> Result<(), Fail> {
+    let text = repeated(rt.alloc(), ASK_K, 10_001)?;
+    assert_eq!(rt; asks(&rt, rt.alloc(), &text)?, Some([10_000; 2]));
     Ok(())
 }

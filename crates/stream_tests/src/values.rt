@@ -1,7 +1,7 @@
 //! Found values: keys, escapes, lengths.
 
-use crate::runs::{READS, demand_all_ways, served, whole};
-use crate::texts::{Then, fault_reply, joined, request, value_reply};
+use crate::runs::{READS, demand_all_ways, demand_told, demand_within, served, whole};
+use crate::texts::{FOUND_K, Told, joined, request};
 use peer_conn::End;
 use std::alloc::{AllocError, Global};
 use std::process::Abort;
@@ -13,19 +13,13 @@ use std::thread::Threads;
 const GO_REQUEST: &[u8] =
     b"GET /_groupcache/echo/k HTTP/1.1\r\nHost: 10.0.0.2:8000\r\nUser-Agent: Go-http-client/1.1\r\nAccept-Encoding: gzip\r\n\r\n";
 
-// The reply with the value `k`.
-const REPLY_K: &[u8] =
-    b"HTTP/1.1 200 OK\r\nContent-Type: application/x-protobuf\r\nContent-Length: 3\r\n\r\n\x0A\x01k";
-
 // Demands the value with this body for GET of a target.
 fn demand_body(
     rt: &(impl Abort + AllocGlobal + Threads + Wait + Sync),
     target: &str,
     body: &[u8],
 ) -> Result<(), AllocError> {
-    let text = request(rt.alloc(), target)?;
-    let replies = value_reply(rt.alloc(), Then::Stays, body)?;
-    demand_all_ways(rt, &text, &replies, End::Clean)
+    demand_told(rt, target, Told::Value(body))
 }
 
 // Demands the source's error with this text for GET of a target.
@@ -34,15 +28,36 @@ fn demand_error(
     target: &str,
     error: &str,
 ) -> Result<(), AllocError> {
-    let text = request(rt.alloc(), target)?;
-    let replies = fault_reply(rt.alloc(), Then::Stays, "500 Internal Server Error", error)?;
-    demand_all_ways(rt, &text, &replies, End::Clean)
+    demand_told(
+        rt,
+        target,
+        Told::Text("500 Internal Server Error", error.as_bytes()),
+    )
 }
 
 // A prefix, and so many bytes `x`.
 fn filled(alloc: Global, prefix: &[u8], count: usize) -> Result<Vec<u8>, AllocError> {
     let fill = vec![in alloc; b'x'; count]?;
     joined(alloc, &[prefix, fill.as_slice()])
+}
+
+// Demands a value of so many letters, whose body begins with this prefix.
+fn demand_filled(
+    rt: &(impl Abort + AllocGlobal + Threads + Wait + Sync),
+    target: &str,
+    prefix: &[u8],
+    count: usize,
+) -> Result<(), AllocError> {
+    let body = filled(rt.alloc(), prefix, count)?;
+    demand_body(rt, target, &body)
+}
+
+// Whether the reply to GET of a target has this line.
+fn is_told(alloc: Global, target: &str, line: &[u8]) -> Result<bool, AllocError> {
+    let text = request(alloc, target)?;
+    let pieces = whole(alloc, &text)?;
+    let served = served(alloc, pieces, false, READS);
+    Ok(has_line(served.writer.taken(), line))
 }
 
 // A line stands in a text.
@@ -52,24 +67,15 @@ fn has_line(text: &[u8], line: &[u8]) -> bool {
 
 #[test]
 fn answers_what_go_sends(rt: HostRuntime) -> Result<(), Fail> {
-    assert_eq!(rt; REPLY_K.len(), 79);
-    let plain = value_reply(rt.alloc(), Then::Stays, b"\x0A\x01k")?;
-    assert_eq!(rt; plain.as_slice(), REPLY_K);
-    demand_all_ways(&rt, GO_REQUEST, REPLY_K, End::Clean)?;
+    demand_all_ways(&rt, GO_REQUEST, FOUND_K, End::Clean)?;
     Ok(())
 }
 
 #[test]
 fn reads_no_more_than_it_may(rt: HostRuntime) -> Result<(), Fail> {
-    let none = served(rt.alloc(), whole(rt.alloc(), GO_REQUEST)?, false, 0);
-    assert_eq!(rt; none.end, End::Spent);
-    assert_eq!(rt; none.writer.taken(), b"".as_slice());
-    let one = served(rt.alloc(), whole(rt.alloc(), GO_REQUEST)?, false, 1);
-    assert_eq!(rt; one.end, End::Spent);
-    assert_eq!(rt; one.writer.taken(), REPLY_K);
-    let two = served(rt.alloc(), whole(rt.alloc(), GO_REQUEST)?, false, 2);
-    assert_eq!(rt; two.end, End::Clean);
-    assert_eq!(rt; two.writer.taken(), REPLY_K);
+    demand_within(&rt, whole(rt.alloc(), GO_REQUEST)?, 0, b"", End::Spent);
+    demand_within(&rt, whole(rt.alloc(), GO_REQUEST)?, 1, FOUND_K, End::Spent);
+    demand_within(&rt, whole(rt.alloc(), GO_REQUEST)?, 2, FOUND_K, End::Clean);
     Ok(())
 }
 
@@ -115,11 +121,8 @@ fn fills_up_to_the_limit(rt: HostRuntime) -> Result<(), Fail> {
         ),
     ];
     for (target, prefix, count, line) in rows {
-        let body = filled(rt.alloc(), prefix, count)?;
-        demand_body(&rt, target, &body)?;
-        let text = request(rt.alloc(), target)?;
-        let served = served(rt.alloc(), whole(rt.alloc(), &text)?, false, READS);
-        assert!(rt; has_line(served.writer.taken(), line), "at {target}");
+        demand_filled(&rt, target, prefix, count)?;
+        assert!(rt; is_told(rt.alloc(), target, line)?, "at {target}");
     }
     demand_error(&rt, "/_groupcache/fill/1048577", "value too long")?;
     demand_error(&rt, "/_groupcache/fill/2000001", "not a size")?;

@@ -1,6 +1,5 @@
-use Rattle.std.proofs.Common.{◌≡◌, subst}
-use Rattle.std.specs.Prelude.{List}
-use Rattle.peer_flight.specs.World.{World, Flight}
+use Rattle.std.proofs.Common.{subst}
+use Rattle.peer_flight.specs.World.{World}
 use Rattle.peer_flight.specs.Events.{OutcomeSeen, SeesOutcome}
 use Rattle.flight_world.specs.Worlds.{world_of}
 use Rattle.flight_world.proofs.Reaching.{lent, ok_where_allowed, reached_at}

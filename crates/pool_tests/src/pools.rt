@@ -1,0 +1,8 @@
+//! Pools: that calls succeed, that claims show what the source found, and what is counted.
+
+mod asks;
+mod gates;
+mod numbering;
+mod opening;
+mod refills;
+mod threads;

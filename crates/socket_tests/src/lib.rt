@@ -1,0 +1,16 @@
+//! Tests of the server on real sockets: what clients receive, whom it gives up, and that it ends.
+//!
+//! It stands on the server of `peer_socket`, the source for demonstrations of `peer_source`, and what tests share in
+//! `test_support`. It has tests alone and promises nothing: no clause says what a socket carried.
+#![tactic(auto)]
+
+#[cfg(test)]
+mod clients;
+#[cfg(test)]
+mod limited;
+#[cfg(test)]
+mod meeting;
+#[cfg(test)]
+mod servers;
+#[cfg(test)]
+mod serving;

@@ -1,0 +1,67 @@
+//! Two connections, where the fill of one waits for that of the other.
+
+use crate::clients::{connect, is_text, listen, receive, send};
+use crate::servers::{beside, has_asked, patient, settings_of};
+use std::alloc::Global;
+use std::net::{Net, SocketAddr, TcpListener, TcpStream};
+use std::test::Fail;
+use test_support::{Hook, Hooked, Step};
+
+// The call for the key `a` waits for that for the key `b`.
+#[derive(Clone, Copy)]
+struct Meeting<'a> {
+    called: &'a Step,
+}
+
+impl<'a> Hook for Meeting<'a> {
+    fn may_call(&self, _alloc: Global, key: &[u8]) -> bool {
+        if key == b"a".as_slice() {
+            self.called.wait();
+        }
+        if key == b"b".as_slice() {
+            self.called.tell();
+        }
+        true
+    }
+}
+
+const ASK_A: &[u8] = b"GET /_groupcache/echo/a HTTP/1.1\r\nHost: h\r\nConnection: close\r\n\r\n";
+
+const ASK_B: &[u8] = b"GET /_groupcache/echo/b HTTP/1.1\r\nHost: h\r\nConnection: close\r\n\r\n";
+
+const FOUND_A: &[u8] =
+    b"HTTP/1.1 200 OK\r\nContent-Type: application/x-protobuf\r\nContent-Length: 3\r\nConnection: close\r\n\r\n\x0A\x01a";
+
+const FOUND_B: &[u8] =
+    b"HTTP/1.1 200 OK\r\nContent-Type: application/x-protobuf\r\nContent-Length: 3\r\nConnection: close\r\n\r\n\x0A\x01b";
+
+// Two clients ask at the same moment: whether each receives its reply, the later one first.
+fn ask_both<H: AllocGlobal + Net<Listener = TcpListener, Stream = TcpStream>>(
+    rt: &H,
+    address: SocketAddr,
+) -> [bool; 2] {
+    let (Some(one), Some(other)) = (connect(rt, address), connect(rt, address)) else {
+        return [false; 2];
+    };
+    if !send(&one, ASK_A) || !send(&other, ASK_B) {
+        return [false; 2];
+    }
+    [
+        is_text(&receive(rt.alloc(), &other), FOUND_B),
+        is_text(&receive(rt.alloc(), &one), FOUND_A),
+    ]
+}
+
+#[test]
+fn a_fill_waits_for_that_of_another_connection(rt: HostRuntime) -> Result<(), Fail> {
+    let called = Step::new();
+    let (listener, address) = listen(&rt)?;
+    let settings = settings_of(&rt, 2, 2, 1, patient())?;
+    let source = Hooked {
+        hook: Meeting { called: &called },
+    };
+    let (report, seen) = beside(&rt, source, listener, &settings, || ask_both(&rt, address));
+    assert_eq!(rt; seen, [true; 2]);
+    assert_eq!(rt; [has_asked(&report, 2), !called.has_expired()], [true; 2]);
+    Ok(())
+}

@@ -1,0 +1,22 @@
+//! Tests of views, sinks, devices, fills, caches and tables, of what no clause says.
+//!
+//! It stands on `peer_view`, `peer_source` and `peer_table`, and uses their public calls alone. It has tests alone and
+//! promises nothing: what they expect is written out, or comes from a plain model that shares no code with them.
+#![tactic(auto)]
+
+#[cfg(test)]
+mod caches;
+#[cfg(test)]
+mod devices;
+#[cfg(test)]
+mod fills;
+#[cfg(test)]
+mod generated;
+#[cfg(test)]
+mod inputs;
+#[cfg(test)]
+mod sinks;
+#[cfg(test)]
+mod tables;
+#[cfg(test)]
+mod views;

@@ -1,0 +1,48 @@
+//! A pool with the seed of tests, and how it is closed.
+ghost use Rattle.std.specs.Prelude.{◌≡◌, All, IfSome};
+ghost use Rattle.peer_fill.specs.Pools.{source_of, IsConnSeatOf, IsFillSeatOf};
+
+use crate::seats::SeatLists;
+use crate::seeds::seed;
+use peer_fill::{Opened, Pool, Report};
+use peer_source::Source;
+use std::alloc::Global;
+use std::sync::Wait;
+use std::sync::ledger::{Blank, Ledger};
+
+/// A pool with so many workers and connections. None where it was refused memory.
+pub fn open_pool<S: Source, L: Ledger>(
+    alloc: Global,
+    source: S,
+    cache_bytes: u64,
+    workers: usize,
+    conns: usize,
+    blank: Blank,
+) -> Option<(Pool<S, L>, SeatLists<S, L>)>
+    requires name { blank.name ≡ L.name }
+    requires parts { (blank.parts ≡ L.parts) × (blank.parts ≡ 16) }
+    ensures source { IfSome result (λ opened. source_of opened.0 ≡ source) }
+    ensures fills { IfSome result (λ opened. All (IsFillSeatOf opened.0) opened.1.fills.items) }
+    ensures conns { IfSome result (λ opened. All (IsConnSeatOf opened.0) opened.1.conns.items) }
+{
+    match Pool::<S, L>::open(alloc, source, cache_bytes, seed()?, workers, conns, blank) {
+        Ok(Opened { pool, fills, conns }) => Some((pool, SeatLists { fills, conns })),
+        Err(_) => None,
+    }
+}
+
+/// The report of a pool that is closed. None where seats are missing.
+pub fn close_pool<S: Source, L: Ledger, R: Wait>(
+    rt: &R,
+    pool: Pool<S, L>,
+    lists: SeatLists<S, L>,
+) -> Option<Report>
+    requires fills { All (IsFillSeatOf pool) lists.fills.items }
+    requires conns { All (IsConnSeatOf pool) lists.conns.items }
+{
+    let SeatLists { fills, conns } = lists;
+    match pool.close(rt, fills, conns) {
+        Ok(report) => Some(report),
+        Err(_) => None,
+    }
+}
