@@ -3,12 +3,16 @@
 
     (cd crates/peer_serve && rt run < stdin > /dev/null)    # builds it
     apt-get install valgrind
-    python3 bench/instructions.py [crates/peer_serve/out/peer_serve]
+    python3 bench/instructions.py [--parts] [crates/peer_serve/out/peer_serve]
 
 Serial: so many requests on standard input, one thread, no cache. Over a connection: the server with one worker, a client that
 has 16 requests in flight. Each row runs 1,000 requests and 9,000; what the 9,000 took more, over 8,000, is the number for one. Over
-a connection the threads wait for one another, so the median of three runs is given with the least and the largest.
+a connection the threads wait for one another, so the median of three runs is given with the least and the largest. With
+--parts it prints in place of that what share of a run's instructions which part of the program takes, by the names of functions;
+what a compiler wrote into another function counts as that one's.
 """
+import argparse
+import collections
 import os
 import re
 import socket
@@ -17,7 +21,8 @@ import subprocess
 import sys
 import tempfile
 
-PROGRAM = sys.argv[1] if len(sys.argv) > 1 else "crates/peer_serve/out/peer_serve"
+from profile import GROUPS, group_of
+
 FEW, MANY = 1000, 9000
 GO = "Host: 10.0.0.1:8001\r\nUser-Agent: Go-http-client/1.1\r\nAccept-Encoding: gzip\r\n"
 
@@ -46,8 +51,8 @@ CONNECTED = [
 
 def counted(words, **how):
     """A process under callgrind, whose last line but one tells how many instructions it took."""
-    tool = ["valgrind", "--tool=callgrind", "--callgrind-out-file=/dev/null"]
-    return subprocess.Popen([*tool, os.path.abspath(PROGRAM), *words], stderr=subprocess.PIPE, text=True, **how)
+    tool = ["valgrind", "--tool=callgrind", f"--callgrind-out-file={options.out}"]
+    return subprocess.Popen([*tool, os.path.abspath(options.program), *words], stderr=subprocess.PIPE, text=True, **how)
 
 
 def total(process):
@@ -98,9 +103,31 @@ def each(run, made):
     return (run(made, MANY) - run(made, FEW)) / (MANY - FEW)
 
 
-def main():
-    if not os.path.exists(PROGRAM):
-        sys.exit(f"instructions.py: no program {PROGRAM}: run `rt run < stdin` in crates/peer_serve first")
+def shares(run, made):
+    """The share of each group of functions in the instructions of a run."""
+    run(made, MANY)
+    told = subprocess.run(["callgrind_annotate", "--threshold=100", options.out], capture_output=True, text=True, check=True).stdout
+    sums = collections.Counter()
+    for count, name in re.findall(r"^ *([\d,]+) \([ \d.]+%\) +(.+)$", told, re.M):
+        if name != "PROGRAM TOTALS":
+            sums[group_of(name)] += int(count.replace(",", ""))
+    return {group: share / sums.total() for group, share in sums.items()}
+
+
+def print_parts():
+    loads = [("one thread", serial, SERIAL[0]), ("a hit", connected, CONNECTED[0]), ("asked for once", connected, CONNECTED[2])]
+    columns = []
+    for _, run, (_, made) in loads:
+        with tempfile.NamedTemporaryFile() as out:
+            options.out = out.name
+            columns.append(shares(run, made))
+    print("| part | " + " | ".join(name for name, _, _ in loads) + " |")
+    print("|---" * (len(loads) + 1) + "|")
+    for group in [name for name, _ in GROUPS if any(name in column for column in columns)] + ["the rest"]:
+        print(f"| {group} | " + " | ".join(f"{column.get(group, 0):.1%}" for column in columns) + " |")
+
+
+def print_counts():
     print("| request | instructions |\n|---|---|")
     for name, made in SERIAL:
         print(f"| serial, {name} | {each(serial, made):,.0f} |")
@@ -109,4 +136,11 @@ def main():
         print(f"| over a connection, {name} | {statistics.median(counts):,.0f} ({min(counts):,.0f} to {max(counts):,.0f}) |")
 
 
-main()
+parser = argparse.ArgumentParser()
+parser.add_argument("program", nargs="?", default="crates/peer_serve/out/peer_serve")
+parser.add_argument("--parts", action="store_true")
+options = parser.parse_args()
+options.out = "/dev/null"
+if not os.path.exists(options.program):
+    sys.exit(f"instructions.py: no program {options.program}: run `rt run < stdin` in crates/peer_serve first")
+print_parts() if options.parts else print_counts()

@@ -85,4 +85,5 @@ def main():
         process.kill()
 
 
-main()
+if __name__ == "__main__":
+    main()
