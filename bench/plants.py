@@ -16,10 +16,10 @@ ROOT = os.path.dirname(os.path.dirname(os.path.abspath(__file__)))
 PAGE = os.path.join(ROOT, "docs/PLANTS.md")
 HEAD = """# What planted wrong bodies found
 
-`rt plant` puts wrong bodies under a function's contract and tells which of them the contract lets through. Written by
-`python3 bench/plants.py`, but for the remarks behind `>`, which say why a body that was let through is right, or what else
-rules it out. `no-ensures`: a function without a clause. `untested`: no plant could be judged. `proves`: a plant meets the
-contract.
+`rt plant` replaces a function's body by a wrong one, a *plant*, and tells whether the contract lets it through. Written by
+`python3 bench/plants.py`, except the remarks after `>`, which say why a plant that was let through is right, or what else
+rules it out. `no-ensures`: a function without a clause. `untested`: a function of which no plant could be judged. `proves`: a
+plant meets the contract. `refused`: plants that the prover refused. `not-run`: plants that the time did not suffice for.
 """
 ROWS = re.compile(r"\s*(no-ensures|untested|proves)\b")
 
