@@ -1,5 +1,5 @@
 -- What the seats of a pool count.
-use Rattle.std.specs.Prelude.{◌≡◌, ◌+◌}
+use Rattle.std.specs.Prelude.{◌≡◌, ◌+◌, ℕ}
 use Rattle.peer_fill.specs.declared.counts.AskCounts.{AskCounts}
 use Rattle.peer_fill.specs.declared.counts.FillCounts.{FillCounts}
 
@@ -10,6 +10,10 @@ no_asks = record { asked = 0; hits = 0; led = 0; joined = 0; strangers = 0 }
 -- no job was taken
 abbrev pub no_fills : FillCounts
 no_fills = record { calls = 0; rehits = 0 }
+
+-- the jobs that were taken
+abbrev pub taken_of : FillCounts → ℕ
+taken_of fills = fills.calls + fills.rehits
 
 -- the counts of both, added up
 pub record AddsAsks (one other sum : AskCounts) : Type 0 where

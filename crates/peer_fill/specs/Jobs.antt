@@ -1,5 +1,5 @@
 -- The rule of the job queue: what each pass pushed and popped, by the numbers of the flights.
-use Rattle.std.specs.Prelude.{◌≡◌, ℕ, ◌+◌, List, [], ◌∷◌, ◌++◌}
+use Rattle.std.specs.Prelude.{◌≡◌, ℕ, ◌+◌, List, [], ◌∷◌, ◌++◌, Option, None, Some}
 use mathlib.Core.Option.{some}
 use lib.ListN.{get_elem?}
 use Rattle.peer_fill.specs.declared.jobs.Hand.{Hand}
@@ -15,6 +15,11 @@ pushed_by v number = hand v.parts (v.pushed ++ number ∷ []) v.popped
 -- the same once it has popped a flight
 abbrev pub popped_by : Hand → ℕ → Hand
 popped_by v number = hand v.parts v.pushed (v.popped ++ number ∷ [])
+
+-- 1 where a job is left that was not pushed
+abbrev pub left_count : Option ℕ → ℕ
+left_count None = 0
+left_count (Some number) = 1
 
 -- the weights of the flights, added up
 abbrev pub weigh : (ℕ → ℕ) → List ℕ → ℕ

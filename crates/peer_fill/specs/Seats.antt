@@ -1,5 +1,5 @@
 -- What contracts see of the seats of a pool: what they counted, and their parts.
-use Rattle.std.specs.Prelude.{◌≡◌, ℕ, List, sum_by}
+use Rattle.std.specs.Prelude.{◌≡◌, ℕ, List, Option, sum_by}
 use Rattle.peer_source.specs.declared.source.Source as Source
 use Rattle.std.specs.declared.sync.ledger.Ledger as Ledger
 use Rattle.peer_fill.specs.declared.counts.AskCounts.{AskCounts}
@@ -16,9 +16,17 @@ module _ {S L : Type 0} {g : Source.Ghosts S} where
   abbrev pub conn_parts : ConnSeat S L g → ℕ
   conn_parts seat = seat.parts
 
+  -- the number of the flight whose job is left with the seat
+  abbrev pub left_of : ConnSeat S L g → Option ℕ
+  left_of seat = seat.left
+
   -- it is the same seat of the same pool, whatever it counted
   abbrev pub IsSameConn : ConnSeat S L g → ConnSeat S L g → Type 0
   IsSameConn old new = (new.pass ≡ old.pass) × (conn_parts new ≡ conn_parts old)
+
+  -- it counted nothing more, and the same job is left with it
+  abbrev pub IsUnchanged : ConnSeat S L g → ConnSeat S L g → Type 0
+  IsUnchanged old new = (asks_of new ≡ asks_of old) × (left_of new ≡ left_of old)
 
   -- these are all seats of the connections: they have all 16 parts
   abbrev pub HaveAllConns : List (ConnSeat S L g) → Type 0

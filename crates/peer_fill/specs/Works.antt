@@ -1,6 +1,7 @@
 -- How a worker came by the fill of a job.
-use Rattle.std.specs.Prelude.{◌≡◌, ◌+◌, ℕ, List, IfSome}
+use Rattle.std.specs.Prelude.{◌≡◌, ◌+◌, ℕ, List, IfSome, Option, None, Some}
 use Rattle.peer_source.specs.Answers.{Answer, Filled}
+use Rattle.peer_flight.specs.Flights.{FlightId}
 use Rattle.peer_fill.specs.Caches.{IsFoundFor}
 use Rattle.peer_fill.specs.declared.counts.FillCounts.{FillCounts}
 use Rattle.peer_fill.specs.declared.work.Made.{Made}
@@ -20,6 +21,11 @@ fill_made (Rehit fill) = fill
 abbrev pub call_count : {S : Type 0} → Made S → ℕ
 call_count (Called fill) = 1
 call_count (Rehit fill) = 0
+
+-- 1 where a job was taken, for an answer that is brought
+abbrev pub job_count : Option FlightId → ℕ
+job_count None = 0
+job_count (Some job) = 1
 
 -- one job more: a call of the source, or else a rehit
 pub record CountsMade {S : Type 0} (made : Made S) (old new : FillCounts) : Type 0 where

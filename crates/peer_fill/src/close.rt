@@ -106,8 +106,9 @@ pub(crate) fn settle<S: Source, L: Ledger, R: Wait>(
         fill_parts: _,
         asks,
         fills,
+        left,
     } = totals;
-    let left = jobs.len_as::<Whole, R>(rt, &mut pass) as u64;
+    let queued = jobs.len_as::<Whole, R>(rt, &mut pass) as u64;
     let led = table.count_led(parts, &mut share);
     Report {
         asked: asks.asked,
@@ -117,6 +118,6 @@ pub(crate) fn settle<S: Source, L: Ledger, R: Wait>(
         strangers: asks.strangers,
         calls: fills.calls,
         rehits: fills.rehits,
-        left,
+        left: left + queued,
     }
 }

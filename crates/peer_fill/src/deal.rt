@@ -5,7 +5,6 @@ ghost use Rattle.peer_fill.specs.Counts.{no_asks, no_fills};
 ghost use Rattle.peer_fill.specs.Jobs.{hand};
 ghost use Rattle.peer_fill.specs.Seats.{asks_of, fills_of, HaveAllConns, HaveAllFills};
 
-use crate::counts::FillCounts;
 use crate::jobs::{Hand, Job, Jobs, OnePart};
 use crate::seats::{ConnSeat, FillSeat};
 use crossbeam_queue::Pass;
@@ -32,9 +31,9 @@ pub fn deal_fills<S: Source, L: Ledger>(
     for _i in 1..count {
         let one = jobs.another::<OnePart>(&mut pass);
         left -= 1;
-        seats.push(FillSeat::new(one, 1, FillCounts::none()))?;
+        seats.push(FillSeat::new(alloc, one, 1))?;
     }
-    seats.push(FillSeat::new(pass, left, FillCounts::none()))?;
+    seats.push(FillSeat::new(alloc, pass, left))?;
     Ok(seats)
 }
 

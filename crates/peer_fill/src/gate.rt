@@ -7,8 +7,8 @@ pub trait Gate: Sync {
     /// The worker has the flight's right, and has not called the source yet.
     fn before_call<R: Wait>(&self, rt: &R, group: GroupId, key: &[u8]);
 
-    /// The flight has its fill, and has not landed yet.
-    fn after_put<R: Wait>(&self, rt: &R, group: GroupId, key: &[u8]);
+    /// The flight with this number has its fill, and has not landed yet.
+    fn after_put<R: Wait>(&self, rt: &R, number: u64, group: GroupId, key: &[u8]);
 }
 
 /// Holds nobody back.
@@ -18,5 +18,5 @@ pub struct NoGate;
 impl Gate for NoGate {
     fn before_call<R: Wait>(&self, _rt: &R, _group: GroupId, _key: &[u8]) {}
 
-    fn after_put<R: Wait>(&self, _rt: &R, _group: GroupId, _key: &[u8]) {}
+    fn after_put<R: Wait>(&self, _rt: &R, _number: u64, _group: GroupId, _key: &[u8]) {}
 }

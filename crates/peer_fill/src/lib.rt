@@ -34,3 +34,4 @@ pub use keeping::{KeepsConn, KeepsFill, join_conns, join_fills};
 pub use open::{OpenFault, Opened};
 pub use pool::Pool;
 pub use seats::{ConnSeat, FillSeat};
+pub use work::TakenJob;

@@ -1,18 +1,22 @@
 //! Seats: what a connection and a worker need of a pool, and what they counted.
-ghost use Rattle.std.specs.Prelude.{◌≡◌, ℕ, ◌+◌, ◌^◌, ◌≤◌, ◌<◌, [], length, min};
+ghost use Rattle.std.specs.Prelude.{◌≡◌, ℕ, ◌+◌, ◌^◌, ◌≤◌, ◌<◌, ◌↔◌, [], length, min, None, IsSome, IsTrue};
 ghost use Rattle.crossbeam_queue.specs.Passes.{view};
-ghost use Rattle.peer_fill.specs.Jobs.{hand};
-ghost use Rattle.peer_fill.specs.Counts.{no_asks};
+ghost use Rattle.peer_fill.specs.Counts.{no_asks, no_fills, taken_of};
+ghost use Rattle.peer_fill.specs.Jobs.{hand, left_count};
 
 use crate::counts::{AskCounts, FillCounts};
 use crate::jobs::{Hand, Job};
 use crossbeam_queue::Pass;
-use peer_source::Source;
+use peer_source::{Evicted, Source};
+use std::alloc::Global;
 use std::marker::PhantomData;
 use std::sync::ledger::{Ledger, Share};
 
 /// No seat counts further.
 pub(crate) const MAX_COUNT: u64 = 1 << 56;
+
+// The most entries that one addition to a cache evicts.
+const MAX_EVICTED: usize = 4096;
 
 /// A connection's seat.
 #[derive(Drop)]
@@ -21,10 +25,12 @@ pub struct ConnSeat<S: Source, L: Ledger> {
     pub(crate) share: Share<L>,
     pub(crate) parts: u64,
     pub(crate) asks: AskCounts,
+    // The job of a flight that it led, until the queue has room for it.
+    pub(crate) left: Option<Job<S>>,
     ghost has_parts: { (0 < parts) × (parts ≤ 16) },
     ghost pass_parts: { (view pass).parts ≡ parts },
     ghost share_parts: { share.parts ≡ parts },
-    ghost pushed: { length (view pass).pushed ≡ asks.led },
+    ghost pushed: { length (view pass).pushed + left_count left ≡ asks.led },
     ghost popped: { (view pass).popped ≡ [] },
     ghost share_led: { share.amount ≡ asks.led },
     ghost each_ask: { asks.asked ≡ asks.hits + asks.led + asks.joined },
@@ -39,6 +45,8 @@ pub struct FillSeat<S: Source, L: Ledger> {
     pub(crate) of: PhantomData<L>,
     pub(crate) parts: u64,
     pub(crate) fills: FillCounts,
+    // Room for what one addition to a cache evicts. It is empty between two additions.
+    pub(crate) evicted: Evicted,
     ghost has_parts: { (0 < parts) × (parts ≤ 16) },
     ghost pass_parts: { (view pass).parts ≡ parts },
     ghost pushed: { (view pass).pushed ≡ [] },
@@ -47,7 +55,7 @@ pub struct FillSeat<S: Source, L: Ledger> {
 }
 
 impl<S: Source, L: Ledger> ConnSeat<S, L> {
-    ghost use Rattle.peer_fill.specs.Seats.{asks_of, conn_parts, IsSameConn};
+    ghost use Rattle.peer_fill.specs.Seats.{asks_of, conn_parts, left_of, IsSameConn};
 
     // A seat that has asked nothing.
     pub(crate) fn new(pass: Pass<Job<S>, Hand>, share: Share<L>, parts: u64) -> ConnSeat<S, L>
@@ -57,13 +65,23 @@ impl<S: Source, L: Ledger> ConnSeat<S, L> {
         ensures pass { result.pass ≡ pass }
         ensures parts { conn_parts result ≡ parts }
         ensures counts { asks_of result ≡ no_asks }
+        ensures left { left_of result ≡ None }
     {
         ConnSeat {
             pass,
             share,
             parts,
             asks: AskCounts::none(),
+            left: None,
         }
+    }
+
+    /// Whether the job of a flight that it led is left with it, since the queue of jobs was full. The flight is open, and
+    /// no worker sees its job before `Pool::put_left` has put it.
+    pub fn has_left(&self) -> bool
+        ensures { IsTrue result ↔ IsSome (left_of self.now) }
+    {
+        self.left.is_some()
     }
 
     /// The claims that it was given.
@@ -105,6 +123,7 @@ impl<S: Source, L: Ledger> ConnSeat<S, L> {
     pub fn add_strangers(&mut self, n: u64)
         ensures counts { asks_of self.new ≡ record (asks_of self.old) { strangers = min ((asks_of self.old).strangers + n) (2 ^ 56) } }
         ensures seat { IsSameConn self.old self.new }
+        ensures left { left_of self.new ≡ left_of self.old }
     {
         let strangers = &mut self.asks.strangers;
         if n <= MAX_COUNT - *strangers {
@@ -118,23 +137,40 @@ impl<S: Source, L: Ledger> ConnSeat<S, L> {
 impl<S: Source, L: Ledger> FillSeat<S, L> {
     ghost use Rattle.peer_fill.specs.Seats.{fills_of, fill_parts};
 
-    // A seat that has taken so many jobs.
-    pub(crate) fn new(pass: Pass<Job<S>, Hand>, parts: u64, fills: FillCounts) -> FillSeat<S, L>
+    // A seat that has taken no job.
+    pub(crate) fn new(alloc: Global, pass: Pass<Job<S>, Hand>, parts: u64) -> FillSeat<S, L>
         requires parts { (0 < parts) × (parts ≤ 16) }
-        requires pass_parts { (view pass).parts ≡ parts }
-        requires pushed { (view pass).pushed ≡ [] }
-        requires popped { length (view pass).popped ≡ fills.calls + fills.rehits }
-        requires most { fills.calls + fills.rehits ≤ 2 ^ 56 }
+        requires pass { view pass ≡ hand parts [] [] }
         ensures pass { result.pass ≡ pass }
         ensures parts { fill_parts result ≡ parts }
-        ensures fills { fills_of result ≡ fills }
+        ensures fills { fills_of result ≡ no_fills }
     {
         FillSeat {
             pass,
             of: PhantomData,
             parts,
-            fills,
+            fills: FillCounts::none(),
+            evicted: Vec::new(alloc),
         }
+    }
+
+    // Makes room for what one addition to a cache evicts, where there is none yet. Where memory is refused, it is let go
+    // under the lock of the caches.
+    pub(crate) fn make_room(&mut self)
+        ensures pass { self.new.pass ≡ self.old.pass }
+        ensures parts { fill_parts self.new ≡ fill_parts self.old }
+        ensures fills { fills_of self.new ≡ fills_of self.old }
+    {
+        if self.evicted.capacity() == 0 {
+            let _ = self.evicted.reserve(MAX_EVICTED);
+        }
+    }
+
+    // Whether it has taken fewer jobs than a seat counts.
+    pub(crate) fn may_take(&self) -> bool
+        ensures { IsTrue result ↔ (taken_of (fills_of self.now) < 2 ^ 56) }
+    {
+        self.fills.calls + self.fills.rehits < MAX_COUNT
     }
 
     /// The jobs for which it called the source.

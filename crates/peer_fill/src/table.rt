@@ -1,11 +1,11 @@
 //! The flight table as the pool locks it: beside the book of what its seats led.
-ghost use Rattle.std.specs.Prelude.{◌≡◌, ◌+◌, ◌<◌, IfOk, OnErr};
+ghost use Rattle.std.specs.Prelude.{◌≡◌, ◌+◌, ◌<◌, IfOk, IfSome, OnErr};
 ghost use Rattle.peer_flight.specs.Tables.{state_of};
 
-use peer_flight::{Ask, AskFault, Put, Table};
+use peer_flight::{Ask, AskFault, Flight, Put, Table};
 use peer_source::{GroupId, Source};
 use peer_view::ByteView;
-use std::alloc::Global;
+use std::alloc::{AllocError, Global};
 use std::marker::PhantomData;
 use std::sync::ledger::{Book, Ledger, Share};
 
@@ -26,7 +26,7 @@ pub struct HasSixteenParts<L: Ledger> {
 
 impl<S: Source, L: Ledger> Counted<S, L> {
     ghost use Rattle.peer_flight.specs.SingleFlight.{Lands, place_of};
-    ghost use Rattle.peer_flight.specs.Tables.{Gives, Stands};
+    ghost use Rattle.peer_flight.specs.Tables.{Gives, Stands, flight_at};
     ghost use Rattle.peer_fill.specs.Asks.{led_count};
 
     pub fn new(alloc: Global, led: Book<L>) -> Counted<S, L>
@@ -62,6 +62,14 @@ impl<S: Source, L: Ledger> Counted<S, L> {
             Ok(Ask::Joined(flight)) => Ok(Ask::Joined(flight)),
             Err(fault) => Err(fault),
         }
+    }
+
+    /// A share of the open flight of the group and the key, where there is one. It leads none.
+    pub fn join(&self, group: GroupId, key: &ByteView) -> Result<Option<Flight<S>>, AllocError>
+        ensures found { IfOk result (λ found. found ≡ flight_at self.now.table (place_of group.number key.now)) }
+        ensures place { IfOk result (λ found. IfSome found (λ flight. flight.place ≡ place_of group.number key.now)) }
+    {
+        self.table.join(group, key)
     }
 
     /// Takes the flight out of the table. Its right is spent: who has a `Put` has spent it.

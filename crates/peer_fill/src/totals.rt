@@ -2,6 +2,7 @@
 ghost use Rattle.std.specs.Prelude.{◌≡◌, ℕ, ◌+◌, ◌*◌, ◌^◌, ◌≤◌, ◌<◌, length};
 ghost use Rattle.crossbeam_queue.specs.Passes.{view, IsPassOf};
 ghost use Rattle.peer_fill.specs.Counts.{no_fills, AddsAsks, AddsFills};
+ghost use Rattle.peer_fill.specs.Jobs.{left_count};
 ghost use Rattle.peer_fill.specs.Seats.{asks_of, fills_of, conn_parts, fill_parts};
 
 use crate::counts::{AskCounts, FillCounts};
@@ -20,17 +21,30 @@ pub struct Totals<S: Source, L: Ledger> {
     pub fill_parts: u64,
     pub asks: AskCounts,
     pub fills: FillCounts,
+    /// The jobs that were left with the seats.
+    pub left: u64,
     ghost conns_within: { (0 < conn_parts) × (conn_parts ≤ 16) },
     ghost fills_within: { fill_parts ≤ 16 },
     ghost pass_parts: { (view pass).parts ≡ conn_parts + fill_parts },
     ghost share_parts: { share.parts ≡ conn_parts },
-    ghost pushed: { length (view pass).pushed ≡ asks.led },
+    ghost most_left: { left ≤ conn_parts },
+    ghost pushed: { length (view pass).pushed + left ≡ asks.led },
     ghost popped: { length (view pass).popped ≡ fills.calls + fills.rehits },
     ghost share_led: { share.amount ≡ asks.led },
     ghost each_ask: { asks.asked ≡ asks.hits + asks.led + asks.joined },
     ghost most_asked: { asks.asked ≤ conn_parts * 2 ^ 56 },
     ghost most_strangers: { asks.strangers ≤ conn_parts * 2 ^ 56 },
     ghost most_fills: { fills.calls + fills.rehits ≤ fill_parts * 2 ^ 56 },
+}
+
+// The job that was left with a seat, counted.
+fn count_left<S: Source>(left: Option<Job<S>>) -> u64
+    ensures { result ≡ left_count left }
+{
+    match left {
+        Some(_) => 1,
+        None => 0,
+    }
 }
 
 impl<S: Source, L: Ledger> Totals<S, L> {
@@ -47,6 +61,7 @@ impl<S: Source, L: Ledger> Totals<S, L> {
             share,
             parts,
             asks,
+            left,
         } = seat;
         Totals {
             pass,
@@ -55,6 +70,7 @@ impl<S: Source, L: Ledger> Totals<S, L> {
             fill_parts: 0,
             asks,
             fills: FillCounts::none(),
+            left: count_left(left),
         }
     }
 
@@ -75,6 +91,7 @@ impl<S: Source, L: Ledger> Totals<S, L> {
             fill_parts,
             asks,
             fills,
+            left,
         } = self;
         jobs.absorb::<OnePart>(&mut pass, seat.pass);
         share.merge(seat.share);
@@ -85,6 +102,7 @@ impl<S: Source, L: Ledger> Totals<S, L> {
             fill_parts,
             asks: asks.plus(seat.asks),
             fills,
+            left: left + count_left(seat.left),
         }
     }
 
@@ -105,6 +123,7 @@ impl<S: Source, L: Ledger> Totals<S, L> {
             fill_parts,
             asks,
             fills,
+            left,
         } = self;
         jobs.absorb::<OnePart>(&mut pass, seat.pass);
         Totals {
@@ -114,6 +133,7 @@ impl<S: Source, L: Ledger> Totals<S, L> {
             fill_parts: fill_parts + seat.parts,
             asks,
             fills: fills.plus(seat.fills),
+            left,
         }
     }
 }

@@ -1,5 +1,6 @@
-//! What workers do with a pool: they take jobs, look into the cache, call the source, and put fills.
-ghost use Rattle.std.specs.Prelude.{◌≡◌, ◌+◌, ◌<◌, ◌≤◌, ◌^◌, Some, IfSome, IsTrue, MatchOption};
+//! What workers do with a pool: they take jobs, look into the cache, call the source, and put fills. Or they take a job,
+//! and bring its answer from elsewhere.
+ghost use Rattle.std.specs.Prelude.{◌≡◌, ◌+◌, ◌<◌, ◌≤◌, ◌^◌, Some, IfSome, IsTrue, MatchOption, cond};
 ghost use Rattle.crossbeam_queue.specs.Passes.{view, IsPassOf};
 ghost use Rattle.peer_flight.specs.SingleFlight.{place_of};
 ghost use Rattle.peer_fill.specs.Jobs.{popped_by};
@@ -9,13 +10,14 @@ use crate::counts::FillCounts;
 use crate::gate::Gate;
 use crate::jobs::{Hand, Job, Pop};
 use crate::pool::Pool;
-use crate::seats::{FillSeat, MAX_COUNT};
+use crate::seats::FillSeat;
 use crossbeam_queue::Pass;
 use peer_flight::{FillRight, Put};
-use peer_source::{Evicted, Fill, GroupId, Source};
+use peer_source::{Evicted, Fill, GroupId, Outcome, Source};
 use peer_view::ByteView;
 use peer_wait::{Waiter, lock};
 use std::alloc::Global;
+use std::marker::Model;
 use std::sync::Wait;
 use std::sync::atomic::Ordering::SeqCst;
 use std::sync::ledger::Ledger;
@@ -29,20 +31,53 @@ pub(crate) enum Made<S: Source> {
     Rehit(Fill<S>),
 }
 
+// When a worker takes a job.
+#[derive(Clone, Copy)]
+enum Take {
+    // Where there is one.
+    IfThere,
+    // Once there is one, or none where the pool was stopped.
+    OnceThere,
+}
+
+/// A job that was taken, for whoever brings its answer. Each is to be handed to `Pool::finish`: those who wait for the
+/// flight of one that is let go wait for ever.
+#[derive(Drop)]
+pub struct TakenJob<S: Source> {
+    right: FillRight<S>,
+    key: ByteView,
+}
+
+impl<S: Source> Model for TakenJob<S> {
+    ghost use Rattle.std.specs.Prelude.{◌≡◌};
+    ghost use Rattle.peer_flight.specs.Flights.{FlightId};
+
+    ghost Value = { FlightId };
+
+    ghost view = { λ j. j.right };
+
+    ghost invariant = { λ j. j.key ≡ j.right.place.key };
+}
+
+impl<S: Source> TakenJob<S> {
+    /// The group that was asked for.
+    pub fn group(&self) -> GroupId
+        ensures { result.number ≡ self.now.place.group }
+    {
+        self.right.flight().group()
+    }
+
+    /// The key that was asked for.
+    pub fn key(&self) -> &[u8]
+        ensures { result.now ≡ self.now.place.key }
+    {
+        self.key.as_slice()
+    }
+}
+
 // One who waits for room in the queue is told each time that a worker has made so many fills, and wakes the next one. A
 // notice for each job would wake a reader for the place of one job. Where the queue is empty, all are told.
 const JOBS_PER_NOTICE: u64 = 32;
-
-// The most entries that one addition evicts.
-const MAX_EVICTED: usize = 4096;
-
-// Room for them, none where memory is refused: then they are let go under the lock.
-fn room_for_evicted(alloc: Global) -> Evicted {
-    match Vec::with_capacity(alloc, MAX_EVICTED) {
-        Ok(evicted) => evicted,
-        Err(_) => Vec::new(alloc),
-    }
-}
 
 impl<S: Source> Made<S> {
     ghost use Rattle.peer_fill.specs.Works.{fill_made};
@@ -59,11 +94,12 @@ impl<S: Source> Made<S> {
 }
 
 impl FillCounts {
+    ghost use Rattle.peer_fill.specs.Counts.{taken_of};
     ghost use Rattle.peer_fill.specs.Works.{CountsMade};
 
     // One job more, whose fill was made so.
     fn count<S: Source>(&mut self, made: &Made<S>)
-        requires { self.old.calls + self.old.rehits < 2 ^ 56 }
+        requires { taken_of self.old < 2 ^ 56 }
         ensures { CountsMade made.now self.old self.new }
     {
         match made {
@@ -76,7 +112,23 @@ impl FillCounts {
 impl<S: Source, L: Ledger> Pool<S, L> {
     ghost use Rattle.peer_fill.specs.Caches.{IsFoundFor};
     ghost use Rattle.peer_fill.specs.Pools.{source_of, IsFillSeatOf};
-    ghost use Rattle.peer_fill.specs.Works.{IsMadeFor};
+    ghost use Rattle.peer_fill.specs.Counts.{taken_of};
+    ghost use Rattle.peer_fill.specs.Works.{IsMadeFor, job_count};
+    ghost use Rattle.peer_source.specs.Outcomes.{answer_of};
+
+    // The oldest job, where there is one. Where there is none, all who wait for room are told.
+    fn pop_job<R: Wait>(&self, rt: &R, pass: &mut Pass<Job<S>, Hand>) -> Option<Job<S>>
+        requires pass { IsPassOf self.now.jobs pass.old }
+        requires part { 0 < (view pass.old).parts }
+        ensures pass { IsPassOf self.now.jobs pass.new }
+        ensures popped { MatchOption result (view pass.new ≡ view pass.old) (λ job. view pass.new ≡ popped_by (view pass.old) job) }
+    {
+        let Some(job) = self.jobs.pop_as::<Pop, R>(rt, pass) else {
+            self.signals.room.notify_all();
+            return None;
+        };
+        Some(job)
+    }
 
     // The oldest job, once there is one, or none where the pool was stopped before a look that found none.
     fn next_job<R: Wait>(&self, rt: &R, pass: &mut Pass<Job<S>, Hand>) -> Option<Job<S>>
@@ -88,19 +140,31 @@ impl<S: Source, L: Ledger> Pool<S, L> {
         let mut waiter = Waiter::new(&self.signals.job);
         for _ in rt.forever() {
             let stopping = self.stopping.load(SeqCst);
-            if let Some(job) = self.jobs.pop_as::<Pop, R>(rt, pass) {
+            if let Some(job) = self.pop_job(rt, pass) {
                 if waiter.may_have_slept() {
                     self.wake_next(pass);
                 }
                 return Some(job);
             }
-            self.signals.room.notify_all();
             if stopping {
                 return None;
             }
             waiter.pause(rt);
         }
         unreachable!()
+    }
+
+    // The oldest job, where there is one or once there is one.
+    fn take<R: Wait>(&self, rt: &R, pass: &mut Pass<Job<S>, Hand>, take: Take) -> Option<Job<S>>
+        requires pass { IsPassOf self.now.jobs pass.old }
+        requires part { 0 < (view pass.old).parts }
+        ensures pass { IsPassOf self.now.jobs pass.new }
+        ensures popped { MatchOption result (view pass.new ≡ view pass.old) (λ job. view pass.new ≡ popped_by (view pass.old) job) }
+    {
+        match take {
+            Take::IfThere => self.pop_job(rt, pass),
+            Take::OnceThere => self.next_job(rt, pass),
+        }
     }
 
     // A worker that was woken wakes the next one, where more jobs are left.
@@ -160,13 +224,65 @@ impl<S: Source, L: Ledger> Pool<S, L> {
     {
         let put = right.put(fill);
         self.signals.fill(put.flight.number()).notify_all();
-        gate.after_put(rt, put.flight.group(), put.flight.key().as_slice());
+        gate.after_put(
+            rt,
+            put.flight.number(),
+            put.flight.group(),
+            put.flight.key().as_slice(),
+        );
         put
     }
 
     // Takes the flight out of the table. Its right is spent, or there were no `put`.
     fn land<R: Wait>(&self, rt: &R, put: Put<S>) {
         lock(rt, &self.table).land(&put);
+    }
+
+    // Sets the fill of a flight with this right, and lands it.
+    fn put_and_land<R: Wait, G: Gate>(&self, rt: &R, right: FillRight<S>, fill: Fill<S>, gate: &G)
+        requires { place_of fill.group fill.key ≡ right.place }
+    {
+        let put = self.put(rt, right, fill, gate);
+        self.land(rt, put);
+    }
+
+    // Tells who waits for room, each time that a worker has made so many fills.
+    fn tell_of_room(&self, fills: &FillCounts)
+        requires { taken_of fills.now ≤ 2 ^ 56 }
+    {
+        if (fills.calls + fills.rehits) % JOBS_PER_NOTICE == 0 {
+            self.signals.room.notify_one();
+        }
+    }
+
+    // Takes a job and fills its flight. Whether there was one.
+    fn work_one<R: Wait, G: Gate>(
+        &self,
+        rt: &R,
+        alloc: Global,
+        seat: &mut FillSeat<S, L>,
+        take: Take,
+        gate: &G,
+    ) -> bool
+        requires seat { IsFillSeatOf self.now seat.old }
+        requires most { taken_of (fills_of seat.old) < 2 ^ 56 }
+        ensures seat { IsFillSeatOf self.now seat.new }
+        ensures parts { fill_parts seat.new ≡ fill_parts seat.old }
+        ensures calls { (fills_of seat.old).calls ≤ (fills_of seat.new).calls }
+        ensures rehits { (fills_of seat.old).rehits ≤ (fills_of seat.new).rehits }
+        ensures counted { taken_of (fills_of seat.new) ≡ taken_of (fills_of seat.old) + cond result 1 0 }
+    {
+        let Some(job) = self.take(rt, &mut seat.pass, take) else {
+            return false;
+        };
+        let Job { right, key } = job;
+        let group = right.flight().group();
+        gate.before_call(rt, group, key.as_slice());
+        let made = self.make(rt, alloc, group, key, &mut seat.evicted);
+        seat.fills.count(&made);
+        self.tell_of_room(&seat.fills);
+        self.put_and_land(rt, right, made.into_fill(), gate);
+        true
     }
 
     /// Takes jobs until it has seen that the pool was stopped and then finds no job, or until its seat has taken 2^56.
@@ -183,28 +299,96 @@ impl<S: Source, L: Ledger> Pool<S, L> {
         ensures calls { (fills_of seat).calls ≤ (fills_of result).calls }
         ensures rehits { (fills_of seat).rehits ≤ (fills_of result).rehits }
     {
-        let FillSeat {
-            mut pass,
-            of: _,
-            parts,
-            mut fills,
-        } = seat;
-        let mut evicted = room_for_evicted(alloc);
-        while fills.calls + fills.rehits < MAX_COUNT {
-            let Some(job) = self.next_job(rt, &mut pass) else {
+        let mut seat = seat;
+        seat.make_room();
+        while seat.may_take() {
+            if !self.work_one(rt, alloc, &mut seat, Take::OnceThere, gate) {
                 break;
+            }
+        }
+        seat
+    }
+
+    /// Fills the jobs that are there, so many at most, and waits for none. How many it filled.
+    pub fn work_some<R: Wait, G: Gate>(
+        &self,
+        rt: &R,
+        alloc: Global,
+        seat: &mut FillSeat<S, L>,
+        most: usize,
+        gate: &G,
+    ) -> usize
+        requires seat { IsFillSeatOf self.now seat.old }
+        ensures seat { IsFillSeatOf self.now seat.new }
+        ensures parts { fill_parts seat.new ≡ fill_parts seat.old }
+        ensures most { result ≤ most }
+        ensures calls { (fills_of seat.old).calls ≤ (fills_of seat.new).calls }
+        ensures rehits { (fills_of seat.old).rehits ≤ (fills_of seat.new).rehits }
+        ensures counted { taken_of (fills_of seat.new) ≡ taken_of (fills_of seat.old) + result }
+    {
+        seat.make_room();
+        let mut done = 0;
+        while done < most && seat.may_take() {
+            if !self.work_one(rt, alloc, seat, Take::IfThere, gate) {
+                break;
+            }
+            done += 1;
+        }
+        done
+    }
+
+    /// The oldest job, where there is one, for a caller that brings its answer from elsewhere and hands it to `finish`. It
+    /// waits for no job. The seat counts a call for it. Jobs whose value is kept by then are filled on the way.
+    pub fn take_job<R: Wait, G: Gate>(
+        &self,
+        rt: &R,
+        seat: &mut FillSeat<S, L>,
+        gate: &G,
+    ) -> Option<TakenJob<S>>
+        requires seat { IsFillSeatOf self.now seat.old }
+        ensures seat { IsFillSeatOf self.now seat.new }
+        ensures parts { fill_parts seat.new ≡ fill_parts seat.old }
+        ensures calls { (fills_of seat.new).calls ≡ (fills_of seat.old).calls + job_count result }
+        ensures rehits { (fills_of seat.old).rehits ≤ (fills_of seat.new).rehits }
+    {
+        while seat.may_take() {
+            let Some(job) = self.pop_job(rt, &mut seat.pass) else {
+                return None;
             };
             let Job { right, key } = job;
             let group = right.flight().group();
             gate.before_call(rt, group, key.as_slice());
-            let made = self.make(rt, alloc, group, key, &mut evicted);
-            fills.count(&made);
-            if (fills.calls + fills.rehits) % JOBS_PER_NOTICE == 0 {
-                self.signals.room.notify_one();
-            }
-            let put = self.put(rt, right, made.into_fill(), gate);
-            self.land(rt, put);
+            let Some(fill) = self.cached_fill(rt, group, &key) else {
+                seat.fills.calls += 1;
+                return Some(TakenJob { right, key });
+            };
+            seat.fills.rehits += 1;
+            self.put_and_land(rt, right, fill, gate);
         }
-        FillSeat::new(pass, parts, fills)
+        None
+    }
+
+    /// Sets the fill of the job's flight: this answer. A value that was found is kept, unless memory refuses that. Those who
+    /// wait are told, and the flight is landed.
+    pub fn finish<R: Wait, G: Gate>(
+        &self,
+        rt: &R,
+        seat: &mut FillSeat<S, L>,
+        job: TakenJob<S>,
+        outcome: Outcome,
+        gate: &G,
+    )
+        requires seat { IsFillSeatOf self.now seat.old }
+        requires answer { IfSome (answer_of outcome) (S.answers (source_of self.now) job.place.group job.place.key) }
+        ensures seat { IsFillSeatOf self.now seat.new }
+        ensures parts { fill_parts seat.new ≡ fill_parts seat.old }
+        ensures counts { fills_of seat.new ≡ fills_of seat.old }
+    {
+        seat.make_room();
+        let TakenJob { right, key } = job;
+        let group = right.flight().group();
+        let fill = Fill::of_answer(group, key, outcome);
+        self.keep(rt, &fill, &mut seat.evicted);
+        self.put_and_land(rt, right, fill, gate);
     }
 }

@@ -1,5 +1,5 @@
 //! The table of the open flights (`Group` of `singleflight.go`).
-ghost use Rattle.std.specs.Prelude.{◌≡◌, ◌≢◌, ℕ, ◌+◌, ◌^◌, ◌≤◌, ◌<◌, Some, IfOk, OnErr, IsErr, IsErrOf};
+ghost use Rattle.std.specs.Prelude.{◌≡◌, ◌≢◌, ℕ, ◌+◌, ◌^◌, ◌≤◌, ◌<◌, Some, IfOk, IfSome, OnErr, IsErr, IsErrOf};
 ghost use Rattle.std.specs.Option.{ForSome};
 ghost use Rattle.std.specs.HashMap.{get};
 ghost use Rattle.peer_flight.specs.SingleFlight.{Place, place_eq};
@@ -93,6 +93,19 @@ impl<S: Source> Table<S> {
         };
         self.next += 1;
         Ok(Ask::Led(flight, right))
+    }
+
+    /// A share of the open flight of the group and the key, where there is one. It leads none.
+    pub fn join(&self, group: GroupId, key: &ByteView) -> Result<Option<Flight<S>>, AllocError>
+        ensures found { IfOk result (λ found. found ≡ flight_at self.now (place_of group.number key.now)) }
+        ensures place { IfOk result (λ found. IfSome found (λ flight. flight.place ≡ place_of group.number key.now)) }
+    {
+        let place = Place::of(group, key)?;
+        let Some(flight) = self.flights.get(&place) else {
+            return Ok(None);
+        };
+        let share = flight.share()?;
+        Ok(Some(share))
     }
 
     // A new flight of the place, with its right and a share for the table.

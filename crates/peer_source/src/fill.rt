@@ -120,6 +120,21 @@ impl<S: Source> Fill<S> {
         }
     }
 
+    /// The fill of an answer that is brought from elsewhere. It calls no source.
+    pub fn of_answer(group: GroupId, key: ByteView, outcome: Outcome) -> Fill<S>
+        requires allowed { IfSome (answer_of outcome) (S.allowed group.number key) }
+        ensures group { result.group ≡ group.number }
+        ensures key { result.key ≡ key }
+        ensures answer { result.answer ≡ answer_of outcome }
+    {
+        Fill {
+            group,
+            key,
+            outcome,
+            of: PhantomData,
+        }
+    }
+
     // The fill of a value that the type of the source allows.
     pub(crate) fn of_value(group: GroupId, key: ByteView, value: ByteView) -> Fill<S>
         requires { IsAnswer S.allowed group.number (key, value) }

@@ -48,6 +48,9 @@ pub trait Source: Send + Sync + Drop {
     ) -> Result<(), GetFault>
         ensures { IfSome (reported result sink.new) (answers self.now group.number key.now) };
 
+    /// Whether `get` waits for nothing, so that a thread which has other work may call it.
+    const ANSWERS_AT_ONCE: bool = false;
+
     // What a source answers is allowed, a found answer is within the limit, there is an answer to everything, and each
     // number is that of a group.
     ghost within: { (s : Self) (g : ℕ) (k : List ℕ) (a : Answer) → answers s g k a → allowed g k a };

@@ -1,6 +1,8 @@
 //! Pools: that calls succeed, that claims show what the source found, and what is counted.
 
 mod asks;
+mod brought;
+mod full;
 mod gates;
 mod numbering;
 mod opening;

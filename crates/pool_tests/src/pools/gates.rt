@@ -51,7 +51,7 @@ impl<'a, L: Ledger + Send + Sync> Gate for Meddling<'a, L> {
         }
     }
 
-    fn after_put<R: Wait>(&self, rt: &R, _group: GroupId, key: &[u8]) {
+    fn after_put<R: Wait>(&self, rt: &R, _number: u64, _group: GroupId, key: &[u8]) {
         self.asker.lock(rt).ask(rt, key);
     }
 }

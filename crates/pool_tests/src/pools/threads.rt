@@ -46,7 +46,7 @@ impl Gate for Slow {
         }
     }
 
-    fn after_put<R: Wait>(&self, _rt: &R, _group: GroupId, _key: &[u8]) {}
+    fn after_put<R: Wait>(&self, _rt: &R, _number: u64, _group: GroupId, _key: &[u8]) {}
 }
 
 // What each connection asks for: in each round so many keys of two bytes, and then it waits for all of them.

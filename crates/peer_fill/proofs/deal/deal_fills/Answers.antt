@@ -1,4 +1,4 @@
-use Rattle.std.proofs.Common.{◌≡◌, arith, rules, ap, ◌∙◌}
+use Rattle.std.proofs.Common.{◌≡◌, arith, rules, ap}
 use Rattle.std.proofs.lemmas.List.Elements.{All-push}
 use Rattle.peer_fill.proofs.Lasts.{sum_last}
 use Rattle.crossbeam_queue.specs.Passes.{IsPassOf}
@@ -21,6 +21,6 @@ loop-i-preserved g c =
       left = omega arith;
       count = omega (arith, c.in_ok-push.ensures.len, i.count);
       pass = rw items (All-push (λ s. IsPassOf c.args.jobs.now s.pass) _ _ i.pass (rw k.pass c.another-one.ensures.queue.1));
-      counts = rw items (All-push (λ s. s.fills ≡ no_fills) _ _ i.counts (k.fills ∙ c.none.ensures));
+      counts = rw items (All-push (λ s. s.fills ≡ no_fills) _ _ i.counts k.fills);
       parts = omega (arith, sum_last (λ s. s.parts) _ _ _ items, k.parts, i.parts);
     }
