@@ -23,7 +23,7 @@ pub merely_its_reply : (closing bare : Bool) (P : Type 0) (a b : Answer) (r : Li
 merely_its_reply closing bare P a b r h same e = ∥∥₁_elim h (Coded-set (coded_list coded_ℕ) r (answer_reply closing bare b)) (λ p. e ∙ ap (answer_reply closing bare) (same p))
 
 module _ (A B : ℕ → List ℕ → Answer → Type 0) (carries : (closing bare : Bool) (g : ℕ) (k r : List ℕ) → IsReplyOf A closing bare g k r → IsReplyOf B closing bare g k r) where
-  replies_to : (closing bare : Bool) (b : WishBody) (r : List ℕ) → RepliesTo A closing bare b r → RepliesTo B closing bare b r
+  pub replies_to : (closing bare : Bool) (b : WishBody) (r : List ℕ) → RepliesTo A closing bare b r → RepliesTo B closing bare b r
   replies_to closing bare (body.Fault f) r h = h
   replies_to closing bare (body.Get group key) r h = carries closing bare group.number key r h
 

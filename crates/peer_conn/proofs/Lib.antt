@@ -1,6 +1,10 @@
 pub mod AnswerLemmas
+pub mod AskingLemmas
 pub mod EndLemmas
+pub mod ExchangeEndLemmas
+pub mod ExchangeLemmas
 pub mod HeadlineLemmas
+pub mod IntakeLemmas
 pub mod KnownLemmas
 pub mod ReaderSideLemmas
 pub mod RequestLemmas

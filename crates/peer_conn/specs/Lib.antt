@@ -1,8 +1,15 @@
+pub mod Answering
+pub mod AnsweringReady
+pub mod Asking
 pub mod Calls
 pub mod Connects
 pub mod Ends
+pub mod ExchangeEnds
 pub mod Exchanges
+pub mod ExchangeStates
 pub mod Headline
+pub mod Histories
+pub mod Intakes
 pub mod Known
 pub mod Laws
 pub mod Nexts
@@ -10,6 +17,7 @@ pub mod ReaderSides
 pub mod Replies
 pub mod Requests
 pub mod Responses
+pub mod Rests
 pub mod Sending
 pub mod Sides
 pub mod Stops

@@ -6,12 +6,19 @@
 //! the replies to what was read, as the end of the call says.
 #![tactic(auto)]
 
+mod byte_queue;
 mod connection;
 mod end;
+mod exchange;
+mod exchange_state;
+mod history;
+mod intake;
 pub mod laws;
+mod outgoing;
 mod reader_side;
 mod requests;
 mod responses;
+mod rest;
 mod serial;
 mod wish;
 mod write_buffer;
@@ -19,5 +26,8 @@ mod writer_side;
 
 pub use connection::{serve_connection, serve_connection_functional};
 pub use end::{End, Served};
+pub use exchange::Exchange;
+pub use intake::GivenUp;
+pub use rest::Rest;
 pub use serial::{serve_functional, serve_serial, serve_told};
 pub use wish::wish_of;

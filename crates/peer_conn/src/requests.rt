@@ -72,7 +72,7 @@ impl<R: PeerRead> Requests<R> {
         ensures known { GivesKnown (S.count names.now) result }
         ensures left { self.new.left ≡ self.old.left }
     {
-        let Ok(found) = next_wish(self.alloc, names, &self.held, &mut self.places) else {
+        let Ok(found) = next_wish(self.alloc, names, self.held.rest(), &mut self.places) else {
             return NextRequest::NoMemory;
         };
         let Some(next) = found else {

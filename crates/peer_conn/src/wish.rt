@@ -8,7 +8,7 @@ ghost use Rattle.peer_conn.specs.Wishes.{head_wish, head_body, target_body, in_g
 ghost use Rattle.peer_conn.specs.Nexts.{IsNextOf};
 
 use peer_flight::MAX_REPLIES;
-use peer_head::{FieldPlaces, HeadBuf, HeadFault, HeadView, Look};
+use peer_head::{FieldPlaces, HeadFault, HeadView, Look, look_held};
 use peer_path::{PathFault, locate};
 use peer_reply::{Fault, Wish, WishBody};
 use peer_source::{Names, Source};
@@ -110,12 +110,12 @@ pub(crate) struct Next {
 pub(crate) fn next_wish<S: Source>(
     alloc: Global,
     names: &Names<'_, S>,
-    held: &HeadBuf,
+    held: &[u8],
     places: &mut FieldPlaces,
 ) -> Result<Option<Next>, AllocError>
-    ensures { IfOk result (λ next. IsNextOf (S.number_of names.now) held.now.held next) }
+    ensures { IfOk result (λ next. IsNextOf (S.number_of names.now) held.now next) }
 {
-    let (look, len) = held.look(places);
+    let (look, len) = look_held(held, places);
     match look {
         Look::Need => Ok(None),
         Look::Fault(fault, bare) => {

@@ -14,8 +14,8 @@ impl HeadBuf {
     }
 }
 
-// Whether a text is pairs CR LF alone.
-fn are_pairs(text: &[u8]) -> bool
+/// Whether a text is pairs CR LF alone.
+pub fn are_pairs(text: &[u8]) -> bool
     ensures { IsTrue result ↔ ArePairs text.now }
 {
     skip_pairs(text) == text.len()

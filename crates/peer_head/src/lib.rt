@@ -24,5 +24,6 @@ mod summary;
 pub use buffer::{HEAD_LIMIT, HeadBuf};
 pub use fault::HeadFault;
 pub use head::HeadView;
-pub use look::Look;
+pub use idle::are_pairs;
+pub use look::{Look, look_held};
 pub use places::FieldPlaces;

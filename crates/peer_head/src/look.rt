@@ -9,6 +9,7 @@ use crate::block::{Cut, find_block};
 use crate::fault::HeadFault;
 use crate::head::{HeadView, is_bare};
 use crate::parse::parse_head;
+use crate::places::FieldPlaces;
 use crate::summary::summary_of;
 use httparse::spans::{HeaderSpan, RequestSpans};
 
@@ -20,6 +21,15 @@ pub enum Look<'b> {
     Head(HeadView<'b>),
     /// The flag tells whether the head's method is `HEAD`, so that the reply goes without content.
     Fault(HeadFault, bool),
+}
+
+/// What the bytes held are, and how many of them the first block takes with the pairs before it, 0 where there is no block:
+/// `HeadBuf::look` of bytes that lie anywhere.
+pub fn look_held<'b>(held: &'b [u8], places: &'b mut FieldPlaces) -> (Look<'b>, usize)
+    ensures look { LooksAs held.now result.0 }
+    ensures front { IsFrontLength held.now result.1 }
+{
+    look_at(held, &mut places.places)
 }
 
 /// Looks at the first block of the text, and tells how many bytes it takes with the pairs before it.

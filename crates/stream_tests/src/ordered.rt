@@ -25,7 +25,7 @@ impl Gate for Holding {
         }
     }
 
-    fn after_put<R: Wait>(&self, _rt: &R, _group: GroupId, key: &[u8]) {
+    fn after_put<R: Wait>(&self, _rt: &R, _number: u64, _group: GroupId, key: &[u8]) {
         if key == b"b".as_slice() {
             self.put.tell();
         }

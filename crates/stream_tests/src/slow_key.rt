@@ -28,7 +28,7 @@ impl Gate for Slow {
         }
     }
 
-    fn after_put<R: Wait>(&self, _rt: &R, _group: GroupId, _key: &[u8]) {}
+    fn after_put<R: Wait>(&self, _rt: &R, _number: u64, _group: GroupId, _key: &[u8]) {}
 }
 
 // Whether a connection gets the reply.

@@ -230,7 +230,7 @@ impl Gate for Holding {
         }
     }
 
-    fn after_put<R: Wait>(&self, _rt: &R, _group: GroupId, _key: &[u8]) {}
+    fn after_put<R: Wait>(&self, _rt: &R, _number: u64, _group: GroupId, _key: &[u8]) {}
 }
 
 // GET of a value that is too long to be buffered, then of 64 keys, then of `last`, then of 434 more.

@@ -1,0 +1,87 @@
+-- Laws of what an exchange asked and answered.
+use Rattle.std.proofs.Common.{Option, ◌≡◌, ◌∙◌, ℕ, ◌+◌, ◌≤◌, ◌^◌, min, Bool, true, false, cond, List, [], ◌∷◌, ◌++◌, refl, sym, ap, subst, arith, append_assoc, append-nil, Result, Ok, Err, leb, ◌||◌}
+use Rattle.std.proofs.lemmas.Bool.{le-leb, true≢false}
+use Rattle.std.specs.VecDeque.{deque_len}
+use Rattle.peer_fill.specs.declared.counts.AskCounts.{AskCounts}
+use Rattle.peer_lane.specs.declared.ticket.Ticket.{Ticket}
+use Rattle.peer_reply.specs.declared.wish.Wish.{Wish}
+use Rattle.peer_conn.specs.Tickets.{asks_in_body, asks_in, wish_by, wishes_by}
+use Rattle.peer_conn.specs.Answering.{IsMadeGood}
+use Rattle.peer_conn.specs.AnsweringReady.{MadeGood, CountsMadeGood, AnswersTicket, AnswersReady}
+use Rattle.peer_conn.specs.Asking.{CountsAsks, AddsTicket, AddsTickets, IsJudgedThrough}
+use Rattle.peer_conn.specs.ExchangeStates.{is_full}
+use Rattle.peer_conn.specs.declared.exchange_state.ExchangeState.{ExchangeState}
+use Rattle.peer_conn.specs.declared.exchange_state.TheConstants.{MAX_WAITING}
+use Rattle.peer_conn.proofs.ExchangeLemmas.{went_well}
+use Rattle.peer_conn.proofs.WriterSideLemmas.{wishes-append}
+
+asks_in-append : (ws vs : List Wish) → asks_in (ws ++ vs) ≡ asks_in ws + asks_in vs
+asks_in-append [] vs = omega arith
+asks_in-append (w ∷ ws) vs = omega (arith, asks_in-append ws vs)
+
+capped : (a c x most : ℕ) → min (min (a + c) most + x) most ≡ min (a + (c + x)) most
+capped a c x most = omega arith
+
+none_more : (a most : ℕ) → a ≤ most → a ≡ min (a + 0) most
+none_more a most le = omega (arith, le)
+
+module _ {S : Type 0} where
+  one_more : (ts : List (Ticket S)) (t : Ticket S) → asks_in (wishes_by (ts ++ t ∷ [])) ≡ asks_in (wishes_by ts) + asks_in_body (wish_by t).body
+  one_more ts t = ap asks_in (wishes-append ts (t ∷ [])) ∙ asks_in-append (wishes_by ts) (wish_by t ∷ []) ∙ omega arith
+
+  pub adds_none : (a b : ExchangeState S) (n : AskCounts) → b.waiting.items ≡ a.waiting.items → AddsTickets a b n n went_well
+  adds_none a b n same = record { tickets = []; put = same ∙ sym (append-nil a.waiting.items); counted = record { asked = omega arith; strangers = refl } }
+
+  module _ {a b d : ExchangeState S} {l m n : AskCounts} where
+    pub adds_one : AddsTickets a b l m went_well → AddsTicket b d m n → AddsTickets a d l n went_well
+    adds_one h k = record {
+      tickets = h.tickets ++ k.ticket ∷ [];
+      put = k.put ∙ ap (λ ts. ts ++ k.ticket ∷ []) h.put ∙ append_assoc a.waiting.items h.tickets (k.ticket ∷ []);
+      counted = record { asked = omega (arith, h.counted.asked, k.counted.asked, one_more h.tickets k.ticket); strangers = k.counted.strangers ∙ h.counted.strangers };
+    }
+
+    pub adds_same : {T E : Type 0} {x : T} → AddsTickets a b l m went_well → d.waiting.items ≡ b.waiting.items → CountsAsks 0 m n → AddsTickets {T = T} {E = E} a d l n (Ok x)
+    adds_same h same k = record { tickets = h.tickets; put = same ∙ h.put; counted = record { asked = omega (arith, h.counted.asked, k.asked); strangers = k.strangers ∙ h.counted.strangers } }
+
+    pub adds_lost : {T E : Type 0} {x : E} → AddsTickets a b l m went_well → CountsAsks 0 m n → AddsTickets {T = T} {E = E} a d l n (Err x)
+    adds_lost h k = record { tickets = h.tickets; put = tt; counted = record { asked = omega (arith, h.counted.asked, k.asked); strangers = k.strangers ∙ h.counted.strangers } }
+
+  pub adds_end : {T E : Type 0} {x : T} {a b : ExchangeState S} {l m : AskCounts} → AddsTickets a b l m went_well → AddsTickets {T = T} {E = E} a b l m (Ok x)
+  adds_end h = record { tickets = h.tickets; put = h.put; counted = h.counted }
+
+  -- where as many tickets wait as may, it is full
+  pub full_through : {J : Type 0} (e : ExchangeState S) (left : Option J) → MAX_WAITING ≤ deque_len e.waiting → IsJudgedThrough e left
+  full_through e left many judging full = absurd (is_full_not (leb MAX_WAITING (deque_len e.waiting)) _ (le-leb _ _ many) full)
+    where
+      is_full_not : (p q : Bool) → p ≡ true → (p || q) ≡ false → ⊥
+      is_full_not true q e f = true≢false f
+      is_full_not false q e f = true≢false (sym e)
+
+  good-append : (ts : List (Ticket S)) (t : Ticket S) (n : ℕ) (good : Bool) → MadeGood ts n → IsMadeGood t.body good → MadeGood (ts ++ t ∷ []) (n + cond good 1 0)
+  good-append [] t n good h is = (good, 0, is, refl, omega (arith, h))
+  good-append (u ∷ us) t n good h is = (h.0, h.1 + cond good 1 0, h.2, good-append us t h.1 good h.3 is, omega (arith, h.4))
+
+  pub answers_none : (e : ExchangeState S) (n : AskCounts) → n.strangers ≤ 2 ^ 56 → AnswersReady e e n n went_well
+  answers_none e n le = record { answered = []; left = e.waiting.items; first = refl; wait = refl; count = 0; made_good = refl; counted = ap (λ s. record n { strangers = s }) (none_more n.strangers (2 ^ 56) le) }
+
+  module _ {a b d : ExchangeState S} {l m n : AskCounts} where
+    pub answers_one : AnswersReady a b l m went_well → AnswersTicket b d m n → AnswersReady a d l n went_well
+    answers_one h k =
+        let more = cond k.made_good 1 0 in
+        record {
+          answered = h.answered ++ k.ticket ∷ [];
+          left = d.waiting.items;
+          first = h.first ∙ ap (λ ts. h.answered ++ ts) (sym h.wait ∙ k.taken) ∙ sym (append_assoc h.answered (k.ticket ∷ []) d.waiting.items);
+          wait = refl;
+          count = h.count + more;
+          made_good = good-append h.answered k.ticket h.count k.made_good h.made_good k.is_made_good;
+          counted =
+              k.counted ∙ ap {A = AskCounts} (λ q. record q { strangers = min (q.strangers + more) (2 ^ 56) }) h.counted
+              ∙ ap (λ s. record l { strangers = s }) (capped l.strangers h.count more (2 ^ 56));
+        }
+
+    pub answers_same : {T E : Type 0} {x : T} → AnswersReady a b l m went_well → d.waiting.items ≡ b.waiting.items → n ≡ m → AnswersReady {T = T} {E = E} a d l n (Ok x)
+    answers_same h same k = record { answered = h.answered; left = h.left; first = h.first; wait = same ∙ h.wait; count = h.count; made_good = h.made_good; counted = k ∙ h.counted }
+
+    pub answers_lost : {T E : Type 0} {x : E} → AnswersReady a b l m went_well → n ≡ m → AnswersReady {T = T} {E = E} a d l n (Err x)
+    answers_lost h k = record { answered = h.answered; left = h.left; first = h.first; wait = tt; count = h.count; made_good = h.made_good; counted = k ∙ h.counted }

@@ -1,0 +1,24 @@
+use Rattle.std.proofs.Common.{◌≡◌, [], ◌++◌, List, sym, ap, subst, refl, true, false, length, arith}
+use Rattle.peer_head.specs.declared.fault.HeadFault.TheVariants.{TooLong}
+use Rattle.peer_reply.specs.Texts.{fault_reply}
+use Rattle.peer_reply.specs.declared.fault.Fault.TheVariants as fault
+use Rattle.peer_reply.specs.declared.wish.Wish.{Wish}
+use Rattle.peer_conn.specs.Wishes.{fault_wish}
+use Rattle.peer_conn.specs.Intakes.{Judged}
+use Rattle.peer_conn.specs.Tickets.{wishes_by}
+use Rattle.peer_conn.proofs.IntakeLemmas.{judged_new}
+use Rattle.peer_conn.proofs.exchange_state.ExchangeState.new.Goals as goal
+
+pub returns : goal.returns
+returns g c numbers =
+    let nothing : List Wish = [] in
+    let none : nothing ≡ wishes_by c.new-2.result.items ++ [] = ap (λ ts. wishes_by ts ++ []) (sym c.new-2.ensures.items) in
+    record {
+      answered = [];
+      judged = subst (λ ws. Judged numbers [] ws c.new.result) none (judged_new numbers c.new.result c.new.ensures);
+      replies = [];
+      each = refl;
+      put = c.new-3.ensures;
+      waiting = omega (arith, c.new-2.ensures.len);
+      unsent = record { wish = fault_wish TooLong false; reply = fault_reply true false fault.TooLong; replies = refl; few = omega (arith, ap length c.new-3.ensures) };
+    }

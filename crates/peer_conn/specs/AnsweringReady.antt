@@ -1,0 +1,52 @@
+-- What an exchange answered: the first tickets that waited, and those among them that were made good.
+use Rattle.std.specs.Prelude.{◌≡◌, ℕ, ◌+◌, ◌^◌, ◌⊎◌, min, Bool, true, false, cond, List, [], ◌∷◌, ◌++◌, Result, Ok, Err, OnOk}
+use Rattle.std.specs.VecDeque.{deque_len}
+use Rattle.peer_fill.specs.declared.counts.AskCounts.{AskCounts}
+use Rattle.peer_lane.specs.declared.ticket.Ticket.{Ticket}
+use Rattle.peer_conn.specs.Answering.{IsMadeGood, waits_on_flight}
+use Rattle.peer_conn.specs.Intakes.{IsGivenUpFor}
+use Rattle.peer_conn.specs.ExchangeStates.{has_much_output}
+use Rattle.peer_conn.specs.declared.exchange_state.ExchangeState.{ExchangeState}
+use Rattle.peer_conn.specs.declared.intake.GivenUp.{GivenUp}
+
+module _ {S : Type 0} where
+  -- so many of the tickets were made good
+  abbrev pub MadeGood : List (Ticket S) → ℕ → Type 0
+  MadeGood [] n = n ≡ 0
+  MadeGood (t ∷ ts) n = (made_good : Bool) × (m : ℕ) × IsMadeGood t.body made_good × MadeGood ts m × (n ≡ cond made_good 1 0 + m)
+
+-- so many strangers more, up to the most that a seat counts
+abbrev pub CountsMadeGood : ℕ → AskCounts → AskCounts → Type 0
+CountsMadeGood n old new = new ≡ record old { strangers = min (old.strangers + n) (2 ^ 56) }
+
+module _ {S : Type 0} where
+  -- no ticket waits, or nothing is put until output was sent, or the first ticket waits on a flight
+  abbrev pub IsAnsweredThrough : ExchangeState S → Type 0
+  IsAnsweredThrough e = (e.waiting.items ≡ []) ⊎ (has_much_output e ≡ true)
+      ⊎ ((t : Ticket S) × (ts : List (Ticket S)) × (e.waiting.items ≡ t ∷ ts) × (waits_on_flight t.body ≡ true))
+
+  -- the first ticket was answered
+  pub record AnswersTicket (old new : ExchangeState S) (asks asks' : AskCounts) : Type 0 where
+    pub ticket : Ticket S
+    pub taken : old.waiting.items ≡ ticket ∷ new.waiting.items
+    pub len : deque_len old.waiting ≡ deque_len new.waiting + 1
+    pub made_good : Bool
+    pub is_made_good : IsMadeGood ticket.body made_good
+    pub counted : CountsMadeGood (cond made_good 1 0) asks asks'
+
+  -- the first ticket was answered, or it waits, or it was given up
+  abbrev pub AnswersFirst : ExchangeState S → ExchangeState S → AskCounts → AskCounts → Result Bool GivenUp → Type 0
+  AnswersFirst old new asks asks' (Ok true) = AnswersTicket old new asks asks' × (new.intake.stage ≡ old.intake.stage)
+  AnswersFirst old new asks asks' (Ok false) = (new.waiting.items ≡ old.waiting.items) × (asks' ≡ asks)
+      × (new.intake.stage ≡ old.intake.stage) × IsAnsweredThrough new
+  AnswersFirst old new asks asks' (Err why) = (asks' ≡ asks) × IsGivenUpFor new.intake.stage why
+
+  -- these tickets were answered, which were the first that waited; the others wait, unless it was given up
+  pub record AnswersReady {T E : Type 0} (old new : ExchangeState S) (asks asks' : AskCounts) (result : Result T E) : Type 0 where
+    pub answered : List (Ticket S)
+    pub left : List (Ticket S)
+    pub first : old.waiting.items ≡ answered ++ left
+    pub wait : OnOk result (new.waiting.items ≡ left)
+    pub count : ℕ
+    pub made_good : MadeGood answered count
+    pub counted : CountsMadeGood count asks asks'

@@ -1,0 +1,73 @@
+-- What holds of a connection at every moment, of the bytes that came and those that were sent.
+use Rattle.std.specs.Prelude.{◌≡◌, ℕ, ◌+◌, ◌-◌, ◌≤◌, Bool, true, false, ◌&&◌, ◌||◌, not, ◌==◌, leb, List, [], ◌∷◌, ◌++◌, length, Option}
+use Rattle.std.specs.VecDeque.{deque_len}
+use Rattle.peer_source.specs.Answers.{Answer}
+use Rattle.peer_head.specs.Blocks.{LIMIT}
+use Rattle.peer_reply.specs.declared.wish.Wish.{Wish}
+use Rattle.peer_conn.specs.Replies.{IsReply, Replies, join}
+use Rattle.peer_conn.specs.Headline.{AreAllReplies}
+use Rattle.peer_conn.specs.Tickets.{wishes_by}
+use Rattle.peer_conn.specs.Intakes.{Judged, is_open, is_judging}
+use Rattle.peer_conn.specs.declared.exchange_state.ExchangeState.{ExchangeState}
+use Rattle.peer_conn.specs.declared.exchange_state.TheConstants.{MAX_WAITING, MAX_UNSENT}
+
+-- these bytes are few: so many and one reply at most
+pub record AreFew (answers : ℕ → List ℕ → Answer → Type 0) (most : ℕ) (bytes : List ℕ) : Type 0 where
+  pub wish : Wish
+  pub reply : List ℕ
+  pub replies : IsReply answers wish reply
+  pub few : length bytes ≤ most + length reply
+
+module _ {S : Type 0} where
+  -- more bytes may come
+  abbrev pub takes_bytes : ExchangeState S → Bool
+  takes_bytes e = is_open e.intake.stage
+
+  -- how many have room
+  abbrev pub room_of : ExchangeState S → ℕ
+  room_of e = LIMIT - length e.intake.held
+
+  -- the replies that wait to be sent
+  abbrev pub unsent : ExchangeState S → List ℕ
+  unsent e = e.outgoing.out
+
+  -- nothing is put until output was sent
+  abbrev pub has_much_output : ExchangeState S → Bool
+  has_much_output e = leb MAX_UNSENT (length (unsent e))
+
+  -- nothing is asked until a ticket was answered or output was sent
+  abbrev pub is_full : ExchangeState S → Bool
+  is_full e = leb MAX_WAITING (deque_len e.waiting) || has_much_output e
+
+  -- no more bytes come or are to be sent, and no ticket waits
+  abbrev pub is_over : ExchangeState S → Bool
+  is_over e = not (is_judging e.intake.stage) && (deque_len e.waiting == 0) && (length (unsent e) == 0)
+
+  -- these bytes came, and these were sent: of the wishes of what came, the replies to the first are sent or wait to be sent,
+  -- the tickets of the next wait, and `more` were judged last and have no ticket yet; and few wait
+  pub record Upholds (numbers : List ℕ → Option ℕ) (answers : ℕ → List ℕ → Answer → Type 0) (came sent : List ℕ)
+      (more : List Wish) (e : ExchangeState S) : Type 0 where
+    pub answered : List Wish
+    pub judged : Judged numbers came (answered ++ (wishes_by e.waiting.items ++ more)) e.intake
+    pub replies : List (List ℕ)
+    pub each : Replies answers answered replies
+    pub put : sent ++ unsent e ≡ join replies
+    pub waiting : deque_len e.waiting ≤ MAX_WAITING
+    pub unsent : AreFew answers MAX_UNSENT (unsent e)
+
+  -- whatever came and was sent, it still is what came and was sent
+  pub record Keeps (numbers : List ℕ → Option ℕ) (answers : ℕ → List ℕ → Answer → Type 0) (old new : ExchangeState S) : Type 0 where
+    pub keeps : (came sent : List ℕ) → Upholds numbers answers came sent [] old → Upholds numbers answers came sent [] new
+
+  -- one head at most is held, 64 tickets wait at most, and few bytes wait to be sent
+  pub record HoldsLittle (answers : ℕ → List ℕ → Answer → Type 0) (e : ExchangeState S) : Type 0 where
+    pub held : length e.intake.held ≤ LIMIT
+    pub waiting : deque_len e.waiting ≤ MAX_WAITING
+    pub unsent : AreFew answers MAX_UNSENT (unsent e)
+
+-- what was sent is a front of all replies to what came
+pub record AreSent (numbers : List ℕ → Option ℕ) (answers : ℕ → List ℕ → Answer → Type 0) (came sent : List ℕ) : Type 0 where
+  pub replies : List (List ℕ)
+  pub all : AreAllReplies numbers answers came replies
+  pub rest : List ℕ
+  pub front : sent ++ rest ≡ join replies

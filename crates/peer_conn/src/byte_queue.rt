@@ -1,0 +1,133 @@
+//! Bytes that come at the back and go at the front.
+//!
+//! It stands on nothing. It promises the bytes that came and did not go, in order; and it takes no memory before the first.
+ghost use Rattle.std.specs.Prelude.{◌≡◌, ◌==◌, ◌≤◌, [], ◌++◌, length, drop, OnErr, OnOk};
+ghost use Rattle.peer_reply.specs.Texts.{joined};
+
+use crate::write_buffer::part_at;
+use std::alloc::{AllocError, Global};
+use std::marker::Model;
+
+/// How much memory is kept while no byte is there.
+const KEPT: usize = 1024;
+
+/// A queue of bytes. Those that went lie before the others for a while.
+#[derive(Drop)]
+pub(crate) struct ByteQueue {
+    bytes: Vec<u8>,
+    start: usize,
+}
+
+impl Model for ByteQueue {
+    ghost use Rattle.std.specs.Prelude.{ℕ, ◌≤◌, List, length, drop};
+
+    ghost Value = { List ℕ };
+
+    ghost view = { λ q. drop q.start q.bytes.items };
+
+    ghost invariant = { λ q. q.start ≤ length q.bytes.items };
+}
+
+impl ByteQueue {
+    pub(crate) fn new(alloc: Global) -> ByteQueue
+        ensures { result ≡ [] }
+    {
+        ByteQueue {
+            bytes: Vec::new(alloc),
+            start: 0,
+        }
+    }
+
+    pub(crate) fn as_slice(&self) -> &[u8]
+        ensures { result.now ≡ self.now }
+    {
+        &self.bytes[self.start..]
+    }
+
+    pub(crate) fn len(&self) -> usize
+        ensures { result ≡ length self.now }
+    {
+        self.as_slice().len()
+    }
+
+    pub(crate) fn is_empty(&self) -> bool
+        ensures { result ≡ (length self.now == 0) }
+    {
+        self.len() == 0
+    }
+
+    /// The first `n` bytes go.
+    pub(crate) fn drop_front(&mut self, n: usize)
+        requires { n ≤ length self.old }
+        ensures { self.new ≡ drop n self.old }
+    {
+        self.start += n;
+        if self.start == self.bytes.len() {
+            empty(&mut self.bytes);
+            self.start = 0;
+        }
+    }
+
+    // Lets the bytes that went go, where they are more than the others.
+    fn compact(&mut self)
+        ensures { self.new ≡ self.old }
+    {
+        if self.start > self.bytes.len() - self.start {
+            cut_front(&mut self.bytes, self.start);
+            self.start = 0;
+        }
+    }
+
+    /// The bytes of all the parts come, or none where memory is refused.
+    pub(crate) fn put(&mut self, parts: &[&[u8]]) -> Result<(), AllocError>
+        ensures put { OnOk result (self.new ≡ self.old ++ joined parts.now) }
+        ensures refused { OnErr result (self.new ≡ self.old) }
+    {
+        self.compact();
+        append_parts(&mut self.bytes, parts)
+    }
+
+    /// These bytes come, or none where memory is refused.
+    pub(crate) fn push(&mut self, more: &[u8]) -> Result<(), AllocError>
+        ensures put { OnOk result (self.new ≡ self.old ++ more.now) }
+        ensures refused { OnErr result (self.new ≡ self.old) }
+    {
+        self.compact();
+        self.bytes.extend_from_slice(more)
+    }
+}
+
+// Empties it, and gives back the memory beyond what is kept.
+fn empty(bytes: &mut Vec<u8>)
+    ensures { bytes.new.items ≡ [] }
+{
+    bytes.clear();
+    if bytes.capacity() > KEPT {
+        bytes.shrink_to_fit();
+    }
+}
+
+// Forgets the first `n` bytes.
+fn cut_front(bytes: &mut Vec<u8>, n: usize)
+    requires { n ≤ length bytes.old.items }
+    ensures { bytes.new.items ≡ drop n bytes.old.items }
+{
+    let len = bytes.len();
+    bytes.copy_within(n..len, 0);
+    bytes.truncate(len - n);
+}
+
+// Appends the parts: all of them, or none.
+fn append_parts(bytes: &mut Vec<u8>, parts: &[&[u8]]) -> Result<(), AllocError>
+    ensures put { OnOk result (bytes.new.items ≡ bytes.old.items ++ joined parts.now) }
+    ensures refused { OnErr result (bytes.new.items ≡ bytes.old.items) }
+{
+    let before = bytes.len();
+    for i in 0..parts.len() {
+        if let Err(fault) = bytes.extend_from_slice(part_at(parts, i)) {
+            bytes.truncate(before);
+            return Err(fault);
+        }
+    }
+    Ok(())
+}

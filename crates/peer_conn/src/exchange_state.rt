@@ -1,0 +1,418 @@
+//! The state of an exchange: what came and is not judged, the tickets that wait, and the replies that wait to be sent.
+//!
+//! It stands on the intake and the outgoing replies of a connection, and on the pool of `peer_fill`. It promises that
+//! whatever came and was sent before a call, what it upholds is upheld behind the call.
+ghost use Rattle.std.specs.Prelude.{◌≡◌, IfNone, IfOk, IfSome, IsSome, drop};
+ghost use Rattle.std.specs.VecDeque.{deque_len};
+ghost use Rattle.std.specs.Prelude.{◌-◌};
+ghost use Rattle.peer_fill.specs.Asks.{CountsAsk};
+ghost use Rattle.peer_fill.specs.Pools.{source_of, IsConnSeatOf};
+ghost use Rattle.peer_fill.specs.Seats.{asks_of, conn_parts, left_of};
+ghost use Rattle.peer_conn.specs.Known.{IsKnown};
+ghost use Rattle.peer_conn.specs.Tickets.{wish_by};
+ghost use Rattle.peer_conn.specs.Asking.{CountsWish};
+
+use crate::intake::{Found, GivenUp, Intake};
+use crate::outgoing::{Answered, Outgoing};
+use crate::wish::Next;
+use peer_fill::{ConnSeat, Pool};
+use peer_flight::AskFault;
+use peer_head::FieldPlaces;
+use peer_lane::{Body, Ticket};
+use peer_reply::{Wish, WishBody};
+use peer_source::{FunctionalSource, Names, Source};
+use std::alloc::{AllocError, Global};
+use std::collections::VecDeque;
+use std::sync::Wait;
+use std::sync::ledger::Ledger;
+
+/// The most tickets that wait.
+pub(crate) const MAX_WAITING: usize = 64;
+
+/// Where so many bytes wait to be sent, nothing is asked or put until some were sent.
+pub(crate) const MAX_UNSENT: usize = 65_536;
+
+/// How many tickets have room that is kept while none waits.
+const KEPT_TICKETS: usize = 4;
+
+#[derive(Drop)]
+pub(crate) struct ExchangeState<S: Source> {
+    alloc: Global,
+    pub(crate) intake: Intake,
+    pub(crate) waiting: VecDeque<Ticket<S>>,
+    pub(crate) outgoing: Outgoing,
+    /// The next request waits until the seat has put the job that is left with it.
+    pub(crate) waits_for_job: bool,
+}
+
+impl From<AskFault> for GivenUp {
+    ghost use Rattle.peer_conn.specs.Asking.{why_of};
+
+    ghost from_gives = { λ fault why. why ≡ why_of fault };
+
+    fn from(fault: AskFault) -> GivenUp {
+        match fault {
+            AskFault::Memory => GivenUp::Memory,
+            AskFault::Worn => GivenUp::Worn,
+        }
+    }
+}
+
+// The ticket of a wish. Where that has group and key, the pool is asked: none where it would have to wait.
+fn ticket_of<S: Source, L: Ledger, H: Wait>(
+    rt: &H,
+    alloc: Global,
+    pool: &Pool<S, L>,
+    seat: &mut ConnSeat<S, L>,
+    wish: Wish,
+) -> Result<Option<Ticket<S>>, AskFault>
+    requires seat { IsConnSeatOf pool.now seat.old }
+    requires known { IsKnown (S.count (source_of pool.now)) wish.body }
+    ensures seat { IsConnSeatOf pool.now seat.new }
+    ensures parts { conn_parts seat.new ≡ conn_parts seat.old }
+    ensures ticket { IfOk result (λ asked. IfSome asked (λ t. wish_by t ≡ wish)) }
+    ensures counted { CountsWish wish.body (asks_of seat.old) (asks_of seat.new) result }
+    ensures not_now { IfOk result (λ asked. IfNone asked (IsSome (left_of seat.new))) }
+{
+    let Wish {
+        body,
+        closing,
+        bare,
+    } = wish;
+    let body = match body {
+        WishBody::Fault(fault) => Body::Fault(fault),
+        WishBody::Get(group, key) => {
+            match pool.ask_now(rt, alloc, seat, group, key.as_slice())? {
+                Some(claim) => Body::Claim(claim),
+                None => return Ok(None),
+            }
+        }
+    };
+    Ok(Some(Ticket {
+        closing,
+        bare,
+        body,
+    }))
+}
+
+// Drops the first ticket.
+fn drop_first<S: Source>(waiting: &mut VecDeque<Ticket<S>>)
+    ensures items { waiting.new.items ≡ drop 1 waiting.old.items }
+    ensures len { deque_len waiting.new ≡ deque_len waiting.old - 1 }
+{
+    let _answered = waiting.pop_front();
+    if waiting.is_empty() && waiting.capacity() > KEPT_TICKETS {
+        waiting.shrink_to_fit();
+    }
+}
+
+impl<S: Source> ExchangeState<S> {
+    ghost use Rattle.std.specs.Prelude.{◌≡◌, ◌≤◌, ◌<◌, ◌+◌, ◌-◌, ◌∷◌, ◌++◌, ℕ, List, [], Option, true, false, length, min, take, OnErr};
+    ghost use Rattle.std.specs.Prelude.{OnOk, IfErr};
+    ghost use Rattle.std.specs.VecDeque.{deque_len};
+    ghost use Rattle.peer_conn.specs.Connects.{allows};
+    ghost use Rattle.peer_conn.specs.Intakes.{IsGivenUpFor, is_given_up, is_judging, told};
+    ghost use Rattle.peer_conn.specs.Nexts.{IsNextWish};
+    ghost use Rattle.peer_head.specs.Blocks.{IsFrontLength};
+    ghost use Rattle.peer_conn.specs.ExchangeStates.{Upholds, Keeps, AreSent, HoldsLittle, has_much_output, is_full, is_over, room_of, takes_bytes, unsent};
+    ghost use Rattle.peer_conn.specs.Asking.{AddsTickets, AsksOne, IsJudgedThrough};
+    ghost use Rattle.peer_conn.specs.AnsweringReady.{AnswersReady, AnswersFirst, IsAnsweredThrough};
+
+    /// No byte came, and none was sent. It takes no memory yet.
+    pub(crate) fn new(alloc: Global) -> ExchangeState<S>
+        ensures { (numbers : List ℕ → Option ℕ) → Upholds numbers (allows S.allowed) [] [] [] result }
+    {
+        ExchangeState {
+            alloc,
+            intake: Intake::new(alloc),
+            waiting: VecDeque::new(alloc),
+            outgoing: Outgoing::new(alloc),
+            waits_for_job: false,
+        }
+    }
+
+    /// Whether bytes may come.
+    pub(crate) fn takes_bytes(&self) -> bool
+        ensures { result ≡ takes_bytes self.now }
+    {
+        self.intake.is_open()
+    }
+
+    /// Whether nothing is put until output was sent.
+    pub(crate) fn has_much_output(&self) -> bool
+        ensures { result ≡ has_much_output self.now }
+    {
+        self.outgoing.out.len() >= MAX_UNSENT
+    }
+
+    /// Whether nothing is asked until a ticket was answered or output was sent.
+    pub(crate) fn is_full(&self) -> bool
+        ensures { result ≡ is_full self.now }
+    {
+        self.waiting.len() >= MAX_WAITING || self.has_much_output()
+    }
+
+    /// How many bytes have room.
+    pub(crate) fn room(&self) -> usize
+        ensures { result ≡ room_of self.now }
+    {
+        self.intake.room()
+    }
+
+    /// As many of the bytes come as there is room for. How many. Where memory is refused, it is given up.
+    pub(crate) fn receive(&mut self, bytes: &[u8]) -> Result<usize, GivenUp>
+        requires { takes_bytes self.old ≡ true }
+        ensures count { IfOk result (λ n. n ≡ min (length bytes.now) (room_of self.old)) }
+        ensures upholds { IfOk result (λ n. (numbers : List ℕ → Option ℕ) (came sent : List ℕ) →
+            Upholds numbers (allows S.allowed) came sent [] self.old → Upholds numbers (allows S.allowed) (came ++ take n bytes.now) sent [] self.new) }
+        ensures goes_on { OnOk result (takes_bytes self.new ≡ true) }
+        ensures refused { OnErr result ((numbers : List ℕ → Option ℕ) → Keeps numbers (allows S.allowed) self.old self.new) }
+        ensures given_up { IfErr result (IsGivenUpFor self.new.intake.stage) }
+    {
+        match self.intake.receive(bytes) {
+            Ok(n) => Ok(n),
+            Err(AllocError) => {
+                self.give_up(GivenUp::Memory);
+                Err(GivenUp::Memory)
+            }
+        }
+    }
+
+    /// The client told its end.
+    pub(crate) fn end(&mut self)
+        ensures keeps { (numbers : List ℕ → Option ℕ) → Keeps numbers (allows S.allowed) self.old self.new }
+        ensures told { self.new.intake.stage ≡ told self.old.intake.stage }
+        ensures waiting { self.new.waiting.items ≡ self.old.waiting.items }
+        ensures unsent { unsent self.new ≡ unsent self.old }
+    {
+        self.intake.end();
+    }
+
+    /// What is to be sent.
+    pub(crate) fn output(&self) -> &[u8]
+        ensures { result.now ≡ unsent self.now }
+    {
+        self.outgoing.out.as_slice()
+    }
+
+    /// The first `n` bytes of the output were sent.
+    pub(crate) fn sent(&mut self, n: usize)
+        requires { n ≤ length (unsent self.old) }
+        ensures upholds { (numbers : List ℕ → Option ℕ) (came sent : List ℕ) → Upholds numbers (allows S.allowed) came sent [] self.old →
+            Upholds numbers (allows S.allowed) came (sent ++ take n (unsent self.old)) [] self.new }
+        ensures stage { self.new.intake.stage ≡ self.old.intake.stage }
+        ensures waiting { self.new.waiting.items ≡ self.old.waiting.items }
+    {
+        self.outgoing.out.drop_front(n);
+    }
+
+    // Gives up: tickets that wait get no reply.
+    fn give_up(&mut self, why: GivenUp)
+        ensures upholds { (numbers : List ℕ → Option ℕ) (came sent : List ℕ) (more : List Wish) →
+            Upholds numbers (allows S.allowed) came sent more self.old → Upholds numbers (allows S.allowed) came sent [] self.new }
+        ensures stage { IsGivenUpFor self.new.intake.stage why }
+    {
+        self.intake.give_up(why);
+        self.waiting.clear();
+        self.waits_for_job = false;
+    }
+
+    /// Judges what is held, and asks the pool, until it is full.
+    pub(crate) fn ask_held<L: Ledger, H: Wait>(
+        &mut self,
+        rt: &H,
+        pool: &Pool<S, L>,
+        seat: &mut ConnSeat<S, L>,
+        names: &Names<'_, S>,
+    ) -> Result<(), GivenUp>
+        requires seat { IsConnSeatOf pool.now seat.old }
+        requires names { names.now ≡ source_of pool.now }
+        ensures seat { IsConnSeatOf pool.now seat.new }
+        ensures parts { conn_parts seat.new ≡ conn_parts seat.old }
+        ensures keeps { Keeps (S.number_of names.now) (allows S.allowed) self.old self.new }
+        ensures tickets { AddsTickets self.old self.new (asks_of seat.old) (asks_of seat.new) result }
+        ensures through { OnOk result (IsJudgedThrough self.new (left_of seat.new)) }
+        ensures goes_on { OnOk result (is_given_up self.new.intake.stage ≡ is_given_up self.old.intake.stage) }
+        ensures given_up { IfErr result (IsGivenUpFor self.new.intake.stage) }
+    {
+        let mut places = FieldPlaces::new();
+        self.waits_for_job = false;
+        for _ in 0..MAX_WAITING {
+            match self.ask_next(rt, pool, seat, names, &mut places) {
+                Ok(true) => {}
+                Ok(false) => return Ok(()),
+                Err(why) => return Err(why),
+            }
+        }
+        Ok(())
+    }
+
+    // Judges the next request, and has its ticket wait. Whether there was one.
+    fn ask_next<L: Ledger, H: Wait>(
+        &mut self,
+        rt: &H,
+        pool: &Pool<S, L>,
+        seat: &mut ConnSeat<S, L>,
+        names: &Names<'_, S>,
+        places: &mut FieldPlaces,
+    ) -> Result<bool, GivenUp>
+        requires seat { IsConnSeatOf pool.now seat.old }
+        requires names { names.now ≡ source_of pool.now }
+        requires now { self.old.waits_for_job ≡ false }
+        ensures seat { IsConnSeatOf pool.now seat.new }
+        ensures parts { conn_parts seat.new ≡ conn_parts seat.old }
+        ensures keeps { Keeps (S.number_of names.now) (allows S.allowed) self.old self.new }
+        ensures asks { AsksOne self.old self.new (asks_of seat.old) (asks_of seat.new) (left_of seat.new) result }
+    {
+        if self.is_full() || !self.intake.is_judging() {
+            return Ok(false);
+        }
+        match self.intake.next(self.alloc, names, places) {
+            Found::Wish(next) => self.ask(rt, pool, seat, next),
+            Found::Need => Ok(false),
+            Found::NoMemory => {
+                self.give_up(GivenUp::Memory);
+                Err(GivenUp::Memory)
+            }
+        }
+    }
+
+    // Has the ticket of the next wish wait, or gives up. Whether it waits.
+    fn ask<L: Ledger, H: Wait>(
+        &mut self,
+        rt: &H,
+        pool: &Pool<S, L>,
+        seat: &mut ConnSeat<S, L>,
+        next: Next,
+    ) -> Result<bool, GivenUp>
+        requires seat { IsConnSeatOf pool.now seat.old }
+        requires known { IsKnown (S.count (source_of pool.now)) next.wish.body }
+        requires next { (numbers : List ℕ → Option ℕ) × IsNextWish numbers self.old.intake.held next.wish }
+        requires front { IsFrontLength self.old.intake.held next.len }
+        requires few { deque_len self.old.waiting < MAX_WAITING }
+        requires judging { is_judging self.old.intake.stage ≡ true }
+        requires now { self.old.waits_for_job ≡ false }
+        ensures seat { IsConnSeatOf pool.now seat.new }
+        ensures parts { conn_parts seat.new ≡ conn_parts seat.old }
+        ensures upholds { (numbers : List ℕ → Option ℕ) → IsNextWish numbers self.old.intake.held next.wish →
+            Keeps numbers (allows S.allowed) self.old self.new }
+        ensures asks { AsksOne self.old self.new (asks_of seat.old) (asks_of seat.new) (left_of seat.new) result }
+    {
+        let Next { wish, len } = next;
+        let closing = self.intake.closes(wish.closing);
+        if self.waiting.reserve(1).is_err() {
+            self.give_up(GivenUp::Memory);
+            return Err(GivenUp::Memory);
+        }
+        match ticket_of(rt, self.alloc, pool, seat, Wish { closing, ..wish }) {
+            Ok(Some(ticket)) => {
+                self.intake.give(len, closing);
+                self.waiting.push_back_reserved(ticket);
+                Ok(true)
+            }
+            Ok(None) => {
+                self.waits_for_job = true;
+                Ok(false)
+            }
+            Err(fault) => {
+                let why = GivenUp::from(fault);
+                self.give_up(why);
+                Err(why)
+            }
+        }
+    }
+
+    /// Puts the replies of the first tickets, as far as their fills are there and few bytes wait to be sent.
+    pub(crate) fn answer_ready<L: Ledger>(
+        &mut self,
+        pool: &Pool<S, L>,
+        seat: &mut ConnSeat<S, L>,
+    ) -> Result<(), GivenUp>
+        requires { IsConnSeatOf pool.now seat.old }
+        ensures seat { IsConnSeatOf pool.now seat.new }
+        ensures parts { conn_parts seat.new ≡ conn_parts seat.old }
+        ensures keeps { (numbers : List ℕ → Option ℕ) → Keeps numbers (allows S.allowed) self.old self.new }
+        ensures answers { AnswersReady self.old self.new (asks_of seat.old) (asks_of seat.new) result }
+        ensures through { OnOk result (IsAnsweredThrough self.new) }
+        ensures stage { OnOk result (self.new.intake.stage ≡ self.old.intake.stage) }
+        ensures given_up { IfErr result (IsGivenUpFor self.new.intake.stage) }
+    {
+        loop {
+            match self.answer_first(pool, seat) {
+                Ok(true) => {}
+                Ok(false) => return Ok(()),
+                Err(why) => return Err(why),
+            }
+        }
+    }
+
+    // Puts the reply of the first ticket, where its fill is there. Whether it did.
+    fn answer_first<L: Ledger>(
+        &mut self,
+        pool: &Pool<S, L>,
+        seat: &mut ConnSeat<S, L>,
+    ) -> Result<bool, GivenUp>
+        requires { IsConnSeatOf pool.now seat.old }
+        ensures seat { IsConnSeatOf pool.now seat.new }
+        ensures parts { conn_parts seat.new ≡ conn_parts seat.old }
+        ensures keeps { (numbers : List ℕ → Option ℕ) → Keeps numbers (allows S.allowed) self.old self.new }
+        ensures answers { AnswersFirst self.old self.new (asks_of seat.old) (asks_of seat.new) result }
+    {
+        if self.has_much_output() {
+            return Ok(false);
+        }
+        let Some(ticket) = self.waiting.front() else {
+            return Ok(false);
+        };
+        match self.outgoing.answer(pool, ticket) {
+            Ok(Answered::Put) => {
+                drop_first(&mut self.waiting);
+                Ok(true)
+            }
+            Ok(Answered::MadeGood) => {
+                seat.add_strangers(1);
+                drop_first(&mut self.waiting);
+                Ok(true)
+            }
+            Ok(Answered::Waits) => Ok(false),
+            Err(AllocError) => {
+                self.give_up(GivenUp::Memory);
+                Err(GivenUp::Memory)
+            }
+        }
+    }
+
+    /// Whether no more bytes come or are to be sent, and no ticket waits.
+    pub(crate) fn is_over(&self) -> bool
+        ensures { result ≡ is_over self.now }
+    {
+        !self.intake.is_judging() && self.waiting.is_empty() && self.outgoing.out.is_empty()
+    }
+
+    /// The law of exchanges: what was sent is a front of all replies to what came, under allowed answers. And it holds
+    /// little.
+    pub(crate) fn law(&self, names: &Names<'_, S>)
+        ensures sent { (came sent : List ℕ) → Upholds (S.number_of names.now) (allows S.allowed) came sent [] self.now →
+            AreSent (S.number_of names.now) (allows S.allowed) came sent }
+        ensures little { (came sent : List ℕ) → Upholds (S.number_of names.now) (allows S.allowed) came sent [] self.now →
+            HoldsLittle (allows S.allowed) self.now }
+    {
+        let _ = &self.intake;
+        let _ = names;
+    }
+}
+
+impl<S: FunctionalSource> ExchangeState<S> {
+    ghost use Rattle.std.specs.Prelude.{ℕ, List, []};
+    ghost use Rattle.peer_conn.specs.Calls.{only};
+    ghost use Rattle.peer_conn.specs.Connects.{allows};
+    ghost use Rattle.peer_conn.specs.ExchangeStates.{Upholds, AreSent};
+
+    /// The law, where each group and key has one answer: there is one list of replies.
+    pub(crate) fn law_functional(&self)
+        ensures { (came sent : List ℕ) → Upholds S.the_number (allows S.allowed) came sent [] self.now →
+            AreSent S.the_number (only S.the_answer) came sent }
+    {
+        let _ = &self.intake;
+    }
+}
