@@ -1,0 +1,12 @@
+//! The client's side of HTTP/1.1 for one request and its reply, over any reader.
+//!
+//! It stands on the kit's `http1`, and on the readers of `peer_view`. It promises that a reply which is given is one that
+//! the bytes read begin with, by the grammar of `http1`: its status and its whole body. A body that was cut is none.
+#![tactic(auto)]
+
+mod intake;
+mod reply;
+mod request;
+
+pub use reply::{Reply, ReplyFault, read_reply};
+pub use request::{Asked, ask};

@@ -1,0 +1,4 @@
+pub mod Fetches
+pub mod Origins
+pub mod Targets
+pub mod Texts

@@ -1,0 +1,29 @@
+//! A source whose values are what HTTP origins answer: the body of `GET prefix key` for each group's prefix.
+//!
+//! It stands on the sources of `peer_source`, on the replies of `peer_http`, and on the sockets of std. It promises that
+//! a value which a fetch found is the content of a whole reply with status 200 that came on a connection on which the
+//! request for this very key was sent, and that at most two requests were sent: of connections whose bytes are told, as
+//! those in memory. Sockets tell nothing of theirs. An answer is a value within the limit or one of the texts of
+//! `FetchFault`.
+#![tactic(auto)]
+
+mod connections;
+mod deadline;
+mod exchange;
+mod fault;
+mod line;
+mod origin;
+mod place;
+mod settings;
+mod sockets;
+mod source;
+mod stream;
+mod target;
+
+pub use connections::{Connection, Connections};
+pub use exchange::fetch;
+pub use fault::FetchFault;
+pub use origin::Origin;
+pub use place::{Place, PlaceFault};
+pub use settings::FetchSettings;
+pub use source::OriginSource;

@@ -1,0 +1,57 @@
+//! The origin of one group.
+ghost use Rattle.std.specs.Prelude.{◌≡◌};
+
+use crate::place::Place;
+use crate::sockets::is_quiet;
+use peer_wait::lock;
+use std::alloc::Global;
+use std::net::TcpStream;
+use std::sync::{Arc, Mutex, Wait};
+
+// How many idle connections are kept: one for each worker that a pool can have.
+const MAX_IDLE: usize = 16;
+
+/// The origin of one group, and its idle connections, the one used last behind the others.
+#[derive(Drop)]
+pub struct Origin {
+    pub(crate) name: Vec<u8>,
+    pub(crate) place: Place,
+    idle: Mutex<Vec<Arc<TcpStream>>>,
+}
+
+impl Origin {
+    /// The origin of a group of this name.
+    pub fn new(alloc: Global, name: Vec<u8>, place: Place) -> Origin
+        ensures { result.name ≡ name }
+    {
+        Origin {
+            name,
+            place,
+            idle: Mutex::new(Vec::new(alloc)),
+        }
+    }
+
+    /// Whether both are origins of groups of one name.
+    pub fn has_name_of(&self, other: &Origin) -> bool {
+        self.name == other.name
+    }
+
+    /// An idle connection on which nothing came. Others are let go.
+    pub(crate) fn take_idle<H: Wait>(&self, rt: &H) -> Option<Arc<TcpStream>> {
+        for _ in 0..=MAX_IDLE {
+            let stream = lock(rt, &self.idle).pop()?;
+            if is_quiet(&stream) {
+                return Some(stream);
+            }
+        }
+        None
+    }
+
+    /// Keeps a connection for the next request, where there is room.
+    pub(crate) fn keep_idle<H: Wait>(&self, rt: &H, stream: Arc<TcpStream>) {
+        let mut idle = lock(rt, &self.idle);
+        if idle.len() < MAX_IDLE {
+            let _ = idle.push(stream);
+        }
+    }
+}

@@ -1,0 +1,118 @@
+//! The source over origins.
+ghost use Rattle.std.specs.Prelude.{◌≡◌, ◌+◌, ◌<◌, ◌≤◌, length, drop, IfSome, IfOk, option_map};
+ghost use Rattle.peer_source.specs.Reports.{reported};
+ghost use Rattle.peer_origin.specs.Origins.{IsOriginAnswer, number_from, origin_answered, origin_limited, origin_numbered};
+
+use crate::deadline::Deadline;
+use crate::exchange::fetch;
+use crate::fault::{FetchFault, get_fault};
+use crate::origin::Origin;
+use crate::settings::FetchSettings;
+use crate::sockets::Sockets;
+use bytes::Bytes;
+use peer_source::{GetFault, GroupId, Source};
+use peer_view::{AllocSink, ByteView, SinkFault};
+use std::alloc::Global;
+use std::net::{Net, TcpListener, TcpStream};
+use std::sync::Wait;
+use std::time::Clock;
+
+/// A source of what origins answer, one for each group. It holds the runtime, by which it connects and tells the time.
+#[derive(Drop)]
+pub struct OriginSource<'a, H> {
+    rt: &'a H,
+    origins: Vec<Origin>,
+    settings: FetchSettings,
+}
+
+impl<'a, H> OriginSource<'a, H> {
+    /// A source over these origins, in the order of their groups' numbers.
+    pub fn new(rt: &'a H, origins: Vec<Origin>, settings: FetchSettings) -> OriginSource<'a, H> {
+        OriginSource {
+            rt,
+            origins,
+            settings,
+        }
+    }
+}
+
+// Puts a value into the sink.
+fn put(value: Vec<u8>, sink: &mut AllocSink) -> Result<(), GetFault>
+    ensures { IfSome (reported result sink.new) IsOriginAnswer }
+{
+    let Ok(bytes) = Bytes::from_vec(value) else {
+        return Err(GetFault::Memory);
+    };
+    match sink.set_view(&ByteView::from_shared(bytes)) {
+        Ok(()) => Ok(()),
+        Err(SinkFault::TooLong) => Err(GetFault::TooLong),
+        Err(SinkFault::Memory) => Err(GetFault::Memory),
+    }
+}
+
+// The number of the origin with a name.
+fn find(origins: &[Origin], name: &[u8]) -> Option<GroupId>
+    ensures { option_map (λ g. g.number) result ≡ number_from 0 origins.now name.now }
+{
+    let mut number = 0;
+    for origin in origins {
+        if origin.name.as_slice() == name {
+            return Some(GroupId { number });
+        }
+        number += 1;
+    }
+    None
+}
+
+impl<'a, H: Net<Listener = TcpListener, Stream = TcpStream> + Clock + Wait + Sync> Source
+    for OriginSource<'a, H> {
+    ghost answers = { λ s g k a. IsOriginAnswer a };
+
+    ghost allowed = { λ g k a. IsOriginAnswer a };
+
+    ghost count = { λ s. length s.origins.items };
+
+    ghost number_of = { λ s name. number_from 0 s.origins.items name };
+
+    fn group_count(&self) -> usize {
+        self.origins.len()
+    }
+
+    fn group(&self, name: &[u8]) -> Option<GroupId> {
+        find(&self.origins, name)
+    }
+
+    fn get(
+        &self,
+        alloc: Global,
+        group: GroupId,
+        key: &[u8],
+        sink: &mut AllocSink,
+    ) -> Result<(), GetFault> {
+        let Some(origin) = self.origins.get(group.number) else {
+            return Err(get_fault(alloc, FetchFault::Status(404)));
+        };
+        let Some(deadline) = Deadline::begin(self.rt, self.settings.value) else {
+            return Err(get_fault(alloc, FetchFault::Late));
+        };
+        let mut sockets = Sockets::new(self.rt, alloc, origin, &self.settings, &deadline);
+        match fetch(
+            alloc,
+            &mut sockets,
+            &origin.place.host,
+            &origin.place.prefix,
+            key,
+        ) {
+            Ok(value) => put(value, sink),
+            Err(fault) => Err(get_fault(alloc, fault)),
+        }
+    }
+
+    ghost within = { λ s g k a h. h };
+
+    ghost limited = { λ g k a h. origin_limited a h };
+
+    ghost answered = { λ s g k. origin_answered };
+
+    ghost numbered = { λ s name i e. origin_numbered s.origins.items name i e };
+}

@@ -1,0 +1,186 @@
+//! The bytes to and from an origin over a socket, by a deadline.
+ghost use Rattle.std.specs.Prelude.{◌≡◌, ℕ, ◌+◌, ◌-◌, ◌^◌, ◌<◌, ◌≤◌, length, None, IfSome, IfOk};
+ghost use Rattle.std.specs.Io.KnownBytes.{Appends};
+ghost use Rattle.peer_view.specs.Moves.{moved, failure_count, end_count};
+
+use crate::deadline::Deadline;
+use peer_view::{PeerRead, PeerWrite, ReadFailed, WriteFailed};
+use std::io;
+use std::io::{ErrorKind, Read, Write};
+use std::net::TcpStream;
+use std::sync::Arc;
+use std::time::Clock;
+
+// Whether a call of a stream ended for its time.
+fn is_timeout(error: &io::Error) -> bool {
+    matches!(error.kind(), ErrorKind::WouldBlock | ErrorKind::TimedOut)
+}
+
+/// A reader of what an origin sends by the deadline.
+#[derive(Drop)]
+pub struct StreamReader<'a, H> {
+    stream: Arc<TcpStream>,
+    deadline: &'a Deadline<'a, H>,
+    late: bool,
+    calls: u64,
+    ends: u64,
+    failures: u64,
+    ghost ends_counted: { ends ≤ calls },
+    ghost failures_counted: { failures ≤ calls },
+}
+
+impl<'a, H: Clock> StreamReader<'a, H> {
+    /// A reader that was not called yet.
+    pub fn new(stream: Arc<TcpStream>, deadline: &'a Deadline<'a, H>) -> StreamReader<'a, H>
+        ensures calls { result.calls ≡ 0 }
+    {
+        StreamReader {
+            stream,
+            deadline,
+            late: false,
+            calls: 0,
+            ends: 0,
+            failures: 0,
+        }
+    }
+
+    /// Whether a read failed for its time.
+    pub fn is_late(&self) -> bool {
+        self.late
+    }
+
+    /// The stream, once the reader has served.
+    pub fn into_stream(self) -> Arc<TcpStream> {
+        let StreamReader { stream, .. } = self;
+        stream
+    }
+
+    // The bytes that come next, or none where the stream failed or the time is over.
+    fn receive(&mut self, room: &mut [u8]) -> Option<usize>
+        ensures bound { IfSome result (λ n. n ≤ length room.new) }
+        ensures calls { self.new.calls ≡ self.old.calls }
+        ensures ends { self.new.ends ≡ self.old.ends }
+        ensures failures { self.new.failures ≡ self.old.failures }
+    {
+        let Some(left) = self.deadline.left() else {
+            self.late = true;
+            return None;
+        };
+        self.stream.set_read_timeout(Some(left)).ok()?;
+        let mut stream = &*self.stream;
+        match stream.read(room) {
+            Ok(n) => Some(n),
+            Err(error) => {
+                self.late = is_timeout(&error);
+                None
+            }
+        }
+    }
+}
+
+impl<'a, H: Clock> PeerRead for StreamReader<'a, H> {
+    ghost given = { λ r. None };
+
+    ghost calls = { λ r. r.calls };
+
+    ghost ends = { λ r. r.ends };
+
+    ghost failures = { λ r. r.failures };
+
+    /// Waits for bytes by the deadline.
+    fn read(&mut self, room: &mut [u8]) -> Result<usize, ReadFailed>
+        requires { self.old.calls < 2 ^ 64 - 1 }
+        ensures bound { IfOk result (λ n. n ≤ length room.new) }
+        ensures bytes { Appends None None (moved result room.new) }
+        ensures called { self.new.calls ≡ self.old.calls + 1 }
+        ensures end_told { self.new.ends ≡ self.old.ends + end_count result room.new }
+        ensures failed { self.new.failures ≡ self.old.failures + failure_count result }
+    {
+        self.calls += 1;
+        match self.receive(room) {
+            Some(n) => {
+                if n == 0 && !room.is_empty() {
+                    self.ends += 1;
+                }
+                Ok(n)
+            }
+            None => {
+                self.failures += 1;
+                Err(ReadFailed)
+            }
+        }
+    }
+}
+
+/// A writer of what is sent to an origin by the deadline.
+#[derive(Drop)]
+pub struct StreamWriter<'a, H> {
+    stream: Arc<TcpStream>,
+    deadline: &'a Deadline<'a, H>,
+    late: bool,
+    failures: u64,
+}
+
+impl<'a, H: Clock> StreamWriter<'a, H> {
+    /// A writer that was not called yet.
+    pub fn new(stream: Arc<TcpStream>, deadline: &'a Deadline<'a, H>) -> StreamWriter<'a, H>
+        ensures { result.failures ≡ 0 }
+    {
+        StreamWriter {
+            stream,
+            deadline,
+            late: false,
+            failures: 0,
+        }
+    }
+
+    /// Whether a write failed for its time.
+    pub fn is_late(&self) -> bool {
+        self.late
+    }
+
+    // Sends what the stream takes, or none where it failed or the time is over.
+    fn send(&mut self, bytes: &[u8]) -> Option<usize>
+        ensures bound { IfSome result (λ n. n ≤ length bytes.now) }
+        ensures some { IfSome result (λ n. 0 < length bytes.now → 0 < n) }
+        ensures failures { self.new.failures ≡ self.old.failures }
+    {
+        let Some(left) = self.deadline.left() else {
+            self.late = true;
+            return None;
+        };
+        self.stream.set_write_timeout(Some(left)).ok()?;
+        let mut stream = &*self.stream;
+        match stream.write(bytes) {
+            Ok(n) if n > 0 || bytes.is_empty() => Some(n),
+            Ok(_) => None,
+            Err(error) => {
+                self.late = is_timeout(&error);
+                None
+            }
+        }
+    }
+}
+
+impl<'a, H: Clock> PeerWrite for StreamWriter<'a, H> {
+    ghost taken = { λ w. None };
+
+    ghost failures = { λ w. w.failures };
+
+    /// Waits for room by the deadline.
+    fn write(&mut self, bytes: &[u8]) -> Result<usize, WriteFailed>
+        requires { self.old.failures < 2 ^ 64 - 1 }
+        ensures bound { IfOk result (λ n. n ≤ length bytes.now) }
+        ensures some { IfOk result (λ n. 0 < length bytes.now → 0 < n) }
+        ensures bytes { Appends None None (moved result bytes.now) }
+        ensures failed { self.new.failures ≡ self.old.failures + failure_count result }
+    {
+        match self.send(bytes) {
+            Some(n) => Ok(n),
+            None => {
+                self.failures += 1;
+                Err(WriteFailed)
+            }
+        }
+    }
+}
