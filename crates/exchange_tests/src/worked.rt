@@ -30,6 +30,17 @@ const FOUND_K_LAST: &[u8] =
 const ASK_K_LAST: &[u8] =
     b"GET /_groupcache/echo/k HTTP/1.1\r\nHost: h\r\nConnection: close\r\n\r\n";
 
+// A request for a value of 500 bytes, one for a value of 1,000,000, and one for a value of 10,000 with what stands before
+// that in the reply.
+const ASK_500: &[u8] = b"GET /_groupcache/fill/500 HTTP/1.1\r\nHost: h\r\n\r\n";
+
+const ASK_MILLION: &[u8] = b"GET /_groupcache/fill/1000000 HTTP/1.1\r\nHost: h\r\n\r\n";
+
+const ASK_LONG: &[u8] = b"GET /_groupcache/fill/10000 HTTP/1.1\r\nHost: h\r\n\r\n";
+
+const HEAD_LONG: &[u8] =
+    b"HTTP/1.1 200 OK\r\nContent-Type: application/x-protobuf\r\nContent-Length: 10003\r\n\r\n\x0A\x90\x4E";
+
 // How many bytes come and go in one turn at most.
 #[derive(Clone, Copy)]
 struct Steps {
@@ -41,6 +52,15 @@ struct Steps {
 fn joined(alloc: Global, parts: &[&[u8]]) -> Result<Vec<u8>, AllocError> {
     let mut all = Vec::new(alloc);
     for part in parts {
+        all.extend_from_slice(part)?;
+    }
+    Ok(all)
+}
+
+// The part so many times.
+fn repeated(alloc: Global, part: &[u8], times: usize) -> Result<Vec<u8>, AllocError> {
+    let mut all = Vec::new(alloc);
+    for _ in 0..times {
         all.extend_from_slice(part)?;
     }
     Ok(all)
@@ -193,6 +213,59 @@ impl<'a, L: Ledger> Driven<'a, L> {
         Ok(right)
     }
 
+    // Short and long values in turn.
+    fn sends_long<H: Wait>(&mut self, rt: &H, alloc: Global) -> Result<bool, AllocError> {
+        let long = repeated(alloc, b"x", 10_000)?;
+        let text = joined(
+            alloc,
+            &[ASK_LONG, ASK_K, ASK_K, ASK_LONG, ASK_LONG, ASK_K_LAST],
+        )?;
+        let longs = joined(alloc, &[HEAD_LONG, &long])?;
+        let replies = joined(
+            alloc,
+            &[&longs, FOUND_K, FOUND_K, &longs, &longs, FOUND_K_LAST],
+        )?;
+        let mut right = true;
+        for steps in WAYS {
+            right &= self.sends(rt, alloc, &text, steps, &replies, End::Clean)?;
+        }
+        Ok(right)
+    }
+
+    // The text comes, what can be asked is, and all jobs are filled. How many bytes are held.
+    fn held_behind<H: Wait>(&mut self, rt: &H, alloc: Global, text: &[u8]) -> usize {
+        let _ = self.feed(text, text.len());
+        let _ = self.exchange.ask_held(rt, self.pool, &mut self.conn);
+        self.pool.work_some(rt, alloc, &mut self.fill, 256, &NoGate);
+        self.exchange.held()
+    }
+
+    // At first one ticket waits, and behind 63 short replies 64 do.
+    fn holds_more<H: Wait>(&mut self, rt: &H, alloc: Global) -> Result<bool, AllocError> {
+        self.begin(alloc);
+        let text = repeated(alloc, ASK_500, 63)?;
+        let first = self.held_behind(rt, alloc, &text);
+        for _ in 0..100 {
+            self.serve(rt, alloc);
+            self.take(100_000)?;
+        }
+        let more = repeated(alloc, ASK_500, 100)?;
+        let behind = self.held_behind(rt, alloc, &more);
+        Ok(first == 500 && behind == 32_000)
+    }
+
+    // A client that asks for values of 1,000,000 bytes and reads nothing has one of them held.
+    fn holds_one<H: Wait>(&mut self, rt: &H, alloc: Global) -> Result<bool, AllocError> {
+        self.begin(alloc);
+        let text = repeated(alloc, ASK_MILLION, 20)?;
+        let first = self.held_behind(rt, alloc, &text);
+        for _ in 0..100 {
+            self.serve(rt, alloc);
+        }
+        let behind = self.exchange.held();
+        Ok(first == 1_000_000 && 1_000_000 < behind && behind < 1_000_200)
+    }
+
     // The client's end at every place of two requests.
     fn sends_cut<H: Wait>(&mut self, rt: &H, alloc: Global) -> Result<bool, AllocError> {
         let text = joined(alloc, &[ASK_K, ASK_K])?;
@@ -219,6 +292,9 @@ impl<'a, L: Ledger> Driven<'a, L> {
 enum Texts {
     Worked,
     Cut,
+    Long,
+    More,
+    One,
 }
 
 // Whether the replies to these texts are sent.
@@ -241,6 +317,9 @@ fn are_sent<H: Wait, L: Ledger>(
     match texts {
         Texts::Worked => driven.sends_worked(rt, alloc),
         Texts::Cut => driven.sends_cut(rt, alloc),
+        Texts::Long => driven.sends_long(rt, alloc),
+        Texts::More => driven.holds_more(rt, alloc),
+        Texts::One => driven.holds_one(rt, alloc),
     }
 }
 
@@ -254,6 +333,29 @@ fn an_exchange_sends_each_reply_once_in_each_way(rt: HostRuntime) -> Result<(), 
 #[test]
 fn an_exchange_ends_where_the_client_does(rt: HostRuntime) -> Result<(), Fail> {
     let sent = are_sent::<HostRuntime, Brand>(&rt, rt.alloc(), Texts::Cut, Blank::new(16))?;
+    assert!(rt; sent);
+    Ok(())
+}
+
+#[test]
+fn an_exchange_sends_long_values(rt: HostRuntime) -> Result<(), Fail> {
+    let sent = are_sent::<HostRuntime, Brand>(&rt, rt.alloc(), Texts::Long, Blank::new(16))?;
+    assert!(rt; sent);
+    Ok(())
+}
+
+#[test]
+fn an_exchange_holds_more_behind_short_replies(rt: HostRuntime) -> Result<(), Fail> {
+    let sent = are_sent::<HostRuntime, Brand>(&rt, rt.alloc(), Texts::More, Blank::new(16))?;
+    assert!(rt; sent);
+    Ok(())
+}
+
+#[test]
+fn an_exchange_holds_one_value_for_a_client_that_reads_nothing(
+    rt: HostRuntime,
+) -> Result<(), Fail> {
+    let sent = are_sent::<HostRuntime, Brand>(&rt, rt.alloc(), Texts::One, Blank::new(16))?;
     assert!(rt; sent);
     Ok(())
 }

@@ -1,5 +1,5 @@
 -- Laws of what an exchange asked and answered.
-use Rattle.std.proofs.Common.{Option, ◌≡◌, ◌∙◌, ℕ, ◌+◌, ◌≤◌, ◌^◌, min, Bool, true, false, cond, List, [], ◌∷◌, ◌++◌, refl, sym, ap, subst, arith, append_assoc, append-nil, Result, Ok, Err, leb, ◌||◌}
+use Rattle.std.proofs.Common.{Option, ◌≡◌, ◌∙◌, ℕ, ◌+◌, ◌≤◌, ◌^◌, min, Bool, true, false, cond, List, [], ◌∷◌, ◌++◌, refl, sym, ap, arith, append_assoc, append-nil, Ok, Err, leb, ◌||◌, length, length-append}
 use Rattle.std.proofs.lemmas.Bool.{le-leb, true≢false}
 use Rattle.std.specs.VecDeque.{deque_len}
 use Rattle.peer_fill.specs.declared.counts.AskCounts.{AskCounts}
@@ -7,12 +7,14 @@ use Rattle.peer_lane.specs.declared.ticket.Ticket.{Ticket}
 use Rattle.peer_reply.specs.declared.wish.Wish.{Wish}
 use Rattle.peer_conn.specs.Tickets.{asks_in_body, asks_in, wish_by, wishes_by}
 use Rattle.peer_conn.specs.Answering.{IsMadeGood}
-use Rattle.peer_conn.specs.AnsweringReady.{MadeGood, CountsMadeGood, AnswersTicket, AnswersReady}
+use Rattle.peer_conn.specs.AnsweringReady.{MadeGood, AnswersTicket, AnswersReady}
 use Rattle.peer_conn.specs.Asking.{CountsAsks, AddsTicket, AddsTickets, IsJudgedThrough}
-use Rattle.peer_conn.specs.ExchangeStates.{is_full}
+use Rattle.peer_conn.specs.Replies.{join}
+use Rattle.peer_conn.specs.Windows.{window_after, window_behind}
+use Rattle.peer_conn.specs.ExchangeStates.{unsent}
 use Rattle.peer_conn.specs.declared.exchange_state.ExchangeState.{ExchangeState}
-use Rattle.peer_conn.specs.declared.exchange_state.TheConstants.{MAX_WAITING}
 use Rattle.peer_conn.proofs.ExchangeLemmas.{went_well}
+use Rattle.peer_conn.proofs.SendLemmas.{join-append}
 use Rattle.peer_conn.proofs.WriterSideLemmas.{wishes-append}
 
 asks_in-append : (ws vs : List Wish) → asks_in (ws ++ vs) ≡ asks_in ws + asks_in vs
@@ -24,6 +26,15 @@ capped a c x most = omega arith
 
 none_more : (a most : ℕ) → a ≤ most → a ≡ min (a + 0) most
 none_more a most le = omega (arith, le)
+
+-- one reply more behind these
+one_put : (out old new reply : List ℕ) (replies : List (List ℕ)) → new ≡ old ++ reply → old ≡ out ++ join replies → new ≡ out ++ join (replies ++ reply ∷ [])
+one_put out old new reply replies put h =
+    put ∙ ap (λ v. v ++ reply) h ∙ append_assoc out (join replies) reply ∙ ap (λ v. out ++ (join replies ++ v)) (sym (append-nil reply)) ∙ ap (λ v. out ++ v) (join-append replies (reply ∷ []))
+
+one_behind_window : (replies : List (List ℕ)) (reply : List ℕ) (tickets : ℕ) → window_behind (replies ++ reply ∷ []) tickets ≡ window_after (length reply) (window_behind replies tickets)
+one_behind_window [] reply tickets = refl
+one_behind_window (r ∷ rs) reply tickets = one_behind_window rs reply (window_after (length r) tickets)
 
 module _ {S : Type 0} where
   one_more : (ts : List (Ticket S)) (t : Ticket S) → asks_in (wishes_by (ts ++ t ∷ [])) ≡ asks_in (wishes_by ts) + asks_in_body (wish_by t).body
@@ -50,8 +61,8 @@ module _ {S : Type 0} where
   adds_end h = record { tickets = h.tickets; put = h.put; counted = h.counted }
 
   -- where as many tickets wait as may, it is full
-  pub full_through : {J : Type 0} (e : ExchangeState S) (left : Option J) → MAX_WAITING ≤ deque_len e.waiting → IsJudgedThrough e left
-  full_through e left many judging full = absurd (is_full_not (leb MAX_WAITING (deque_len e.waiting)) _ (le-leb _ _ many) full)
+  pub full_through : {J : Type 0} (e : ExchangeState S) (left : Option J) → e.window.tickets ≤ deque_len e.waiting → IsJudgedThrough e left
+  full_through e left many judging full = absurd (is_full_not (leb e.window.tickets (deque_len e.waiting)) _ (le-leb _ _ many) full)
     where
       is_full_not : (p q : Bool) → p ≡ true → (p || q) ≡ false → ⊥
       is_full_not true q e f = true≢false f
@@ -62,7 +73,19 @@ module _ {S : Type 0} where
   good-append (u ∷ us) t n good h is = (h.0, h.1 + cond good 1 0, h.2, good-append us t h.1 good h.3 is, omega (arith, h.4))
 
   pub answers_none : (e : ExchangeState S) (n : AskCounts) → n.strangers ≤ 2 ^ 56 → AnswersReady e e n n went_well
-  answers_none e n le = record { answered = []; left = e.waiting.items; first = refl; wait = refl; count = 0; made_good = refl; counted = ap (λ s. record n { strangers = s }) (none_more n.strangers (2 ^ 56) le) }
+  answers_none e n le = record {
+    answered = [];
+    left = e.waiting.items;
+    first = refl;
+    wait = refl;
+    count = 0;
+    made_good = refl;
+    counted = ap (λ s. record n { strangers = s }) (none_more n.strangers (2 ^ 56) le);
+    replies = [];
+    one_each = refl;
+    put = sym (append-nil (unsent e));
+    window = refl;
+  }
 
   module _ {a b d : ExchangeState S} {l m n : AskCounts} where
     pub answers_one : AnswersReady a b l m went_well → AnswersTicket b d m n → AnswersReady a d l n went_well
@@ -78,10 +101,26 @@ module _ {S : Type 0} where
           counted =
               k.counted ∙ ap {A = AskCounts} (λ q. record q { strangers = min (q.strangers + more) (2 ^ 56) }) h.counted
               ∙ ap (λ s. record l { strangers = s }) (capped l.strangers h.count more (2 ^ 56));
+          replies = h.replies ++ k.reply ∷ [];
+          one_each = omega (arith, h.one_each, length-append h.replies (k.reply ∷ []), length-append h.answered (k.ticket ∷ []));
+          put = one_put (unsent a) (unsent b) (unsent d) k.reply h.replies k.put h.put;
+          window = k.window ∙ ap (window_after (length k.reply)) h.window ∙ sym (one_behind_window h.replies k.reply a.window.tickets);
         }
 
-    pub answers_same : {T E : Type 0} {x : T} → AnswersReady a b l m went_well → d.waiting.items ≡ b.waiting.items → n ≡ m → AnswersReady {T = T} {E = E} a d l n (Ok x)
-    answers_same h same k = record { answered = h.answered; left = h.left; first = h.first; wait = same ∙ h.wait; count = h.count; made_good = h.made_good; counted = k ∙ h.counted }
+    pub answers_same : {T E : Type 0} {x : T} → AnswersReady a b l m went_well → d.waiting.items ≡ b.waiting.items → n ≡ m → unsent d ≡ unsent b → d.window.tickets ≡ b.window.tickets → AnswersReady {T = T} {E = E} a d l n (Ok x)
+    answers_same h same k out window = record {
+      answered = h.answered;
+      left = h.left;
+      first = h.first;
+      wait = same ∙ h.wait;
+      count = h.count;
+      made_good = h.made_good;
+      counted = k ∙ h.counted;
+      replies = h.replies;
+      one_each = h.one_each;
+      put = out ∙ h.put;
+      window = window ∙ h.window;
+    }
 
     pub answers_lost : {T E : Type 0} {x : E} → AnswersReady a b l m went_well → n ≡ m → AnswersReady {T = T} {E = E} a d l n (Err x)
-    answers_lost h k = record { answered = h.answered; left = h.left; first = h.first; wait = tt; count = h.count; made_good = h.made_good; counted = k ∙ h.counted }
+    answers_lost h k = record { answered = h.answered; left = h.left; first = h.first; wait = tt; count = h.count; made_good = h.made_good; counted = k ∙ h.counted; replies = h.replies; one_each = h.one_each; put = tt; window = tt }

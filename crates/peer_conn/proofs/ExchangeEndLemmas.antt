@@ -1,14 +1,13 @@
 -- How an exchange ended, by what holds of it.
-use Rattle.std.proofs.Common.{◌≡◌, ◌∙◌, ℕ, true, false, List, [], ◌∷◌, ◌++◌, sym, ap, subst, inl, inr, append-nil, Option, Some, None, Bool, IsTrue, ◌↔◌}
+use Rattle.std.proofs.Common.{◌≡◌, ◌∙◌, ℕ, true, false, List, [], ◌++◌, sym, ap, subst, inl, inr, append-nil, Option, Some, None, Bool, IsTrue, ◌↔◌}
 use Rattle.std.proofs.lemmas.Bool.{true≢false}
 use Rattle.peer_source.specs.Answers.{Answer}
 use Rattle.peer_head.specs.Pairs.{ArePairs}
 use Rattle.peer_reply.specs.declared.wish.Wish.{Wish}
 use Rattle.peer_conn.specs.Wishes.{AreFirst}
 use Rattle.peer_conn.specs.Replies.{AreReplies}
-use Rattle.peer_conn.specs.Tickets.{wishes_by}
 use Rattle.peer_conn.specs.Intakes.{AreJudged}
-use Rattle.peer_conn.specs.ExchangeStates.{is_over, unsent, Upholds}
+use Rattle.peer_conn.specs.ExchangeStates.{is_over, Upholds}
 use Rattle.peer_conn.specs.ExchangeEnds.{Answered, AreClean, AreCut, IsEnd}
 use Rattle.peer_conn.specs.declared.end.End.{End}
 use Rattle.peer_conn.specs.declared.end.End.TheVariants as end

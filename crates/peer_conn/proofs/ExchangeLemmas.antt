@@ -1,23 +1,19 @@
 -- Laws of what holds of a connection at every moment.
-use Rattle.std.proofs.Common.{◌≡◌, ◌∙◌, ℕ, ◌+◌, ◌<◌, ◌≤◌, true, false, Bool, List, [], ◌∷◌, ◌++◌, length, drop, get_or, refl, sym, ap, subst, inl, inr, arith, append_assoc, append-nil, length-append, Option, Result, Ok, ◌&&◌, not, ◌==◌, deque_len}
+use Rattle.std.proofs.Common.{◌≡◌, ◌∙◌, ℕ, ◌+◌, ◌<◌, ◌≤◌, true, false, Bool, List, [], ◌∷◌, ◌++◌, length, drop, get_or, refl, sym, ap, subst, arith, append_assoc, append-nil, length-append, Option, Result, Ok, ◌&&◌, not, ◌==◌, deque_len}
 use borrow.Author.Tests.{eqb-true}
 use Rattle.peer_source.specs.Answers.{Answer}
 use Rattle.peer_reply.specs.declared.wish.Wish.{Wish}
 use Rattle.peer_lane.specs.declared.ticket.Ticket.{Ticket}
-use Rattle.peer_conn.specs.Wishes.{AreFirst}
 use Rattle.peer_conn.specs.Replies.{IsReply, Replies, join}
 use Rattle.peer_conn.specs.Tickets.{wish_by, wishes_by}
-use Rattle.peer_conn.specs.Laws.{IsWhole}
 use Rattle.peer_conn.specs.Answering.{IsReplyPut}
-use Rattle.peer_conn.specs.Intakes.{is_judging, AreJudged, Judged, JudgesOne, KeepsJudged}
+use Rattle.peer_conn.specs.Intakes.{is_judging, Judged, JudgesOne, KeepsJudged}
 use Rattle.peer_conn.specs.ExchangeStates.{is_over, unsent, AreFew, Upholds, Keeps, AreSent}
 use Rattle.peer_conn.specs.declared.exchange_state.ExchangeState.{ExchangeState}
-use Rattle.peer_conn.specs.declared.exchange_state.TheConstants.{MAX_WAITING, MAX_UNSENT}
-use Rattle.peer_conn.specs.declared.intake.Stage.{Stage}
-use Rattle.peer_conn.specs.declared.intake.Stage.TheVariants as stage
+use Rattle.peer_conn.specs.declared.window.TheConstants.{MAX_WAITING, MAX_UNSENT}
 use Rattle.peer_conn.proofs.AnswerLemmas.{IsReplyOf, replies_to, replies}
 use Rattle.peer_conn.proofs.WishLemmas.{first_of}
-use Rattle.peer_conn.proofs.WholeLemmas.{begins_with_first_law, has_one_list_law}
+use Rattle.peer_conn.proofs.WholeLemmas.{begins_with_first_law}
 use Rattle.peer_conn.proofs.HeadlineLemmas.{whole, replies_of}
 use Rattle.peer_conn.proofs.IntakeLemmas.{judged_first}
 use Rattle.peer_conn.proofs.SendLemmas.{join-append, Replies-append}

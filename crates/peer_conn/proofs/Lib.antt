@@ -4,8 +4,10 @@ pub mod EndLemmas
 pub mod ExchangeEndLemmas
 pub mod ExchangeLemmas
 pub mod HeadlineLemmas
+pub mod HoldingLemmas
 pub mod IntakeLemmas
 pub mod KnownLemmas
+pub mod OutboxLemmas
 pub mod ReaderSideLemmas
 pub mod RequestLemmas
 pub mod ResponseLemmas

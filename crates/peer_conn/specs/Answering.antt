@@ -1,5 +1,5 @@
 -- What became of a ticket: its reply was put behind the bytes that wait to be sent, or nothing was.
-use Rattle.std.specs.Prelude.{◌≡◌, ℕ, Bool, true, false, List, ◌++◌, Option, None, Some, Result, Ok, Err}
+use Rattle.std.specs.Prelude.{◌≡◌, ℕ, Bool, true, false, List, ◌++◌, None, Some, Result, Ok, Err}
 use Rattle.peer_source.specs.Answers.{Answer, Filled}
 use Rattle.peer_flight.specs.Claims.{Looked, claim_place}
 use Rattle.peer_flight.specs.SingleFlight.{place_of}

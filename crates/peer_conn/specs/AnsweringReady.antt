@@ -1,11 +1,13 @@
 -- What an exchange answered: the first tickets that waited, and those among them that were made good.
-use Rattle.std.specs.Prelude.{◌≡◌, ℕ, ◌+◌, ◌^◌, ◌⊎◌, min, Bool, true, false, cond, List, [], ◌∷◌, ◌++◌, Result, Ok, Err, OnOk}
+use Rattle.std.specs.Prelude.{◌≡◌, ℕ, ◌+◌, ◌^◌, ◌⊎◌, min, length, Bool, true, false, cond, List, [], ◌∷◌, ◌++◌, Result, Ok, Err, OnOk}
 use Rattle.std.specs.VecDeque.{deque_len}
 use Rattle.peer_fill.specs.declared.counts.AskCounts.{AskCounts}
 use Rattle.peer_lane.specs.declared.ticket.Ticket.{Ticket}
 use Rattle.peer_conn.specs.Answering.{IsMadeGood, waits_on_flight}
 use Rattle.peer_conn.specs.Intakes.{IsGivenUpFor}
-use Rattle.peer_conn.specs.ExchangeStates.{has_much_output}
+use Rattle.peer_conn.specs.Replies.{join}
+use Rattle.peer_conn.specs.Windows.{window_after, window_behind}
+use Rattle.peer_conn.specs.ExchangeStates.{has_much_output, unsent}
 use Rattle.peer_conn.specs.declared.exchange_state.ExchangeState.{ExchangeState}
 use Rattle.peer_conn.specs.declared.intake.GivenUp.{GivenUp}
 
@@ -25,7 +27,7 @@ module _ {S : Type 0} where
   IsAnsweredThrough e = (e.waiting.items ≡ []) ⊎ (has_much_output e ≡ true)
       ⊎ ((t : Ticket S) × (ts : List (Ticket S)) × (e.waiting.items ≡ t ∷ ts) × (waits_on_flight t.body ≡ true))
 
-  -- the first ticket was answered
+  -- the first ticket was answered by this reply, by whose length as many tickets may wait
   pub record AnswersTicket (old new : ExchangeState S) (asks asks' : AskCounts) : Type 0 where
     pub ticket : Ticket S
     pub taken : old.waiting.items ≡ ticket ∷ new.waiting.items
@@ -33,15 +35,20 @@ module _ {S : Type 0} where
     pub made_good : Bool
     pub is_made_good : IsMadeGood ticket.body made_good
     pub counted : CountsMadeGood (cond made_good 1 0) asks asks'
+    pub reply : List ℕ
+    pub put : unsent new ≡ unsent old ++ reply
+    pub window : new.window.tickets ≡ window_after (length reply) old.window.tickets
 
   -- the first ticket was answered, or it waits, or it was given up
   abbrev pub AnswersFirst : ExchangeState S → ExchangeState S → AskCounts → AskCounts → Result Bool GivenUp → Type 0
   AnswersFirst old new asks asks' (Ok true) = AnswersTicket old new asks asks' × (new.intake.stage ≡ old.intake.stage)
   AnswersFirst old new asks asks' (Ok false) = (new.waiting.items ≡ old.waiting.items) × (asks' ≡ asks)
       × (new.intake.stage ≡ old.intake.stage) × IsAnsweredThrough new
+      × (unsent new ≡ unsent old) × (new.window.tickets ≡ old.window.tickets)
   AnswersFirst old new asks asks' (Err why) = (asks' ≡ asks) × IsGivenUpFor new.intake.stage why
 
-  -- these tickets were answered, which were the first that waited; the others wait, unless it was given up
+  -- these tickets were answered, which were the first that waited; the others wait, unless it was given up, and behind these
+  -- replies as many may wait as their lengths say
   pub record AnswersReady {T E : Type 0} (old new : ExchangeState S) (asks asks' : AskCounts) (result : Result T E) : Type 0 where
     pub answered : List (Ticket S)
     pub left : List (Ticket S)
@@ -50,3 +57,7 @@ module _ {S : Type 0} where
     pub count : ℕ
     pub made_good : MadeGood answered count
     pub counted : CountsMadeGood count asks asks'
+    pub replies : List (List ℕ)
+    pub one_each : length replies ≡ length answered
+    pub put : OnOk result (unsent new ≡ unsent old ++ join replies)
+    pub window : OnOk result (new.window.tickets ≡ window_behind replies old.window.tickets)

@@ -9,7 +9,10 @@ use Rattle.peer_lane.specs.declared.ticket.Ticket.{Ticket}
 use Rattle.peer_reply.specs.declared.wish.WishBody.{WishBody}
 use Rattle.peer_conn.specs.Tickets.{asks_in_body, asks_in, wish_by, wishes_by}
 use Rattle.peer_conn.specs.Intakes.{IsGivenUpFor, is_open, is_judging, is_given_up}
-use Rattle.peer_conn.specs.ExchangeStates.{is_full}
+use Rattle.peer_source.specs.Answers.{Answer}
+use Rattle.peer_reply.specs.declared.wish.Wish.{Wish}
+use Rattle.peer_conn.specs.Nexts.{IsNextWish}
+use Rattle.peer_conn.specs.ExchangeStates.{is_full, Keeps}
 use Rattle.peer_conn.specs.declared.exchange_state.ExchangeState.{ExchangeState}
 use Rattle.peer_conn.specs.declared.intake.GivenUp.{GivenUp}
 use Rattle.peer_conn.specs.declared.intake.GivenUp.TheVariants as given_up
@@ -36,6 +39,10 @@ module _ {S : Type 0} where
   abbrev pub IsJudgedThrough : {J : Type 0} → ExchangeState S → Option J → Type 0
   IsJudgedThrough e left = is_judging e.intake.stage ≡ true → is_full e ≡ false →
       (e.waits_for_job ≡ true) × IsSome left ⊎ (e.waits_for_job ≡ false) × (is_open e.intake.stage ≡ true) × IsUnfinished e.intake.held
+
+  -- where what is held begins with this wish, whatever came and was sent still is what came and was sent
+  abbrev pub KeepsWhereNext : (ℕ → List ℕ → Answer → Type 0) → Wish → ExchangeState S → ExchangeState S → Type 0
+  KeepsWhereNext answers wish old new = (numbers : List ℕ → Option ℕ) → IsNextWish numbers old.intake.held wish → Keeps numbers answers old new
 
   -- this ticket came to wait, and was counted
   pub record AddsTicket (old new : ExchangeState S) (asks asks' : AskCounts) : Type 0 where

@@ -1,11 +1,11 @@
 -- How an exchange ended, by the bytes that came and those that were sent (RFC 9112, sections 9.3 and 9.6).
-use Rattle.std.specs.Prelude.{◌≡◌, ℕ, true, false, ◌⊎◌, List, Option, Some, None}
+use Rattle.std.specs.Prelude.{◌≡◌, ℕ, true, false, ◌⊎◌, List, [], Option, Some, None}
 use Rattle.peer_source.specs.Answers.{Answer}
 use Rattle.peer_head.specs.Pairs.{ArePairs}
 use Rattle.peer_reply.specs.declared.wish.Wish.{Wish}
 use Rattle.peer_conn.specs.Wishes.{ClosedWishes, AreAll, AreFirst}
 use Rattle.peer_conn.specs.Replies.{AreReplies}
-use Rattle.peer_conn.specs.ExchangeStates.{is_over}
+use Rattle.peer_conn.specs.ExchangeStates.{is_over, Upholds}
 use Rattle.peer_conn.specs.declared.end.End.{End}
 use Rattle.peer_conn.specs.declared.end.End.TheVariants as end
 use Rattle.peer_conn.specs.declared.exchange_state.ExchangeState.{ExchangeState}
@@ -37,3 +37,7 @@ module _ (numbers : List ℕ → Option ℕ) (answers : ℕ → List ℕ → Ans
   abbrev pub IsEnd : {S : Type 0} → ExchangeState S → Option End → Type 0
   IsEnd e None = is_over e ≡ false
   IsEnd e (Some end) = (is_over e ≡ true) × EndsWith end
+
+-- where these are the numbers, it ended so under these answers
+abbrev pub SaysEnd : {S : Type 0} → (List ℕ → Option ℕ) → (ℕ → List ℕ → Answer → Type 0) → (ℕ → List ℕ → Answer → Type 0) → ExchangeState S → Option End → Type 0
+SaysEnd numbers answers under e result = (came sent : List ℕ) → Upholds numbers answers came sent [] e → IsEnd numbers under came sent e result

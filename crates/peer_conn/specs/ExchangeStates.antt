@@ -1,5 +1,5 @@
 -- What holds of a connection at every moment, of the bytes that came and those that were sent.
-use Rattle.std.specs.Prelude.{◌≡◌, ℕ, ◌+◌, ◌-◌, ◌≤◌, Bool, true, false, ◌&&◌, ◌||◌, not, ◌==◌, leb, List, [], ◌∷◌, ◌++◌, length, Option}
+use Rattle.std.specs.Prelude.{◌≡◌, ℕ, ◌+◌, ◌-◌, ◌≤◌, Bool, ◌&&◌, ◌||◌, not, ◌==◌, leb, List, [], ◌++◌, length, Option}
 use Rattle.std.specs.VecDeque.{deque_len}
 use Rattle.peer_source.specs.Answers.{Answer}
 use Rattle.peer_head.specs.Blocks.{LIMIT}
@@ -9,7 +9,7 @@ use Rattle.peer_conn.specs.Headline.{AreAllReplies}
 use Rattle.peer_conn.specs.Tickets.{wishes_by}
 use Rattle.peer_conn.specs.Intakes.{Judged, is_open, is_judging}
 use Rattle.peer_conn.specs.declared.exchange_state.ExchangeState.{ExchangeState}
-use Rattle.peer_conn.specs.declared.exchange_state.TheConstants.{MAX_WAITING, MAX_UNSENT}
+use Rattle.peer_conn.specs.declared.window.TheConstants.{MAX_WAITING, MAX_UNSENT}
 
 -- these bytes are few: so many and one reply at most
 pub record AreFew (answers : ℕ → List ℕ → Answer → Type 0) (most : ℕ) (bytes : List ℕ) : Type 0 where
@@ -29,15 +29,19 @@ module _ {S : Type 0} where
 
   -- the replies that wait to be sent
   abbrev pub unsent : ExchangeState S → List ℕ
-  unsent e = e.outgoing.out
+  unsent e = e.outgoing.out.bytes
+
+  -- the first of them, which are lent
+  abbrev pub lent : ExchangeState S → List ℕ
+  lent e = e.outgoing.out.front
 
   -- nothing is put until output was sent
   abbrev pub has_much_output : ExchangeState S → Bool
   has_much_output e = leb MAX_UNSENT (length (unsent e))
 
-  -- nothing is asked until a ticket was answered or output was sent
+  -- nothing is asked: as many tickets wait as may, or much output
   abbrev pub is_full : ExchangeState S → Bool
-  is_full e = leb MAX_WAITING (deque_len e.waiting) || has_much_output e
+  is_full e = leb e.window.tickets (deque_len e.waiting) || has_much_output e
 
   -- no more bytes come or are to be sent, and no ticket waits
   abbrev pub is_over : ExchangeState S → Bool
@@ -59,11 +63,26 @@ module _ {S : Type 0} where
   pub record Keeps (numbers : List ℕ → Option ℕ) (answers : ℕ → List ℕ → Answer → Type 0) (old new : ExchangeState S) : Type 0 where
     pub keeps : (came sent : List ℕ) → Upholds numbers answers came sent [] old → Upholds numbers answers came sent [] new
 
-  -- one head at most is held, 64 tickets wait at most, and few bytes wait to be sent
+  -- whatever came and was sent, these bytes came behind it ..
+  abbrev pub Receives : (ℕ → List ℕ → Answer → Type 0) → ExchangeState S → ExchangeState S → List ℕ → Type 0
+  Receives answers old new more =
+      (numbers : List ℕ → Option ℕ) (came sent : List ℕ) → Upholds numbers answers came sent [] old → Upholds numbers answers (came ++ more) sent [] new
+
+  -- .. these bytes were sent behind it ..
+  abbrev pub Sends : (ℕ → List ℕ → Answer → Type 0) → ExchangeState S → ExchangeState S → List ℕ → Type 0
+  Sends answers old new more =
+      (numbers : List ℕ → Option ℕ) (came sent : List ℕ) → Upholds numbers answers came sent [] old → Upholds numbers answers came (sent ++ more) [] new
+
+  -- .. or wishes that were judged last are given up
+  abbrev pub GivesUp : (ℕ → List ℕ → Answer → Type 0) → ExchangeState S → ExchangeState S → Type 0
+  GivesUp answers old new =
+      (numbers : List ℕ → Option ℕ) (came sent : List ℕ) (more : List Wish) → Upholds numbers answers came sent more old → Upholds numbers answers came sent [] new
+
+  -- at most 16,384 bytes of a head are held, 64 tickets wait, and 65,536 bytes and one reply are unsent
   pub record HoldsLittle (answers : ℕ → List ℕ → Answer → Type 0) (e : ExchangeState S) : Type 0 where
-    pub held : length e.intake.held ≤ LIMIT
-    pub waiting : deque_len e.waiting ≤ MAX_WAITING
-    pub unsent : AreFew answers MAX_UNSENT (unsent e)
+    pub held : length e.intake.held ≤ 16384
+    pub waiting : deque_len e.waiting ≤ 64
+    pub unsent : AreFew answers 65536 (unsent e)
 
 -- what was sent is a front of all replies to what came
 pub record AreSent (numbers : List ℕ → Option ℕ) (answers : ℕ → List ℕ → Answer → Type 0) (came sent : List ℕ) : Type 0 where
@@ -71,3 +90,12 @@ pub record AreSent (numbers : List ℕ → Option ℕ) (answers : ℕ → List �
   pub all : AreAllReplies numbers answers came replies
   pub rest : List ℕ
   pub front : sent ++ rest ≡ join replies
+
+module _ {S : Type 0} where
+  -- where these are the numbers, what was sent are replies under these answers ..
+  abbrev pub SaysSent : (List ℕ → Option ℕ) → (ℕ → List ℕ → Answer → Type 0) → (ℕ → List ℕ → Answer → Type 0) → ExchangeState S → Type 0
+  SaysSent numbers answers under e = (came sent : List ℕ) → Upholds numbers answers came sent [] e → AreSent numbers under came sent
+
+  -- .. and it holds little
+  abbrev pub SaysLittle : (List ℕ → Option ℕ) → (ℕ → List ℕ → Answer → Type 0) → ExchangeState S → Type 0
+  SaysLittle numbers answers e = (came sent : List ℕ) → Upholds numbers answers came sent [] e → HoldsLittle answers e

@@ -2,7 +2,7 @@
 use Rattle.std.specs.Prelude.{◌≡◌, ℕ, Bool, true, false, List, [], ◌∷◌, ◌++◌, length, Option}
 use Rattle.peer_head.specs.Blocks.{IsFrontLength, IsUnfinished}
 use Rattle.peer_reply.specs.declared.wish.Wish.{Wish}
-use Rattle.peer_conn.specs.Wishes.{OpenWishes, ClosedWishes, AreFirst, AreAll}
+use Rattle.peer_conn.specs.Wishes.{OpenWishes, ClosedWishes, AreFirst, AreAll, closes_after}
 use Rattle.peer_conn.specs.declared.intake.GivenUp.{GivenUp}
 use Rattle.peer_conn.specs.declared.intake.Intake.{Intake}
 use Rattle.peer_conn.specs.declared.intake.Stage.{Stage}
@@ -68,10 +68,24 @@ pub record Judged (numbers : List ℕ → Option ℕ) (came : List ℕ) (ws : Li
 abbrev pub KeepsJudged : (List ℕ → Option ℕ) → Intake → Intake → Type 0
 KeepsJudged numbers old new = (came : List ℕ) (ws : List Wish) → Judged numbers came ws old → Judged numbers came ws new
 
+-- whatever came and was given, these bytes came behind it ..
+abbrev pub JudgesMore : Intake → Intake → List ℕ → Type 0
+JudgesMore old new more =
+    (numbers : List ℕ → Option ℕ) (came : List ℕ) (ws : List Wish) → Judged numbers came ws old → Judged numbers (came ++ more) ws new
+
+-- .. or the last wishes are dropped
+abbrev pub JudgesFewer : Intake → Intake → Type 0
+JudgesFewer old new = (numbers : List ℕ → Option ℕ) (came : List ℕ) (ws vs : List Wish) → Judged numbers came (ws ++ vs) old → Judged numbers came ws new
+
 -- one wish more was given
 abbrev pub JudgesOne : (List ℕ → Option ℕ) → Intake → Intake → Wish → Type 0
 JudgesOne numbers old new w =
     (came : List ℕ) (ws : List Wish) → Judged numbers came ws old → Judged numbers came (ws ++ w ∷ []) new
+
+-- the next wish was given, whose block has so many bytes, with what its reply does to the connection
+abbrev pub JudgesNext : Intake → Intake → ℕ → Bool → Type 0
+JudgesNext old new len closing = (numbers : List ℕ → Option ℕ) (w : Wish) → IsNextWish numbers old.held w → IsFrontLength old.held len
+    → closing ≡ closes_after old.count w.closing → JudgesOne numbers old new (record w { closing = closing })
 
 -- what is held begins with this wish, or nothing more is found there: then it is judged on only where more bytes may come
 abbrev pub FindsNext : (List ℕ → Option ℕ) → Intake → Intake → Found → Type 0

@@ -9,10 +9,12 @@ pub mod Exchanges
 pub mod ExchangeStates
 pub mod Headline
 pub mod Histories
+pub mod Holdings
 pub mod Intakes
 pub mod Known
 pub mod Laws
 pub mod Nexts
+pub mod Outboxes
 pub mod ReaderSides
 pub mod Replies
 pub mod Requests
@@ -23,6 +25,7 @@ pub mod Sides
 pub mod Stops
 pub mod Strangers
 pub mod Tickets
+pub mod Windows
 pub mod Wishes
 pub mod Writers
 pub mod WriterSides

@@ -1,7 +1,7 @@
 -- What would let an exchange go on.
-use Rattle.std.specs.Prelude.{◌≡◌, true, false, ◌&&◌, not, ◌==◌, length}
+use Rattle.std.specs.Prelude.{false, ◌&&◌, not, ◌==◌, length}
 use Rattle.std.specs.VecDeque.{deque_len}
-use Rattle.peer_conn.specs.ExchangeStates.{takes_bytes, unsent, has_much_output, is_full, is_over}
+use Rattle.peer_conn.specs.ExchangeStates.{takes_bytes, unsent, has_much_output, is_full}
 use Rattle.peer_conn.specs.declared.exchange_state.ExchangeState.{ExchangeState}
 use Rattle.peer_conn.specs.declared.rest.Rest.{Rest}
 

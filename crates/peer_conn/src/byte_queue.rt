@@ -1,10 +1,12 @@
 //! Bytes that come at the back and go at the front.
 //!
 //! It stands on nothing. It promises the bytes that came and did not go, in order; and it takes no memory before the first.
-ghost use Rattle.std.specs.Prelude.{◌≡◌, ◌==◌, ◌≤◌, [], ◌++◌, length, drop, OnErr, OnOk};
+ghost use Rattle.std.specs.Prelude.{◌≡◌, ◌==◌, ◌≤◌, [], ◌++◌, length, drop, OnErr, OnOk, IfOk};
 ghost use Rattle.peer_reply.specs.Texts.{joined};
 
 use crate::write_buffer::part_at;
+use bytes::Bytes;
+use peer_view::ByteView;
 use std::alloc::{AllocError, Global};
 use std::marker::Model;
 
@@ -95,6 +97,22 @@ impl ByteQueue {
         self.compact();
         self.bytes.extend_from_slice(more)
     }
+
+    /// All its bytes, and behind them those of the parts, leave as a view, or none where memory is refused.
+    pub(crate) fn leave_with(
+        &mut self,
+        alloc: Global,
+        parts: &[&[u8]],
+    ) -> Result<ByteView, AllocError>
+        ensures view { IfOk result (λ v. v ≡ self.old ++ joined parts.now) }
+        ensures empty { OnOk result (self.new ≡ []) }
+        ensures refused { OnErr result (self.new ≡ self.old) }
+    {
+        let view = view_of(alloc, self.as_slice(), parts)?;
+        empty(&mut self.bytes);
+        self.start = 0;
+        Ok(view)
+    }
 }
 
 // Empties it, and gives back the memory beyond what is kept.
@@ -130,4 +148,17 @@ fn append_parts(bytes: &mut Vec<u8>, parts: &[&[u8]]) -> Result<(), AllocError>
         }
     }
     Ok(())
+}
+
+// A view of the bytes, and behind them those of the parts.
+fn view_of(alloc: Global, bytes: &[u8], parts: &[&[u8]]) -> Result<ByteView, AllocError>
+    ensures { IfOk result (λ v. v ≡ bytes.now ++ joined parts.now) }
+{
+    let mut all = Vec::new(alloc);
+    all.extend_from_slice(bytes)?;
+    append_parts(&mut all, parts)?;
+    match Bytes::from_vec(all) {
+        Ok(bytes) => Ok(ByteView::from_shared(bytes)),
+        Err(_) => Err(AllocError),
+    }
 }

@@ -36,8 +36,10 @@ impl<'p, S: Source> Exchange<'p, S> {
     ghost use Rattle.peer_conn.specs.Asking.{AddsTickets, IsJudgedThrough};
     ghost use Rattle.peer_conn.specs.Connects.{allows};
     ghost use Rattle.peer_conn.specs.ExchangeEnds.{IsEnd};
-    ghost use Rattle.peer_conn.specs.ExchangeStates.{AreSent, HoldsLittle, is_over, room_of, takes_bytes, unsent};
+    ghost use Rattle.peer_conn.specs.ExchangeStates.{AreSent, HoldsLittle, is_over, lent, room_of, takes_bytes, unsent};
+    ghost use Rattle.peer_conn.specs.Outboxes.{IsFrontOf};
     ghost use Rattle.peer_conn.specs.Histories.{KeepsHistories};
+    ghost use Rattle.peer_conn.specs.Holdings.{Holds};
     ghost use Rattle.peer_conn.specs.Intakes.{IsGivenUpFor, is_given_up, told};
     ghost use Rattle.peer_conn.specs.Rests.{no_rest, rest_of};
 
@@ -46,6 +48,7 @@ impl<'p, S: Source> Exchange<'p, S> {
         ensures names { result.names ≡ names.entry }
         ensures came { result.came.bytes ≡ [] }
         ensures sent { result.sent.bytes ≡ [] }
+        ensures window { result.state.window.tickets ≡ 1 }
     {
         Exchange {
             names,
@@ -88,6 +91,7 @@ impl<'p, S: Source> Exchange<'p, S> {
         ensures sent { self.new.sent.bytes ≡ self.old.sent.bytes }
         ensures goes_on { OnOk result (takes_bytes self.new.state ≡ true) }
         ensures given_up { IfErr result (IsGivenUpFor self.new.state.intake.stage) }
+        ensures window { self.new.state.window.tickets ≡ self.old.state.window.tickets }
     {
         match self.state.receive(bytes) {
             Ok(n) => {
@@ -105,25 +109,29 @@ impl<'p, S: Source> Exchange<'p, S> {
         ensures told { self.new.state.intake.stage ≡ told self.old.state.intake.stage }
         ensures waiting { self.new.state.waiting.items ≡ self.old.state.waiting.items }
         ensures unsent { unsent self.new.state ≡ unsent self.old.state }
+        ensures window { self.new.state.window.tickets ≡ self.old.state.window.tickets }
     {
         self.state.end();
     }
 
-    /// What is to be sent.
+    /// The first bytes that are to be sent: some, where there are any. Short replies lie together, and a long value is lent
+    /// from where its fill has it.
     pub fn output(&self) -> &[u8]
-        ensures { result.now ≡ unsent self.now.state }
+        ensures lent { result.now ≡ lent self.now.state }
+        ensures front { IsFrontOf (lent self.now.state) (unsent self.now.state) }
     {
         self.state.output()
     }
 
     /// The first `n` bytes of the output were sent.
     pub fn sent(&mut self, n: usize)
-        requires { n ≤ length (unsent self.old.state) }
+        requires { n ≤ length (lent self.old.state) }
         ensures names { self.new.names ≡ self.old.names }
         ensures came { self.new.came.bytes ≡ self.old.came.bytes }
         ensures sent { self.new.sent.bytes ≡ self.old.sent.bytes ++ take n (unsent self.old.state) }
         ensures stage { self.new.state.intake.stage ≡ self.old.state.intake.stage }
         ensures waiting { self.new.state.waiting.items ≡ self.old.state.waiting.items }
+        ensures window { self.new.state.window.tickets ≡ self.old.state.window.tickets }
     {
         let sent = self.sent.and(&self.state.output()[..n]);
         self.state.sent(n);
@@ -149,6 +157,7 @@ impl<'p, S: Source> Exchange<'p, S> {
         ensures over { result ≡ Ok no_rest → is_over self.new.state ≡ true }
         ensures goes_on { OnOk result (is_given_up self.new.state.intake.stage ≡ is_given_up self.old.state.intake.stage) }
         ensures given_up { IfErr result (IsGivenUpFor self.new.state.intake.stage) }
+        ensures window { self.new.state.window.tickets ≡ self.old.state.window.tickets }
     {
         match self.state.ask_held(rt, pool, seat, &self.names) {
             Ok(()) => Ok(self.state.rest()),
@@ -184,6 +193,14 @@ impl<'p, S: Source> Exchange<'p, S> {
     /// The number of the flight that the first ticket waits for, none where no ticket waits or its fill is there.
     pub fn awaits(&self) -> Option<u64> {
         self.state.awaits()
+    }
+
+    /// How many bytes it holds for the client: those that are to be sent, and those of the values and texts that came for
+    /// the tickets that wait.
+    pub fn held(&self) -> usize
+        ensures { Holds (unsent self.now.state) self.now.state.waiting.items result }
+    {
+        self.state.held()
     }
 
     /// Whether no more bytes come or are to be sent, and no ticket waits.

@@ -4,7 +4,8 @@
 //! whatever came and was sent before a call, what it upholds is upheld behind the call.
 ghost use Rattle.std.specs.Prelude.{◌≡◌, IfNone, IfOk, IfSome, IsSome, drop};
 ghost use Rattle.std.specs.VecDeque.{deque_len};
-ghost use Rattle.std.specs.Prelude.{◌-◌};
+ghost use Rattle.std.specs.Prelude.{◌-◌, ◌+◌, ◌^◌, ℕ, min};
+ghost use Rattle.peer_conn.specs.Holdings.{CameForAll};
 ghost use Rattle.peer_fill.specs.Asks.{CountsAsk};
 ghost use Rattle.peer_fill.specs.Pools.{source_of, IsConnSeatOf};
 ghost use Rattle.peer_fill.specs.Seats.{asks_of, conn_parts, left_of};
@@ -13,7 +14,8 @@ ghost use Rattle.peer_conn.specs.Tickets.{wish_by};
 ghost use Rattle.peer_conn.specs.Asking.{CountsWish};
 
 use crate::intake::{Found, GivenUp, Intake};
-use crate::outgoing::{Answered, Outgoing};
+use crate::outgoing::{Answered, Outgoing, len_of};
+use crate::window::{MAX_UNSENT, MAX_WAITING, Window};
 use crate::wish::Next;
 use peer_fill::{ConnSeat, Pool};
 use peer_flight::AskFault;
@@ -26,12 +28,6 @@ use std::collections::VecDeque;
 use std::sync::Wait;
 use std::sync::ledger::Ledger;
 
-/// The most tickets that wait.
-pub(crate) const MAX_WAITING: usize = 64;
-
-/// Where so many bytes wait to be sent, nothing is asked or put until some were sent.
-pub(crate) const MAX_UNSENT: usize = 65_536;
-
 /// How many tickets have room that is kept while none waits.
 const KEPT_TICKETS: usize = 4;
 
@@ -43,6 +39,7 @@ pub(crate) struct ExchangeState<S: Source> {
     pub(crate) outgoing: Outgoing,
     /// The next request waits until the seat has put the job that is left with it.
     pub(crate) waits_for_job: bool,
+    pub(crate) window: Window,
 }
 
 impl From<AskFault> for GivenUp {
@@ -95,6 +92,20 @@ fn ticket_of<S: Source, L: Ledger, H: Wait>(
     }))
 }
 
+// So many bytes, and those of values and texts that came for the tickets.
+fn with_came<S: Source>(bytes: usize, waiting: &VecDeque<Ticket<S>>) -> usize
+    ensures { (came : ℕ) × CameForAll waiting.now.items came × (result ≡ min (bytes + came) (2 ^ 64 - 1)) }
+{
+    let mut all = bytes;
+    for i in 0..waiting.len() {
+        let Some(ticket) = waiting.get(i) else {
+            unreachable!()
+        };
+        all = all.saturating_add(len_of(ticket));
+    }
+    all
+}
+
 // Drops the first ticket.
 fn drop_first<S: Source>(waiting: &mut VecDeque<Ticket<S>>)
     ensures items { waiting.new.items ≡ drop 1 waiting.old.items }
@@ -111,16 +122,20 @@ impl<S: Source> ExchangeState<S> {
     ghost use Rattle.std.specs.Prelude.{OnOk, IfErr};
     ghost use Rattle.std.specs.VecDeque.{deque_len};
     ghost use Rattle.peer_conn.specs.Connects.{allows};
+    ghost use Rattle.peer_conn.specs.Holdings.{Holds};
     ghost use Rattle.peer_conn.specs.Intakes.{IsGivenUpFor, is_given_up, is_judging, told};
     ghost use Rattle.peer_conn.specs.Nexts.{IsNextWish};
     ghost use Rattle.peer_head.specs.Blocks.{IsFrontLength};
-    ghost use Rattle.peer_conn.specs.ExchangeStates.{Upholds, Keeps, AreSent, HoldsLittle, has_much_output, is_full, is_over, room_of, takes_bytes, unsent};
-    ghost use Rattle.peer_conn.specs.Asking.{AddsTickets, AsksOne, IsJudgedThrough};
+    ghost use Rattle.peer_conn.specs.ExchangeStates.{Upholds, Keeps, AreSent, HoldsLittle, has_much_output, is_full, is_over, lent, room_of};
+    ghost use Rattle.peer_conn.specs.ExchangeStates.{takes_bytes, unsent, Receives, Sends, GivesUp, SaysSent, SaysLittle};
+    ghost use Rattle.peer_conn.specs.Outboxes.{IsFrontOf};
+    ghost use Rattle.peer_conn.specs.Asking.{AddsTickets, AsksOne, IsJudgedThrough, KeepsWhereNext};
     ghost use Rattle.peer_conn.specs.AnsweringReady.{AnswersReady, AnswersFirst, IsAnsweredThrough};
 
     /// No byte came, and none was sent. It takes no memory yet.
     pub(crate) fn new(alloc: Global) -> ExchangeState<S>
-        ensures { (numbers : List ℕ → Option ℕ) → Upholds numbers (allows S.allowed) [] [] [] result }
+        ensures upholds { (numbers : List ℕ → Option ℕ) → Upholds numbers (allows S.allowed) [] [] [] result }
+        ensures window { result.window.tickets ≡ 1 }
     {
         ExchangeState {
             alloc,
@@ -128,6 +143,7 @@ impl<S: Source> ExchangeState<S> {
             waiting: VecDeque::new(alloc),
             outgoing: Outgoing::new(alloc),
             waits_for_job: false,
+            window: Window::new(),
         }
     }
 
@@ -145,11 +161,11 @@ impl<S: Source> ExchangeState<S> {
         self.outgoing.out.len() >= MAX_UNSENT
     }
 
-    /// Whether nothing is asked until a ticket was answered or output was sent.
+    /// Whether nothing is asked: as many tickets wait as may, or much output.
     pub(crate) fn is_full(&self) -> bool
         ensures { result ≡ is_full self.now }
     {
-        self.waiting.len() >= MAX_WAITING || self.has_much_output()
+        self.waiting.len() >= self.window.tickets || self.has_much_output()
     }
 
     /// How many bytes have room.
@@ -163,11 +179,11 @@ impl<S: Source> ExchangeState<S> {
     pub(crate) fn receive(&mut self, bytes: &[u8]) -> Result<usize, GivenUp>
         requires { takes_bytes self.old ≡ true }
         ensures count { IfOk result (λ n. n ≡ min (length bytes.now) (room_of self.old)) }
-        ensures upholds { IfOk result (λ n. (numbers : List ℕ → Option ℕ) (came sent : List ℕ) →
-            Upholds numbers (allows S.allowed) came sent [] self.old → Upholds numbers (allows S.allowed) (came ++ take n bytes.now) sent [] self.new) }
+        ensures upholds { IfOk result (λ n. Receives (allows S.allowed) self.old self.new (take n bytes.now)) }
         ensures goes_on { OnOk result (takes_bytes self.new ≡ true) }
         ensures refused { OnErr result ((numbers : List ℕ → Option ℕ) → Keeps numbers (allows S.allowed) self.old self.new) }
         ensures given_up { IfErr result (IsGivenUpFor self.new.intake.stage) }
+        ensures window { self.new.window.tickets ≡ self.old.window.tickets }
     {
         match self.intake.receive(bytes) {
             Ok(n) => Ok(n),
@@ -184,33 +200,35 @@ impl<S: Source> ExchangeState<S> {
         ensures told { self.new.intake.stage ≡ told self.old.intake.stage }
         ensures waiting { self.new.waiting.items ≡ self.old.waiting.items }
         ensures unsent { unsent self.new ≡ unsent self.old }
+        ensures window { self.new.window.tickets ≡ self.old.window.tickets }
     {
         self.intake.end();
     }
 
-    /// What is to be sent.
+    /// The first bytes that are to be sent: some, where there are any.
     pub(crate) fn output(&self) -> &[u8]
-        ensures { result.now ≡ unsent self.now }
+        ensures lent { result.now ≡ lent self.now }
+        ensures front { IsFrontOf (lent self.now) (unsent self.now) }
     {
-        self.outgoing.out.as_slice()
+        self.outgoing.out.front()
     }
 
     /// The first `n` bytes of the output were sent.
     pub(crate) fn sent(&mut self, n: usize)
-        requires { n ≤ length (unsent self.old) }
-        ensures upholds { (numbers : List ℕ → Option ℕ) (came sent : List ℕ) → Upholds numbers (allows S.allowed) came sent [] self.old →
-            Upholds numbers (allows S.allowed) came (sent ++ take n (unsent self.old)) [] self.new }
+        requires { n ≤ length (lent self.old) }
+        ensures upholds { Sends (allows S.allowed) self.old self.new (take n (unsent self.old)) }
         ensures stage { self.new.intake.stage ≡ self.old.intake.stage }
         ensures waiting { self.new.waiting.items ≡ self.old.waiting.items }
+        ensures window { self.new.window.tickets ≡ self.old.window.tickets }
     {
         self.outgoing.out.drop_front(n);
     }
 
     // Gives up: tickets that wait get no reply.
     fn give_up(&mut self, why: GivenUp)
-        ensures upholds { (numbers : List ℕ → Option ℕ) (came sent : List ℕ) (more : List Wish) →
-            Upholds numbers (allows S.allowed) came sent more self.old → Upholds numbers (allows S.allowed) came sent [] self.new }
+        ensures upholds { GivesUp (allows S.allowed) self.old self.new }
         ensures stage { IsGivenUpFor self.new.intake.stage why }
+        ensures window { self.new.window.tickets ≡ self.old.window.tickets }
     {
         self.intake.give_up(why);
         self.waiting.clear();
@@ -234,6 +252,7 @@ impl<S: Source> ExchangeState<S> {
         ensures through { OnOk result (IsJudgedThrough self.new (left_of seat.new)) }
         ensures goes_on { OnOk result (is_given_up self.new.intake.stage ≡ is_given_up self.old.intake.stage) }
         ensures given_up { IfErr result (IsGivenUpFor self.new.intake.stage) }
+        ensures window { self.new.window.tickets ≡ self.old.window.tickets }
     {
         let mut places = FieldPlaces::new();
         self.waits_for_job = false;
@@ -263,6 +282,7 @@ impl<S: Source> ExchangeState<S> {
         ensures parts { conn_parts seat.new ≡ conn_parts seat.old }
         ensures keeps { Keeps (S.number_of names.now) (allows S.allowed) self.old self.new }
         ensures asks { AsksOne self.old self.new (asks_of seat.old) (asks_of seat.new) (left_of seat.new) result }
+        ensures window { self.new.window.tickets ≡ self.old.window.tickets }
     {
         if self.is_full() || !self.intake.is_judging() {
             return Ok(false);
@@ -294,9 +314,9 @@ impl<S: Source> ExchangeState<S> {
         requires now { self.old.waits_for_job ≡ false }
         ensures seat { IsConnSeatOf pool.now seat.new }
         ensures parts { conn_parts seat.new ≡ conn_parts seat.old }
-        ensures upholds { (numbers : List ℕ → Option ℕ) → IsNextWish numbers self.old.intake.held next.wish →
-            Keeps numbers (allows S.allowed) self.old self.new }
+        ensures upholds { KeepsWhereNext (allows S.allowed) next.wish self.old self.new }
         ensures asks { AsksOne self.old self.new (asks_of seat.old) (asks_of seat.new) (left_of seat.new) result }
+        ensures window { self.new.window.tickets ≡ self.old.window.tickets }
     {
         let Next { wish, len } = next;
         let closing = self.intake.closes(wish.closing);
@@ -364,14 +384,17 @@ impl<S: Source> ExchangeState<S> {
         let Some(ticket) = self.waiting.front() else {
             return Ok(false);
         };
+        let before = self.outgoing.out.len();
         match self.outgoing.answer(pool, ticket) {
             Ok(Answered::Put) => {
                 drop_first(&mut self.waiting);
+                self.window.put(self.outgoing.out.len() - before);
                 Ok(true)
             }
             Ok(Answered::MadeGood) => {
                 seat.add_strangers(1);
                 drop_first(&mut self.waiting);
+                self.window.put(self.outgoing.out.len() - before);
                 Ok(true)
             }
             Ok(Answered::Waits) => Ok(false),
@@ -380,6 +403,13 @@ impl<S: Source> ExchangeState<S> {
                 Err(GivenUp::Memory)
             }
         }
+    }
+
+    /// How many bytes it holds for the client: those that are to be sent, and those that came for the tickets that wait.
+    pub(crate) fn held(&self) -> usize
+        ensures { Holds (unsent self.now) self.now.waiting.items result }
+    {
+        with_came(self.outgoing.out.len(), &self.waiting)
     }
 
     /// Whether no more bytes come or are to be sent, and no ticket waits.
@@ -392,10 +422,8 @@ impl<S: Source> ExchangeState<S> {
     /// The law of exchanges: what was sent is a front of all replies to what came, under allowed answers. And it holds
     /// little.
     pub(crate) fn law(&self, names: &Names<'_, S>)
-        ensures sent { (came sent : List ℕ) → Upholds (S.number_of names.now) (allows S.allowed) came sent [] self.now →
-            AreSent (S.number_of names.now) (allows S.allowed) came sent }
-        ensures little { (came sent : List ℕ) → Upholds (S.number_of names.now) (allows S.allowed) came sent [] self.now →
-            HoldsLittle (allows S.allowed) self.now }
+        ensures sent { SaysSent (S.number_of names.now) (allows S.allowed) (allows S.allowed) self.now }
+        ensures little { SaysLittle (S.number_of names.now) (allows S.allowed) self.now }
     {
         let _ = &self.intake;
         let _ = names;
@@ -406,12 +434,11 @@ impl<S: FunctionalSource> ExchangeState<S> {
     ghost use Rattle.std.specs.Prelude.{ℕ, List, []};
     ghost use Rattle.peer_conn.specs.Calls.{only};
     ghost use Rattle.peer_conn.specs.Connects.{allows};
-    ghost use Rattle.peer_conn.specs.ExchangeStates.{Upholds, AreSent};
+    ghost use Rattle.peer_conn.specs.ExchangeStates.{SaysSent};
 
     /// The law, where each group and key has one answer: there is one list of replies.
     pub(crate) fn law_functional(&self)
-        ensures { (came sent : List ℕ) → Upholds S.the_number (allows S.allowed) came sent [] self.now →
-            AreSent S.the_number (only S.the_answer) came sent }
+        ensures { SaysSent S.the_number (allows S.allowed) (only S.the_answer) self.now }
     {
         let _ = &self.intake;
     }

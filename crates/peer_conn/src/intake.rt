@@ -60,7 +60,8 @@ impl Intake {
     ghost use Rattle.peer_reply.specs.declared.wish.Wish.{Wish};
     ghost use Rattle.peer_conn.specs.Wishes.{closes_after};
     ghost use Rattle.peer_conn.specs.Nexts.{IsNextWish};
-    ghost use Rattle.peer_conn.specs.Intakes.{IsNewIntake, Judged, JudgesOne, FindsNext, IsKnownIfFound, IsGivenUpFor, is_open, is_judging, is_given_up, told, needing};
+    ghost use Rattle.peer_conn.specs.Intakes.{IsNewIntake, JudgesMore, JudgesFewer, JudgesNext, FindsNext, IsKnownIfFound};
+    ghost use Rattle.peer_conn.specs.Intakes.{IsGivenUpFor, is_open, is_judging, is_given_up, told, needing};
     ghost use Rattle.peer_head.specs.Blocks.{IsFrontLength, IsUnfinished, LIMIT};
     ghost use Rattle.peer_head.specs.Pairs.{ArePairs};
     ghost use Rattle.std.specs.Prelude.{◌↔◌, IsTrue};
@@ -108,8 +109,7 @@ impl Intake {
     pub(crate) fn receive(&mut self, bytes: &[u8]) -> Result<usize, AllocError>
         requires { is_open self.old.stage ≡ true }
         ensures count { IfOk result (λ n. n ≡ min (length bytes.now) (LIMIT - length self.old.held)) }
-        ensures came { IfOk result (λ n. (numbers : List ℕ → Option ℕ) (came : List ℕ) (ws : List Wish) → Judged numbers came ws self.old →
-            Judged numbers (came ++ take n bytes.now) ws self.new) }
+        ensures came { IfOk result (λ n. JudgesMore self.old self.new (take n bytes.now)) }
         ensures stage { self.new.stage ≡ self.old.stage }
         ensures refused { OnErr result (self.new ≡ self.old) }
     {
@@ -134,8 +134,7 @@ impl Intake {
     /// Gives up: the last wishes that were judged may be dropped.
     pub(crate) fn give_up(&mut self, why: GivenUp)
         ensures stage { IsGivenUpFor self.new.stage why }
-        ensures first { (numbers : List ℕ → Option ℕ) (came : List ℕ) (ws vs : List Wish) →
-            Judged numbers came (ws ++ vs) self.old → Judged numbers came ws self.new }
+        ensures first { JudgesFewer self.old self.new }
     {
         self.stage = Stage::GivenUp(why);
     }
@@ -172,8 +171,7 @@ impl Intake {
         requires judging { is_judging self.old.stage ≡ true }
         requires within { closing ≡ false → len ≤ length self.old.held }
         requires count { closing ≡ false → self.old.count + 1 < REPLIES }
-        ensures judges { (numbers : List ℕ → Option ℕ) (w : Wish) → IsNextWish numbers self.old.held w → IsFrontLength self.old.held len →
-            closing ≡ closes_after self.old.count w.closing → JudgesOne numbers self.old self.new (record w { closing = closing }) }
+        ensures judges { JudgesNext self.old self.new len closing }
         ensures goes_on { is_given_up self.new.stage ≡ false }
     {
         if closing {

@@ -2,19 +2,22 @@
 //!
 //! It stands on the replies of `peer_reply` and the pool of `peer_fill`. It promises one whole reply for each ticket that
 //! is answered, and none where memory is refused.
-ghost use Rattle.std.specs.Prelude.{◌≡◌, ◌++◌, IfSome, IfNone, None, Some, true};
+ghost use Rattle.std.specs.Prelude.{◌≡◌, ◌++◌, IfSome, IfNone, None, Some, true, false};
+ghost use Rattle.peer_source.specs.Answers.{Found};
 ghost use Rattle.peer_reply.specs.Texts.{fault_reply};
 ghost use Rattle.peer_flight.specs.Claims.{Looked};
 ghost use Rattle.peer_conn.specs.Connects.{allows};
 ghost use Rattle.peer_conn.specs.Tickets.{claim_wish, fill_wish};
+ghost use Rattle.peer_conn.specs.Holdings.{CameFor};
 ghost use Rattle.peer_conn.specs.Answering.{Answers, AnswersClaim, PutsReplyTo, PutsText, is_pending};
 
-use crate::byte_queue::ByteQueue;
+use crate::outbox::Outbox;
 use peer_fill::Pool;
 use peer_flight::Claim;
 use peer_lane::{Body, Ticket};
 use peer_reply::{Fault, HeadRoom, Reply};
-use peer_source::{Fill, Source};
+use peer_source::{Fill, Outcome, Source};
+use peer_view::ByteView;
 use std::alloc::{AllocError, Global};
 use std::sync::ledger::Ledger;
 
@@ -22,7 +25,7 @@ use std::sync::ledger::Ledger;
 #[derive(Drop)]
 pub(crate) struct Outgoing {
     alloc: Global,
-    pub(crate) out: ByteQueue,
+    pub(crate) out: Outbox,
 }
 
 /// What became of a ticket.
@@ -45,16 +48,43 @@ fn look_once<S: Source>(claim: &Claim<S>) -> Option<&Fill<S>>
     claim.look(&mut note)
 }
 
+// The value in which the reply of a fill ends, where it does.
+fn value_of<S: Source>(fill: &Fill<S>, bare: bool) -> Option<&ByteView>
+    ensures { IfSome result (λ value. (bare ≡ false) × (fill.now.answer ≡ Some (Found value.now))) }
+{
+    match fill.outcome() {
+        Outcome::Found(value) if !bare => Some(value),
+        _ => None,
+    }
+}
+
+/// How many bytes of a value or a text came for a ticket.
+pub(crate) fn len_of<S: Source>(ticket: &Ticket<S>) -> usize
+    ensures { CameFor ticket.now.body result }
+{
+    let Body::Claim(claim) = &ticket.body else {
+        return 0;
+    };
+    let Some(fill) = look_once(claim) else {
+        return 0;
+    };
+    match fill.outcome() {
+        Outcome::Found(value) => value.len(),
+        Outcome::Failed(text) => text.len(),
+        Outcome::NoMemory => 0,
+    }
+}
+
 impl Outgoing {
     ghost use Rattle.std.specs.Prelude.{◌≡◌, []};
 
     /// It takes no memory yet.
     pub(crate) fn new(alloc: Global) -> Outgoing
-        ensures { result.out ≡ [] }
+        ensures { result.out.bytes ≡ [] }
     {
         Outgoing {
             alloc,
-            out: ByteQueue::new(alloc),
+            out: Outbox::new(alloc),
         }
     }
 
@@ -64,7 +94,7 @@ impl Outgoing {
         pool: &Pool<S, L>,
         ticket: &Ticket<S>,
     ) -> Result<Answered, AllocError>
-        ensures { Answers (allows S.allowed) ticket.now self.old.out self.new.out result }
+        ensures { Answers (allows S.allowed) ticket.now self.old.out.bytes self.new.out.bytes result }
     {
         match &ticket.body {
             Body::Fault(fault) => {
@@ -85,7 +115,7 @@ impl Outgoing {
         closing: bool,
         bare: bool,
     ) -> Result<Answered, AllocError>
-        ensures { AnswersClaim (allows S.allowed) claim.now closing bare self.old.out self.new.out result }
+        ensures { AnswersClaim (allows S.allowed) claim.now closing bare self.old.out.bytes self.new.out.bytes result }
     {
         let Some(fill) = look_once(claim) else {
             return Ok(Answered::Waits);
@@ -103,7 +133,7 @@ impl Outgoing {
         bare: bool,
     ) -> Result<Answered, AllocError>
         requires { Looked claim.now None (Some fill.now) (Some fill.now) }
-        ensures { AnswersClaim (allows S.allowed) claim.now closing bare self.old.out self.new.out result }
+        ensures { AnswersClaim (allows S.allowed) claim.now closing bare self.old.out.bytes self.new.out.bytes result }
     {
         match pool.refill(self.alloc, claim, fill) {
             Ok(None) => match self.put_fill(fill, closing, bare) {
@@ -125,19 +155,22 @@ impl Outgoing {
         closing: bool,
         bare: bool,
     ) -> Result<(), AllocError>
-        ensures { PutsReplyTo (allows S.allowed) (fill_wish fill.now closing bare) self.old.out self.new.out result }
+        ensures { PutsReplyTo (allows S.allowed) (fill_wish fill.now closing bare) self.old.out.bytes self.new.out.bytes result }
     {
         fill.law();
         let mut head = HeadRoom::new();
-        match Reply::of_fill(&mut head, fill, closing, bare) {
-            Some(reply) => self.out.put(&reply.parts()),
-            None => Err(AllocError),
+        let Some(reply) = Reply::of_fill(&mut head, fill, closing, bare) else {
+            return Err(AllocError);
+        };
+        match value_of(fill, bare) {
+            Some(value) => self.out.put_value(&reply.parts(), value),
+            None => self.out.put(&reply.parts()),
         }
     }
 
     // Puts the reply to a fault.
     fn put_fault(&mut self, fault: &Fault, closing: bool, bare: bool) -> Result<(), AllocError>
-        ensures { PutsText (fault_reply closing bare fault.now) self.old.out self.new.out result }
+        ensures { PutsText (fault_reply closing bare fault.now) self.old.out.bytes self.new.out.bytes result }
     {
         let mut head = HeadRoom::new();
         let reply = Reply::of_fault(&mut head, fault, closing, bare);

@@ -26,9 +26,8 @@ pub struct Rest {
 impl<S: Source> ExchangeState<S> {
     ghost use Rattle.std.specs.Prelude.{◌≡◌, ℕ, List, [], Option};
     ghost use Rattle.peer_conn.specs.Connects.{allows};
-    ghost use Rattle.peer_conn.specs.ExchangeStates.{Upholds};
     ghost use Rattle.peer_conn.specs.Rests.{rest_of};
-    ghost use Rattle.peer_conn.specs.ExchangeEnds.{IsEnd};
+    ghost use Rattle.peer_conn.specs.ExchangeEnds.{SaysEnd};
 
     /// What would let it go on, once what is held was judged.
     pub(crate) fn rest(&self) -> Rest
@@ -56,8 +55,7 @@ impl<S: Source> ExchangeState<S> {
 
     /// How it ended, none where it is not over.
     pub(crate) fn ended(&self) -> Option<End>
-        ensures { (numbers : List ℕ → Option ℕ) (came sent : List ℕ) → Upholds numbers (allows S.allowed) came sent [] self.now →
-            IsEnd numbers (allows S.allowed) came sent self.now result }
+        ensures { (numbers : List ℕ → Option ℕ) → SaysEnd numbers (allows S.allowed) (allows S.allowed) self.now result }
     {
         if !self.is_over() {
             return None;
@@ -77,13 +75,11 @@ impl<S: FunctionalSource> ExchangeState<S> {
     ghost use Rattle.std.specs.Prelude.{ℕ, List, []};
     ghost use Rattle.peer_conn.specs.Calls.{only};
     ghost use Rattle.peer_conn.specs.Connects.{allows};
-    ghost use Rattle.peer_conn.specs.ExchangeStates.{Upholds};
-    ghost use Rattle.peer_conn.specs.ExchangeEnds.{IsEnd};
+    ghost use Rattle.peer_conn.specs.ExchangeEnds.{SaysEnd};
 
     /// How it ended, where each group and key has one answer.
     pub(crate) fn ended_functional(&self) -> Option<End>
-        ensures { (came sent : List ℕ) → Upholds S.the_number (allows S.allowed) came sent [] self.now →
-            IsEnd S.the_number (only S.the_answer) came sent self.now result }
+        ensures { SaysEnd S.the_number (allows S.allowed) (only S.the_answer) self.now result }
     {
         self.ended()
     }

@@ -1,5 +1,5 @@
 use mathlib.Core.Logic.{∥∥₁_map}
-use Rattle.std.proofs.Common.{◌≡◌, [], ◌++◌, List, ℕ, sym, subst, take}
+use Rattle.std.proofs.Common.{◌≡◌, [], ◌++◌, sym, subst, take}
 use Rattle.peer_conn.specs.Connects.{allows}
 use Rattle.peer_conn.specs.ExchangeStates.{Upholds}
 use Rattle.peer_conn.proofs.exchange.Exchange.receive.Goals as goal

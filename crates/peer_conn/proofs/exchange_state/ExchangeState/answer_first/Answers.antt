@@ -1,8 +1,6 @@
-use Rattle.std.proofs.Common.{◌≡◌, ◌∙◌, ◌<◌, ◌+◌, ◌∷◌, ap, sym, refl, length, subst, arith}
+use Rattle.std.proofs.Common.{◌∙◌, ◌<◌, ◌∷◌, ap, sym, refl, length, subst, arith}
 use Rattle.std.proofs.lemmas.Bool.{leb-false}
 use Rattle.std.specs.VecDeque.{deque_len}
-use Rattle.peer_conn.specs.ExchangeStates.{unsent}
-use Rattle.peer_conn.specs.declared.exchange_state.TheConstants.{MAX_UNSENT}
 use Rattle.peer_conn.proofs.ExchangeLemmas.{first_item, upholds_like, answer_one}
 use Rattle.peer_conn.proofs.exchange_state.ExchangeState.answer_first.Goals as goal
 

@@ -1,10 +1,10 @@
-use Rattle.std.proofs.Common.{refl, ◌∙◌, ap, arith}
+use Rattle.std.proofs.Common.{refl, ◌∙◌, arith}
 use Rattle.peer_conn.proofs.ExchangeLemmas.{upholds_like, keeps_then}
 use Rattle.peer_conn.proofs.AskingLemmas.{adds_none, adds_one, adds_same, adds_lost, adds_end, full_through}
 use Rattle.peer_conn.proofs.exchange_state.ExchangeState.ask_held.Goals as goal
 
 pub loop-init : goal.loop-init
-loop-init g c = record { seat = c.requires.seat; parts = refl; keeps = record { keeps = λ came sent h. upholds_like refl refl refl h }; tickets = adds_none _ _ _ refl; goes_on = refl; now = refl; many = omega arith }
+loop-init g c = record { seat = c.requires.seat; parts = refl; keeps = record { keeps = λ came sent h. upholds_like refl refl refl h }; tickets = adds_none _ _ _ refl; goes_on = refl; now = refl; window = refl; many = omega arith }
 
 pub loop-preserved : goal.loop-preserved
 loop-preserved g c =
@@ -18,6 +18,7 @@ loop-preserved g c =
       tickets = adds_one i.tickets one.0;
       goes_on = one.1 ∙ i.goes_on;
       now = one.2;
+      window = asked.window ∙ i.window;
       many = omega (arith, i.many, one.0.len);
     }
 
@@ -34,6 +35,7 @@ returns-in-Ok-false g c =
       through = none.3;
       goes_on = none.2 ∙ i.goes_on;
       given_up = tt;
+      window = asked.window ∙ i.window;
     }
 
 pub returns-in-Err-clause-keeps : goal.returns-in-Err-clause-keeps
@@ -46,7 +48,7 @@ pub returns-clause-tickets : goal.returns-clause-tickets
 returns-clause-tickets g c = adds_end c.loop.invariant.tickets
 
 pub returns-clause-through : goal.returns-clause-through
-returns-clause-through g c = full_through c.loop.self _ (omega (arith, c.loop.invariant.many))
+returns-clause-through g c = full_through c.loop.self _ (omega (arith, c.loop.invariant.many, c.loop.self.window.few))
 
 pub returns-clause-goes_on : goal.returns-clause-goes_on
 returns-clause-goes_on g c = c.loop.invariant.goes_on

@@ -1,6 +1,5 @@
 use Rattle.std.proofs.Common.{false, ◌≡◌, ◌≤◌}
 use Rattle.std.specs.VecDeque.{deque_len}
-use Rattle.std.specs.Prelude.{Result, Ok}
 use Rattle.peer_fill.specs.Pools.{IsConnSeatOf}
 use Rattle.peer_fill.specs.Seats.{asks_of, conn_parts}
 use Rattle.peer_conn.specs.Asking.{AddsTickets}
@@ -18,5 +17,6 @@ invariant-loop g l = record {
   tickets : AddsTickets l.fn.self l.self (asks_of l.fn.seat) (asks_of l.seat) went_well;
   goes_on : is_given_up l.self.intake.stage ≡ is_given_up l.fn.self.intake.stage;
   now : l.self.waits_for_job ≡ false;
+  window : l.self.window.tickets ≡ l.fn.self.window.tickets;
   many : l.counter ≤ deque_len l.self.waiting;
 }

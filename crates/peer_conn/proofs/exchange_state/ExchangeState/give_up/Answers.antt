@@ -1,4 +1,4 @@
-use Rattle.std.proofs.Common.{subst, ◌++◌, ap, length, arith}
+use Rattle.std.proofs.Common.{subst, ap, length, arith}
 use Rattle.peer_conn.specs.Intakes.{Judged}
 use Rattle.peer_conn.proofs.ExchangeLemmas.{none_waits}
 use Rattle.peer_conn.proofs.exchange_state.ExchangeState.give_up.Goals as goal

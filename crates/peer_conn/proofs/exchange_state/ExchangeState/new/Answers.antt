@@ -9,8 +9,8 @@ use Rattle.peer_conn.specs.Tickets.{wishes_by}
 use Rattle.peer_conn.proofs.IntakeLemmas.{judged_new}
 use Rattle.peer_conn.proofs.exchange_state.ExchangeState.new.Goals as goal
 
-pub returns : goal.returns
-returns g c numbers =
+pub returns-clause-upholds : goal.returns-clause-upholds
+returns-clause-upholds g c numbers =
     let nothing : List Wish = [] in
     let none : nothing ≡ wishes_by c.new-2.result.items ++ [] = ap (λ ts. wishes_by ts ++ []) (sym c.new-2.ensures.items) in
     record {

@@ -1,4 +1,4 @@
-use Rattle.std.proofs.Common.{Some, None, subst, sym, ◌∙◌, refl}
+use Rattle.std.proofs.Common.{Some, None, subst, sym, refl}
 use Rattle.peer_head.specs.Blocks.{IsUnfinished}
 use Rattle.peer_conn.specs.Nexts.{IsNextOf}
 use Rattle.peer_conn.proofs.IntakeLemmas.{judged_as, judged_needing}

@@ -1,0 +1,50 @@
+//! How many tickets of an exchange may wait.
+//!
+//! It stands on nothing. It promises 1 to 64, by the lengths of the replies that were put.
+ghost use Rattle.std.specs.Prelude.{◌≡◌, ◌≤◌, ◌*◌};
+ghost use Rattle.peer_conn.specs.Windows.{window_after};
+
+use std::cmp::{max, min};
+
+/// The most tickets that wait.
+pub(crate) const MAX_WAITING: usize = 64;
+
+/// Where so many bytes wait to be sent, nothing is asked or put until some were sent.
+pub(crate) const MAX_UNSENT: usize = 65_536;
+
+/// How many tickets may wait.
+#[derive(Drop)]
+pub(crate) struct Window {
+    pub(crate) tickets: usize,
+    ghost some: { 1 ≤ tickets },
+    ghost few: { tickets ≤ 64 },
+}
+
+// How many may wait behind a reply of `len` bytes, where `tickets` might before. As in TCP's slow start it grows with what
+// was taken: a client of large values that reads none has one ticket that waits.
+fn tickets_after(len: usize, tickets: usize) -> usize
+    requires { tickets ≤ 64 }
+    ensures { result ≡ window_after len tickets }
+{
+    let fill = MAX_UNSENT / max(len, 1);
+    max(min(fill, min(2 * tickets, MAX_WAITING)), 1)
+}
+
+impl Window {
+    ghost use Rattle.std.specs.Prelude.{◌≡◌};
+    ghost use Rattle.peer_conn.specs.Windows.{window_after};
+
+    /// One ticket.
+    pub(crate) fn new() -> Window
+        ensures { result.tickets ≡ 1 }
+    {
+        Window { tickets: 1 }
+    }
+
+    /// A reply of `len` bytes was put.
+    pub(crate) fn put(&mut self, len: usize)
+        ensures { self.new.tickets ≡ window_after len self.old.tickets }
+    {
+        self.tickets = tickets_after(len, self.tickets);
+    }
+}
