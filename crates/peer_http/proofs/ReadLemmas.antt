@@ -28,7 +28,7 @@ use Rattle.std.proofs.Common.{inl, inr}
 use Rattle.std.proofs.lemmas.List.{drop_all}
 
 -- a head stays one, whatever follows
-accepts_append : (text : List ℕ) (head : ResponseHead) (framing : Framing) (rest later : List ℕ) → AcceptsResponse LIMITS Other text head framing rest → AcceptsResponse LIMITS Other (text ++ later) head framing (rest ++ later)
+pub accepts_append : (text : List ℕ) (head : ResponseHead) (framing : Framing) (rest later : List ℕ) → AcceptsResponse LIMITS Other text head framing rest → AcceptsResponse LIMITS Other (text ++ later) head framing (rest ++ later)
 accepts_append text head framing rest later a = record {
   reads = ReadsResponse-append text head rest later a.reads;
   strict = a.strict;
@@ -45,7 +45,7 @@ interims_append text rest later (more before head framing after is a low) =
 drop_whole : (xs : List ℕ) (n : ℕ) → n ≡ length xs → drop n xs ≡ []
 drop_whole xs n e = drop_all n xs (omega (arith, e))
 
-same_body : {d e : Decoder} → Reads.Body d ≡ Reads.Body e → d ≡ e
+pub same_body : {d e : Decoder} → Reads.Body d ≡ Reads.Body e → d ≡ e
 same_body {d} {e} h = ap (λ r. body_or d r) h
   where
     body_or : Decoder → Reading → Decoder

@@ -18,7 +18,7 @@ use std::alloc::Global;
 const STEPS: u64 = 4_000_000;
 
 // How many fields a head, or a trailer section, may have.
-const FIELDS: usize = 128;
+pub(crate) const FIELDS: usize = 128;
 
 /// Why there is no reply.
 #[derive(Clone, Copy, Debug, PartialEq, Eq)]
@@ -50,7 +50,7 @@ pub struct Reply {
 
 // What was found of the heads of a reply.
 #[derive(Clone, Copy)]
-enum Found {
+pub(crate) enum Found {
     // The head of the final reply, and its status.
     Final(u16),
     // That of an interim one.
@@ -61,7 +61,7 @@ enum Found {
 
 // What was taken of a body.
 #[derive(Clone, Copy)]
-enum Taken {
+pub(crate) enum Taken {
     Piece,
     End,
     // More has to come first.
@@ -76,9 +76,7 @@ fn read_first<R: PeerRead>(alloc: Global, reader: &mut R) -> Result<Intake, Repl
     ensures unended { OnOk result (R.ends reader.new ≡ R.ends reader.old) }
     ensures unfailed { OnOk result (R.failures reader.new ≡ R.failures reader.old) }
 {
-    let Ok(mut intake) = Intake::new(alloc) else {
-        return Err(ReplyFault::Memory);
-    };
+    let mut intake = Intake::new(alloc);
     match intake.fill(reader) {
         Ok(true) => Ok(intake),
         Err(Fault::Memory) => Err(ReplyFault::Memory),
@@ -89,7 +87,7 @@ fn read_first<R: PeerRead>(alloc: Global, reader: &mut R) -> Result<Intake, Repl
 // Reads on within the heads of a reply.
 fn fill_head<R: PeerRead>(reader: &mut R, intake: &mut Intake) -> Result<(), Fault>
     requires { R.calls reader.old < 2 ^ 64 - 1 }
-    ensures calls { R.calls reader.new ≡ R.calls reader.old + 1 }
+    ensures calls { R.calls reader.new ≤ R.calls reader.old + 1 }
     ensures more { OnOk result ((bytes : List ℕ) × Appends (R.given reader.old) (R.given reader.new) bytes
         × (intake.new ≡ intake.old ++ bytes)) }
     ensures unended { OnOk result (R.ends reader.new ≡ R.ends reader.old) }
@@ -113,7 +111,7 @@ fn is_coded(input: &[u8], spans: &[HeaderSpan], read: Progress<ResponseSpans>) -
 }
 
 // Takes what comes next of the heads of a reply.
-fn next_head(
+pub(crate) fn next_head(
     client: &mut Client,
     intake: &mut Intake,
     spans: &mut [HeaderSpan],
@@ -206,7 +204,7 @@ fn append(value: &mut Vec<u8>, piece: &[u8], most: usize) -> Result<(), Fault>
 }
 
 // Room for a body of a size that is told, where it may have so many bytes.
-fn room_for(alloc: Global, client: &Client, most: usize) -> Result<Vec<u8>, Fault>
+pub(crate) fn room_for(alloc: Global, client: &Client, most: usize) -> Result<Vec<u8>, Fault>
     ensures { IfOk result (λ v. v.items ≡ []) }
 {
     let size = match client.unread_size() {
@@ -223,14 +221,14 @@ fn room_for(alloc: Global, client: &Client, most: usize) -> Result<Vec<u8>, Faul
 }
 
 // Whether the body ended with the connection.
-fn ends_here(client: &mut Client) -> bool
+pub(crate) fn ends_here(client: &mut Client) -> bool
     ensures { EndsHere result client.old }
 {
     matches!(client.read_eof(), Ok(Event::End(_)))
 }
 
 // Takes what comes next of a body, which may have so many bytes.
-fn take_next(
+pub(crate) fn take_next(
     client: &mut Client,
     intake: &mut Intake,
     spans: &mut [HeaderSpan],
@@ -271,7 +269,7 @@ fn fill_body<R: PeerRead>(
     intake: &mut Intake,
 ) -> Result<bool, Fault>
     requires { R.calls reader.old < 2 ^ 64 - 1 }
-    ensures calls { R.calls reader.new ≡ R.calls reader.old + 1 }
+    ensures calls { R.calls reader.new ≤ R.calls reader.old + 1 }
     ensures fills { FillsBody (R.given reader.old) (R.given reader.new) (R.ends reader.old) (R.ends reader.new)
         client.old client.new intake.old intake.new result }
     ensures unfailed { OnOk result (R.failures reader.new ≡ R.failures reader.old) }
@@ -360,7 +358,7 @@ fn read_content<R: PeerRead>(
 }
 
 // What a fault within a reply is for the caller.
-fn reply_fault(fault: Fault) -> ReplyFault
+pub(crate) fn reply_fault(fault: Fault) -> ReplyFault
     ensures { (given given' : Option (List ℕ)) → (ends ends' most : ℕ) → RepliesAs given given' ends ends' most (Err result) }
 {
     match fault {
@@ -372,7 +370,7 @@ fn reply_fault(fault: Fault) -> ReplyFault
 }
 
 // What a fault within the body of a reply of this status is for the caller.
-fn content_fault(fault: Fault, status: u16) -> ReplyFault
+pub(crate) fn content_fault(fault: Fault, status: u16) -> ReplyFault
     ensures { (given given' : Option (List ℕ)) → (ends ends' most : ℕ) → RepliesAs given given' ends ends' most (Err result) }
 {
     match fault {

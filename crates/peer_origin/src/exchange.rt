@@ -14,16 +14,17 @@ use peer_http::{Asked, Reply, ReplyFault, ask, read_reply};
 use peer_view::{PeerRead, PeerWrite, VALUE_LIMIT, write_all};
 use std::alloc::Global;
 
-// Why an attempt gave no value.
-#[derive(Clone, Copy)]
-enum Failure {
-    // The connection ended, or failed, before a byte came.
+/// Why an attempt on one connection gave no value.
+#[derive(Clone, Copy, Debug, PartialEq, Eq)]
+pub enum Failure {
+    /// The connection ended, or failed, before a byte came.
     Silent,
+    /// Another attempt would be of no use.
     Fetch(FetchFault),
 }
 
-// What the fault of a reply is for an attempt.
-fn failure_of(fault: ReplyFault, late: bool) -> Failure
+/// What the fault of a reply is for an attempt, and whether it came with the end of the time.
+pub fn failure_of(fault: ReplyFault, late: bool) -> Failure
     ensures { result ≡ fail.Silent → fault ≡ told.Silent }
 {
     match fault {
@@ -49,8 +50,8 @@ fn value_of(reply: Reply) -> Result<Vec<u8>, Failure>
     Ok(value)
 }
 
-// The request for a key.
-fn request(alloc: Global, host: &[u8], prefix: &[u8], key: &[u8]) -> Result<Asked, FetchFault>
+/// The request for a key of the origin with this `Host` and this prefix, and the client that awaits the reply.
+pub fn request(alloc: Global, host: &[u8], prefix: &[u8], key: &[u8]) -> Result<Asked, FetchFault>
     ensures { IfOk result (IsAsked host.now (target_of prefix.now key.now)) }
 {
     let Ok(target) = target(alloc, prefix, key) else {

@@ -21,8 +21,8 @@ mod stream;
 mod target;
 
 pub use connections::{Connection, Connections};
-pub use exchange::fetch;
-pub use fault::FetchFault;
+pub use exchange::{Failure, failure_of, fetch, request};
+pub use fault::{FetchFault, get_fault};
 pub use origin::Origin;
 pub use place::{Place, PlaceFault};
 pub use settings::FetchSettings;

@@ -1,0 +1,3 @@
+mod DoneLemmas
+mod FetchingLemmas
+mod ThreadLemmas

@@ -1,0 +1,13 @@
+use Rattle.std.proofs.Common.{◌≤◌, length, subst, sym}
+use Rattle.peer_http.specs.Replies.{IsReply}
+use Rattle.peer_fetch.proofs.FetchingLemmas.{answers_at_end}
+use Rattle.peer_fetch.proofs.fetching.Fetching.end.Goals as goal
+
+pub returns-in-Ok-clause-found : goal.returns-in-Ok-clause-found
+returns-in-Ok-clause-found c =
+    let f = c.args.self.now in
+    let new = c.end.new.self in
+    let r = c.in-Ok.reply in
+    answers_at_end f.request.items f.sent new.came.bytes f.first r.status r.value.items
+    c.requires.whole (subst (λ m. length r.value.items ≤ m) f.most c.in-Ok.ensures.within) c.answer_of.result.value c.answer_of.ensures
+    (subst (λ t. ∥ IsReply t r.status r.value.items ∥₁) (sym c.in-Ok.ensures.came) c.in-Ok.ensures.reply)

@@ -1,0 +1,5 @@
+use Rattle.peer_fetch.specs.Threads.{IsLaterSeat}
+use Rattle.peer_fetch.proofs.thread.FetchThread.run.Given as goal
+
+abbrev pub invariant-loop : goal.invariant-loop
+invariant-loop g l = IsLaterSeat l.desk.pool.now l.initial.seat l.seat

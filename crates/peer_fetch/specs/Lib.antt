@@ -1,0 +1,2 @@
+pub mod Fetchings
+pub mod Threads

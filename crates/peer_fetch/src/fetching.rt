@@ -1,0 +1,175 @@
+//! A fetch as a state, without input or output: a request on a connection, the bytes that come behind it, and the one
+//! second try.
+//!
+//! It stands on the reply as a state of `peer_http`. It promises that a value which is found is the content of a whole
+//! reply with status 200, on bytes that came on a connection on which the whole request was sent, and that two requests are
+//! sent at most: the second behind a connection on which nothing came.
+ghost use Rattle.std.specs.Prelude.{◌≡◌, ◌+◌, ◌≤◌, ◌++◌, [], drop, length, IfOk, IfSome, IsTrue};
+ghost use Rattle.peer_view.specs.Sinks.{MAX_VALUE};
+ghost use Rattle.peer_http.specs.Asks.{Awaits};
+ghost use Rattle.peer_fetch.specs.Fetchings.{GoesOnAnew, IsFoundIn, uses_by};
+
+use http1::Client;
+use peer_http::{Asked, Receiving, Reply};
+use peer_origin::{Failure, FetchFault, failure_of};
+use peer_view::VALUE_LIMIT;
+use std::alloc::Global;
+
+/// A first try on which nothing came: how much of the request was sent, and whether the connection's end was told.
+#[derive(Clone, Copy, Debug)]
+pub(crate) struct Silence {
+    sent: usize,
+    ended: bool,
+}
+
+/// What a whole reply says.
+#[derive(Drop)]
+pub struct Answer {
+    /// The value, or why there is none.
+    pub value: Result<Vec<u8>, FetchFault>,
+    /// Whether another request may be sent on the connection.
+    pub keeps: bool,
+}
+
+/// A fetch.
+#[derive(Drop)]
+pub struct Fetching {
+    request: Vec<u8>,
+    sent: usize,
+    receiving: Receiving,
+    ended: bool,
+    first: Option<Silence>,
+    ghost sent_within: { sent ≤ length request.items },
+    ghost most: { receiving.most ≡ MAX_VALUE },
+}
+
+// What a reply says.
+fn answer_of(reply: Reply) -> Answer
+    ensures { IfOk result.value (λ v. (v.items ≡ reply.value.items) × (reply.status ≡ 200)) }
+{
+    let Reply {
+        status,
+        value,
+        keeps,
+    } = reply;
+    let value = if status == 200 {
+        Ok(value)
+    } else {
+        Err(FetchFault::Status(status))
+    };
+    Answer { value, keeps }
+}
+
+// The reply that is awaited, its content within the limit of a value.
+fn receiving(alloc: Global, client: Client) -> Receiving
+    requires { Awaits client }
+    ensures came { result.came.bytes ≡ [] }
+    ensures most { result.most ≡ MAX_VALUE }
+{
+    Receiving::new(alloc, client, VALUE_LIMIT)
+}
+
+impl Fetching {
+    /// Nothing of the request was sent.
+    pub fn new(alloc: Global, asked: Asked) -> Fetching
+        requires { Awaits asked.client }
+        ensures request { result.request.items ≡ asked.bytes.items }
+    {
+        let Asked { client, bytes } = asked;
+        Fetching {
+            request: bytes,
+            sent: 0,
+            receiving: receiving(alloc, client),
+            ended: false,
+            first: None,
+        }
+    }
+
+    /// What is to be sent.
+    pub fn unsent(&self) -> &[u8]
+        ensures { result.now ≡ drop self.now.sent self.now.request.items }
+    {
+        &self.request[self.sent..]
+    }
+
+    /// So many bytes were sent.
+    pub fn sent(&mut self, n: usize)
+        requires { self.old.sent + n ≤ length self.old.request.items }
+        ensures sent { self.new.sent ≡ self.old.sent + n }
+        ensures request { self.new.request.items ≡ self.old.request.items }
+        ensures came { self.new.receiving.came.bytes ≡ self.old.receiving.came.bytes }
+        ensures first { self.new.first ≡ self.old.first }
+    {
+        self.sent += n;
+    }
+
+    /// Whether the whole request was sent. No byte may come before it was.
+    pub fn is_sent(&self) -> bool
+        ensures { IsTrue result → length self.now.request.items ≤ self.now.sent }
+    {
+        self.sent >= self.request.len()
+    }
+
+    /// Bytes come. Gives the answer, once the reply is whole.
+    pub fn receive(&mut self, bytes: &[u8]) -> Result<Option<Answer>, Failure>
+        requires whole { length self.old.request.items ≤ self.old.sent }
+        ensures request { self.new.request.items ≡ self.old.request.items }
+        ensures sent { self.new.sent ≡ self.old.sent }
+        ensures came { self.new.receiving.came.bytes ≡ self.old.receiving.came.bytes ++ bytes.now }
+        ensures first { self.new.first ≡ self.old.first }
+        ensures within { IfOk result (λ given. IfSome given (λ a. IfOk a.value (λ v. length v.items ≤ MAX_VALUE))) }
+        ensures found { IfOk result (λ given. IfSome given (λ a. IfOk a.value (λ v.
+            ∥ IsFoundIn self.new.request.items self.new.sent self.new.receiving.came.bytes self.new.ended self.new.first v ∥₁))) }
+    {
+        match self.receiving.receive(bytes) {
+            Ok(Some(reply)) => Ok(Some(answer_of(reply))),
+            Ok(None) => Ok(None),
+            Err(fault) => Err(failure_of(fault, false)),
+        }
+    }
+
+    /// The connection ended. Gives the answer, where the reply runs until then.
+    pub fn end(&mut self) -> Result<Answer, Failure>
+        requires whole { length self.old.request.items ≤ self.old.sent }
+        ensures request { self.new.request.items ≡ self.old.request.items }
+        ensures sent { self.new.sent ≡ self.old.sent }
+        ensures came { self.new.receiving.came.bytes ≡ self.old.receiving.came.bytes }
+        ensures first { self.new.first ≡ self.old.first }
+        ensures within { IfOk result (λ a. IfOk a.value (λ v. length v.items ≤ MAX_VALUE)) }
+        ensures found { IfOk result (λ a. IfOk a.value (λ v.
+            ∥ IsFoundIn self.new.request.items self.new.sent self.new.receiving.came.bytes self.new.ended self.new.first v ∥₁)) }
+    {
+        self.ended = true;
+        match self.receiving.end() {
+            Ok(reply) => Ok(answer_of(reply)),
+            Err(fault) => Err(failure_of(fault, false)),
+        }
+    }
+
+    /// Why there is no value, where the connection failed.
+    pub fn cut(&self) -> Failure {
+        failure_of(self.receiving.cut(), false)
+    }
+
+    /// Begins anew, for a second try. Whether it may: this is the first, and nothing came.
+    pub fn again(&mut self, alloc: Global, asked: Asked) -> bool
+        requires awaits { Awaits asked.client }
+        requires request { asked.bytes.items ≡ self.old.request.items }
+        ensures request { self.new.request.items ≡ self.old.request.items }
+        ensures uses { IsTrue result → GoesOnAnew self.old.request.items
+            (uses_by self.old.request.items self.old.sent self.old.receiving.came.bytes self.old.ended self.old.first)
+            (uses_by self.new.request.items self.new.sent self.new.receiving.came.bytes self.new.ended self.new.first) }
+    {
+        if self.first.is_some() || !self.receiving.is_silent() {
+            return false;
+        }
+        self.first = Some(Silence {
+            sent: self.sent,
+            ended: self.ended,
+        });
+        self.receiving = receiving(alloc, asked.client);
+        self.sent = 0;
+        self.ended = false;
+        true
+    }
+}

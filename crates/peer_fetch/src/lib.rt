@@ -1,0 +1,22 @@
+//! Values from HTTP origins, hundreds under way in one thread: it takes jobs of a pool, sends their requests on
+//! connections that never wait, and fills their flights as the replies come.
+//!
+//! It stands on the jobs of `peer_fill`, the requests and replies of `peer_http`, the origins, rules and texts of
+//! `peer_origin`, and the readiness of sockets of `mio`. It promises of each value that it is the content of a whole reply
+//! with status 200 to the request for this very key, on bytes that came behind that request, and that two requests were
+//! sent at most (`Fetching`); and of a thread that it hands back its seat with its parts, as a worker does.
+#![tactic(auto)]
+
+mod bell;
+mod done;
+mod fetcher;
+mod fetching;
+mod link;
+mod settings;
+mod thread;
+mod under_way;
+
+pub use bell::FetchBell;
+pub use fetching::{Answer, Fetching};
+pub use settings::FetchThreadSettings;
+pub use thread::FetchThread;

@@ -1,0 +1,284 @@
+//! A connection to an origin, and the value that is under way on it.
+ghost use Rattle.std.specs.Prelude.{◌≤◌, length, IfOk};
+ghost use Rattle.peer_view.specs.Sinks.{MAX_VALUE};
+ghost use Rattle.peer_fetch.specs.Fetchings.{IsFetched};
+
+use crate::done::Done;
+use crate::fetching::Answer;
+use crate::under_way::UnderWay;
+use mio::event::Event;
+use mio::net::TcpStream;
+use peer_origin::{Failure, FetchFault};
+use peer_source::Source;
+use std::io;
+use std::io::{ErrorKind, Read, Write};
+use std::time::Duration;
+
+// How often is read or written for one value before others have their turn: with a buffer of 64 KiB a value of 1 MiB.
+const ROUNDS: u32 = 16;
+
+/// How a connection stands after its turn.
+#[derive(Drop)]
+pub enum Turn<'a, S: Source> {
+    /// It waits for an event.
+    Waits,
+    /// It has had its turn, and has work left.
+    Busy,
+    /// No value is under way, and it cannot be used again.
+    Gone,
+    /// The value is done, and whether another one may be asked for on the connection.
+    Done(Done<'a, S>, bool),
+    /// There is no connection to the address.
+    Unconnected(UnderWay<'a, S>),
+    /// The connection ended, or failed, before the value was there.
+    Cut(UnderWay<'a, S>, Failure),
+}
+
+// Why a turn ends without an answer.
+#[derive(Clone, Copy)]
+enum Halt {
+    Waits,
+    Busy,
+    Failed(Failure),
+}
+
+// What the system reported of a stream, and no call has found otherwise since.
+#[derive(Clone, Copy)]
+struct Signs {
+    readable: bool,
+    // The origin sends no more.
+    read_closed: bool,
+}
+
+/// A connection.
+#[derive(Drop)]
+pub struct Link<'a, S: Source> {
+    stream: TcpStream,
+    under: Option<UnderWay<'a, S>>,
+    // When it is given up, where it is not reached by then.
+    connecting: Option<Duration>,
+    signs: Signs,
+    /// The number of its origin.
+    pub origin: usize,
+    /// Which address of the origin is tried next, where this one is not reached.
+    pub next_address: usize,
+    /// Whether it was used before.
+    pub was_kept: bool,
+    /// Whether it is on the list of those that are to have a turn.
+    pub is_ready: bool,
+}
+
+// Whether a call of a stream would have to wait.
+fn would_block(error: &io::Error) -> bool {
+    error.kind() == ErrorKind::WouldBlock
+}
+
+// Whether a call of a stream was interrupted.
+fn was_interrupted(error: &io::Error) -> bool {
+    error.kind() == ErrorKind::Interrupted
+}
+
+// Whether a stream that began to connect is connected. None where it is not yet.
+fn is_connected(stream: &TcpStream) -> Option<bool> {
+    let Ok(None) = stream.take_error() else {
+        return Some(false);
+    };
+    match stream.peer_addr() {
+        Ok(_) => Some(true),
+        Err(error) if error.kind() == ErrorKind::NotConnected => None,
+        Err(_) => Some(false),
+    }
+}
+
+// Sends what is to be sent. None once all is.
+fn send<S: Source>(stream: &mut TcpStream, under: &mut UnderWay<'_, S>) -> Option<Halt> {
+    for _ in 0..ROUNDS {
+        if under.is_sent() {
+            return None;
+        }
+        match stream.write(under.unsent()) {
+            Ok(0) => return Some(Halt::Failed(under.cut())),
+            Ok(n) => under.sent(n),
+            Err(error) if would_block(&error) => return Some(Halt::Waits),
+            Err(error) if was_interrupted(&error) => {}
+            Err(_) => return Some(Halt::Failed(under.cut())),
+        }
+    }
+    Some(Halt::Busy)
+}
+
+// The answer that the end of the connection gives.
+fn end<S: Source>(under: &mut UnderWay<'_, S>) -> Result<Answer, Halt>
+    requires { length under.old.fetching.request.items ≤ under.old.fetching.sent }
+    ensures within { IfOk result (λ a. IfOk a.value (λ v. length v.items ≤ MAX_VALUE)) }
+    ensures found { IfOk result (λ a. IfOk a.value (λ v. ∥ IsFetched under.new.fetching.request.items v ∥₁)) }
+{
+    match under.end() {
+        Ok(answer) => Ok(answer),
+        Err(failure) => Err(Halt::Failed(failure)),
+    }
+}
+
+// Receives what comes, once all is sent.
+fn receive<S: Source>(
+    stream: &mut TcpStream,
+    under: &mut UnderWay<'_, S>,
+    buffer: &mut [u8],
+    signs: &mut Signs,
+) -> Result<Answer, Halt>
+    ensures within { IfOk result (λ a. IfOk a.value (λ v. length v.items ≤ MAX_VALUE)) }
+    ensures found { IfOk result (λ a. IfOk a.value (λ v. ∥ IsFetched under.new.fetching.request.items v ∥₁)) }
+{
+    for _ in 0..ROUNDS {
+        if !signs.readable || !under.is_sent() {
+            return Err(Halt::Waits);
+        }
+        match stream.read(buffer) {
+            Ok(0) => return end(under),
+            Ok(n) => {
+                // Less than there was room for is all that has come.
+                signs.readable = n == buffer.len() || signs.read_closed;
+                match under.receive(&buffer[..n]) {
+                    Ok(None) => {}
+                    Ok(Some(answer)) => return Ok(answer),
+                    Err(failure) => return Err(Halt::Failed(failure)),
+                }
+            }
+            Err(error) if would_block(&error) => signs.readable = false,
+            Err(error) if was_interrupted(&error) => {}
+            Err(_) => return Err(Halt::Failed(under.cut())),
+        }
+    }
+    Err(Halt::Busy)
+}
+
+impl<'a, S: Source> Link<'a, S> {
+    /// A stream that begins to connect to an origin, for a value. It is given up at `due`.
+    pub fn new(
+        stream: TcpStream,
+        under: UnderWay<'a, S>,
+        origin: usize,
+        next_address: usize,
+        due: Duration,
+    ) -> Link<'a, S> {
+        Link {
+            stream,
+            under: Some(under),
+            connecting: Some(due),
+            signs: Signs {
+                readable: false,
+                read_closed: false,
+            },
+            origin,
+            next_address,
+            was_kept: false,
+            is_ready: false,
+        }
+    }
+
+    /// Notes what was reported.
+    pub fn note(&mut self, event: &Event) {
+        self.signs.readable |= event.is_readable() || event.is_read_closed() || event.is_error();
+        self.signs.read_closed |= event.is_read_closed() || event.is_error();
+    }
+
+    /// Whether no value is under way, and another one may be asked for: nothing came, not even the end.
+    pub fn is_idle(&self) -> bool {
+        if self.under.is_some() || self.signs.read_closed {
+            return false;
+        }
+        let mut byte = [0u8; 1];
+        match self.stream.peek(&mut byte) {
+            Ok(_) => false,
+            Err(error) => would_block(&error),
+        }
+    }
+
+    // Puts the value that is under way.
+    fn put(&mut self, under: UnderWay<'a, S>) {
+        self.under = Some(under);
+    }
+
+    /// Asks for another value.
+    pub fn begin(&mut self, under: UnderWay<'a, S>) {
+        self.signs.readable = false;
+        self.was_kept = true;
+        self.put(under);
+    }
+
+    /// When its value is given up, or its address.
+    pub fn due(&self) -> Option<Duration> {
+        let Some(under) = &self.under else {
+            return None;
+        };
+        match self.connecting {
+            Some(due) if due < under.due() => Some(due),
+            _ => Some(under.due()),
+        }
+    }
+
+    // Sends and receives for a value.
+    fn exchange(&mut self, under: UnderWay<'a, S>, buffer: &mut [u8]) -> Turn<'a, S> {
+        let mut under = under;
+        let halt = match send(&mut self.stream, &mut under) {
+            Some(halt) => halt,
+            None => match receive(&mut self.stream, &mut under, buffer, &mut self.signs) {
+                Ok(answer) => {
+                    let Answer { value, keeps } = answer;
+                    return Turn::Done(under.done(value), keeps);
+                }
+                Err(halt) => halt,
+            },
+        };
+        match halt {
+            Halt::Failed(failure) => Turn::Cut(under, failure),
+            Halt::Waits => {
+                self.put(under);
+                Turn::Waits
+            }
+            Halt::Busy => {
+                self.put(under);
+                Turn::Busy
+            }
+        }
+    }
+
+    // Looks whether the stream is connected: none where it is.
+    fn connect(&mut self, now: Duration) -> Option<bool> {
+        let Some(due) = self.connecting else {
+            return None;
+        };
+        match is_connected(&self.stream) {
+            Some(true) => {
+                self.connecting = None;
+                let _ = self.stream.set_nodelay(true);
+                None
+            }
+            Some(false) => Some(false),
+            None => Some(now < due),
+        }
+    }
+
+    /// Goes on with the value that is under way.
+    pub fn turn(&mut self, buffer: &mut [u8], now: Duration) -> Turn<'a, S> {
+        self.is_ready = false;
+        let Some(under) = self.under.take() else {
+            return if self.is_idle() {
+                Turn::Waits
+            } else {
+                Turn::Gone
+            };
+        };
+        if under.due() <= now {
+            return Turn::Done(under.done(Err(FetchFault::Late)), false);
+        }
+        match self.connect(now) {
+            None => self.exchange(under, buffer),
+            Some(true) => {
+                self.put(under);
+                Turn::Waits
+            }
+            Some(false) => Turn::Unconnected(under),
+        }
+    }
+}

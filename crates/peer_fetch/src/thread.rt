@@ -1,0 +1,310 @@
+//! The thread that fetches: it takes jobs, waits for its connections, and fills flights.
+ghost use Rattle.std.specs.Prelude.{IfSome};
+ghost use Rattle.peer_source.specs.Outcomes.{answer_of};
+ghost use Rattle.peer_fill.specs.Pools.{source_of, IsFillSeatOf};
+ghost use Rattle.peer_origin.specs.Origins.{IsOriginAnswer};
+ghost use Rattle.peer_fetch.specs.Threads.{AllowsOrigins, IsLaterSeat};
+
+use crate::bell::{FetchBell, WOKEN};
+use crate::done::{Done, outcome_of};
+use crate::fetcher::{Fetcher, Ground, Room};
+use crate::settings::FetchThreadSettings;
+use mio::{Events, Poll, Registry};
+use peer_fill::{FillSeat, Gate, Pool, TakenJob};
+use peer_origin::{FetchFault, Place};
+use peer_source::{Outcome, Source};
+use std::alloc::Global;
+use std::net::Net;
+use std::sync::Wait;
+use std::sync::ledger::Ledger;
+use std::thread;
+use std::time::{Clock, Duration, Instant};
+
+// How many events one wait gives.
+const MAX_EVENTS: usize = 1024;
+
+/// What a thread needs that fetches values, beside its seat. It may be sent to the thread.
+#[derive(Drop)]
+pub struct FetchThread<'a> {
+    alloc: Global,
+    poll: Poll,
+    events: Events,
+    room: Room,
+    places: &'a [Place],
+    settings: FetchThreadSettings,
+}
+
+// A thread that fetches.
+#[derive(Drop)]
+struct Running<'a, S: Source> {
+    poll: Poll,
+    events: Events,
+    fetcher: Fetcher<'a, S>,
+    pause: Duration,
+}
+
+// The pool whose jobs are taken, and its gate.
+#[derive(Drop)]
+struct Desk<'p, S: Source, L: Ledger, G> {
+    alloc: Global,
+    pool: &'p Pool<S, L>,
+    gate: &'p G,
+}
+
+// Fills the flight of a job.
+fn fill<S: Source, L: Ledger, G: Gate, H: Wait>(
+    rt: &H,
+    desk: &Desk<'_, S, L, G>,
+    seat: &mut FillSeat<S, L>,
+    job: TakenJob<S>,
+    outcome: Outcome,
+)
+    requires seat { IsFillSeatOf desk.now.pool.now seat.old }
+    requires answers { AllowsOrigins (S.answers (source_of desk.now.pool.now)) }
+    requires answer { IfSome (answer_of outcome) IsOriginAnswer }
+    ensures { IsLaterSeat desk.now.pool.now seat.old seat.new }
+{
+    desk.pool.finish(rt, seat, job, outcome, desk.gate);
+}
+
+// Fills the flight of a job whose value was fetched, or was not.
+fn fill_done<S: Source, L: Ledger, G: Gate, H: Wait>(
+    rt: &H,
+    desk: &Desk<'_, S, L, G>,
+    seat: &mut FillSeat<S, L>,
+    done: Option<Done<'_, S>>,
+)
+    requires seat { IsFillSeatOf desk.now.pool.now seat.old }
+    requires answers { AllowsOrigins (S.answers (source_of desk.now.pool.now)) }
+    ensures { IsLaterSeat desk.now.pool.now seat.old seat.new }
+{
+    let Some(done) = done else {
+        return;
+    };
+    let Done { job, got, .. } = done;
+    fill(rt, desk, seat, job, outcome_of(desk.alloc, got));
+}
+
+// Takes a job, and begins to fetch its value. Whether there was one.
+fn take_job<'a, S: Source, L: Ledger, G: Gate, H: Net + Wait>(
+    ground: &Ground<'_, H>,
+    desk: &Desk<'_, S, L, G>,
+    seat: &mut FillSeat<S, L>,
+    fetcher: &mut Fetcher<'a, S>,
+) -> bool
+    requires seat { IsFillSeatOf desk.now.pool.now seat.old }
+    requires answers { AllowsOrigins (S.answers (source_of desk.now.pool.now)) }
+    ensures { IsLaterSeat desk.now.pool.now seat.old seat.new }
+{
+    let Some(job) = desk.pool.take_job(ground.rt, seat, desk.gate) else {
+        return false;
+    };
+    match fetcher.place(job.group()) {
+        Some(place) => {
+            let done = fetcher.begin(ground, place, job);
+            fill_done(ground.rt, desk, seat, done);
+        }
+        None => {
+            let outcome = outcome_of(desk.alloc, Err(FetchFault::Status(404)));
+            fill(ground.rt, desk, seat, job, outcome);
+        }
+    }
+    true
+}
+
+// Takes jobs while there is room for their values. Whether there was one.
+fn take_jobs<'a, S: Source, L: Ledger, G: Gate, H: Net + Wait>(
+    ground: &Ground<'_, H>,
+    desk: &Desk<'_, S, L, G>,
+    seat: &mut FillSeat<S, L>,
+    fetcher: &mut Fetcher<'a, S>,
+) -> bool
+    requires seat { IsFillSeatOf desk.now.pool.now seat.old }
+    requires answers { AllowsOrigins (S.answers (source_of desk.now.pool.now)) }
+    ensures { IsLaterSeat desk.now.pool.now seat.old seat.new }
+{
+    let mut took = false;
+    for _ in 0..MAX_EVENTS {
+        if !fetcher.has_room() || !take_job(ground, desk, seat, fetcher) {
+            return took;
+        }
+        took = true;
+    }
+    took
+}
+
+// Gives each of those a turn that are to have one by now.
+fn serve_ready<'a, S: Source, L: Ledger, G: Gate, H: Net + Wait>(
+    ground: &Ground<'_, H>,
+    desk: &Desk<'_, S, L, G>,
+    seat: &mut FillSeat<S, L>,
+    fetcher: &mut Fetcher<'a, S>,
+)
+    requires seat { IsFillSeatOf desk.now.pool.now seat.old }
+    requires answers { AllowsOrigins (S.answers (source_of desk.now.pool.now)) }
+    ensures { IsLaterSeat desk.now.pool.now seat.old seat.new }
+{
+    for _ in 0..fetcher.ready_count() {
+        let Some(key) = fetcher.next_ready() else {
+            return;
+        };
+        let done = fetcher.turn(ground, key);
+        fill_done(ground.rt, desk, seat, done);
+    }
+}
+
+// How long the thread may wait for events. Where it has room for a value, it looks for a job behind setting that it
+// sleeps.
+fn time_to_wait<'a, S: Source, L: Ledger, G: Gate, H: Net + Wait>(
+    ground: &Ground<'_, H>,
+    desk: &Desk<'_, S, L, G>,
+    seat: &mut FillSeat<S, L>,
+    fetcher: &mut Fetcher<'a, S>,
+    bell: &FetchBell,
+) -> Option<Duration>
+    requires seat { IsFillSeatOf desk.now.pool.now seat.old }
+    requires answers { AllowsOrigins (S.answers (source_of desk.now.pool.now)) }
+    ensures { IsLaterSeat desk.now.pool.now seat.old seat.new }
+{
+    if fetcher.is_ready() {
+        return Some(Duration::ZERO);
+    }
+    if fetcher.has_room() {
+        bell.fall_asleep();
+        if take_jobs(ground, desk, seat, fetcher) || bell.is_stopping() && fetcher.is_empty() {
+            return Some(Duration::ZERO);
+        }
+    }
+    fetcher.time_left()
+}
+
+// Whether all is done: no more jobs are pushed, there is none, and no value is under way.
+fn work_on<'a, S: Source, L: Ledger, G: Gate, H: Net + Wait>(
+    ground: &Ground<'_, H>,
+    desk: &Desk<'_, S, L, G>,
+    seat: &mut FillSeat<S, L>,
+    fetcher: &mut Fetcher<'a, S>,
+    bell: &FetchBell,
+) -> bool
+    requires seat { IsFillSeatOf desk.now.pool.now seat.old }
+    requires answers { AllowsOrigins (S.answers (source_of desk.now.pool.now)) }
+    ensures { IsLaterSeat desk.now.pool.now seat.old seat.new }
+{
+    let stopping = bell.is_stopping();
+    let took = take_jobs(ground, desk, seat, fetcher);
+    serve_ready(ground, desk, seat, fetcher);
+    stopping && !took && fetcher.is_empty()
+}
+
+impl<'a> FetchThread<'a> {
+    /// What a thread needs that fetches values of these places, which are those of the groups by their numbers; and its
+    /// bell. None where memory or the system refuses it.
+    pub fn new<H: Net>(
+        rt: &H,
+        alloc: Global,
+        places: &'a [Place],
+        settings: FetchThreadSettings,
+    ) -> Option<(FetchThread<'a>, FetchBell)> {
+        let poll = Poll::new(rt).ok()?;
+        let bell = FetchBell::new(&poll)?;
+        let events = Events::with_capacity(alloc, MAX_EVENTS).ok()?;
+        let room = Room::new(alloc, places.len()).ok()?;
+        let thread = FetchThread {
+            alloc,
+            poll,
+            events,
+            room,
+            places,
+            settings,
+        };
+        Some((thread, bell))
+    }
+
+    /// Takes jobs of the pool and fills their flights with what the origins answer, until the bell was stopped, there is no
+    /// job, and no value is under way.
+    pub fn run<S: Source, L: Ledger, G: Gate, H: Net + Clock + Wait>(
+        self,
+        rt: &H,
+        pool: &Pool<S, L>,
+        seat: FillSeat<S, L>,
+        bell: &FetchBell,
+        gate: &G,
+    ) -> FillSeat<S, L>
+        requires seat { IsFillSeatOf pool.now seat }
+        requires answers { AllowsOrigins (S.answers (source_of pool.now)) }
+        ensures { IsLaterSeat pool.now seat result }
+    {
+        let FetchThread {
+            alloc,
+            poll,
+            events,
+            room,
+            places,
+            settings,
+        } = self;
+        let mut thread = Running {
+            poll,
+            events,
+            fetcher: Fetcher::new(alloc, places, settings, room),
+            pause: settings.pause,
+        };
+        let mut seat = seat;
+        let begun = Instant::now(rt).ok();
+        let desk = Desk { alloc, pool, gate };
+        for _ in rt.forever() {
+            if thread.turn(rt, &desk, &mut seat, bell) {
+                return seat;
+            }
+            thread.tell_time(rt, begun);
+        }
+        unreachable!()
+    }
+}
+
+impl<'a, S: Source> Running<'a, S> {
+    // Waits for events so long, and notes them.
+    fn wait<H: Clock>(&mut self, rt: &H, time: Option<Duration>, bell: &FetchBell) {
+        let waited = self.poll.poll(&mut self.events, time);
+        bell.stay_awake();
+        if waited.is_err() {
+            thread::sleep(rt, self.pause);
+            return;
+        }
+        for event in self.events.iter() {
+            if event.token() != WOKEN {
+                self.fetcher.note(event);
+            }
+        }
+    }
+
+    // Tells the time.
+    fn tell_time<H: Clock>(&mut self, rt: &H, begun: Option<Instant>) {
+        if let Some(now) = begun.and_then(|begun| begun.elapsed(rt).ok()) {
+            self.fetcher.tell_time(now);
+        }
+    }
+
+    // One turn: takes jobs, serves those that are ready, and waits. Whether all is done.
+    fn turn<L: Ledger, G: Gate, H: Net + Clock + Wait>(
+        &mut self,
+        rt: &H,
+        desk: &Desk<'_, S, L, G>,
+        seat: &mut FillSeat<S, L>,
+        bell: &FetchBell,
+    ) -> bool
+        requires seat { IsFillSeatOf desk.now.pool.now seat.old }
+        requires answers { AllowsOrigins (S.answers (source_of desk.now.pool.now)) }
+        ensures { IsLaterSeat desk.now.pool.now seat.old seat.new }
+    {
+        let ground = Ground {
+            rt,
+            registry: self.poll.registry(),
+        };
+        if work_on(&ground, desk, seat, &mut self.fetcher, bell) {
+            return true;
+        }
+        let time = time_to_wait(&ground, desk, seat, &mut self.fetcher, bell);
+        self.wait(rt, time, bell);
+        false
+    }
+}

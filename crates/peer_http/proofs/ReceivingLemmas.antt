@@ -1,0 +1,127 @@
+-- A reply, read as its bytes come.
+use Rattle.std.proofs.Common.{true, false, ◌≡◌, ℕ, List, [], ◌∷◌, ◌++◌, drop, Option, Some, None, Result, Ok, Err, sym, refl, ap, ◌∙◌, subst, subst₂, arith, append_assoc, append-nil}
+use Rattle.http1.specs.declared.client.Client.{Client}
+use Rattle.http1.specs.declared.conn.Reading.TheVariants as Reads
+use Rattle.http1.specs.declared.decode.Decoder.{Decoder}
+use Rattle.http1.specs.declared.decode.Decoder.TheVariants.{UntilClose}
+use Rattle.http1.specs.Body.{body_of}
+use Rattle.http1.specs.Decoder.{Completes, decoder_for, with_front}
+use Rattle.http1.proofs.OneParse.{body_from_completes}
+use Rattle.peer_http.specs.Asks.{LIMITS}
+use Rattle.peer_http.specs.Replies.{Interims, IsReply, RepliesAs, TakesEnd, TakesFinal, TakesNothing, TakesPiece}
+use Rattle.peer_http.specs.Receivings.{FindsHead, IsInContent, IsReadTo, IsStanding, Proceeds, TakesContent}
+use Rattle.peer_http.specs.declared.progress.Stage.{Stage}
+use Rattle.peer_http.specs.declared.progress.Stage.TheVariants as stage
+use Rattle.peer_http.specs.declared.reply.Reply.{Reply}
+use Rattle.peer_http.specs.declared.reply.ReplyFault.{ReplyFault}
+use Rattle.peer_http.specs.declared.reply.ReplyFault.TheVariants as told
+use Rattle.peer_http.proofs.ReadLemmas.{accepts_append, interims_append, same_body}
+
+-- the head of the final reply
+pub begins : (came : List ℕ) (c : Client) (unread unread' : List ℕ) (status : ℕ) → Interims came unread → TakesFinal c unread unread' status → IsInContent came status c unread' []
+begins came c unread unread' status is t = (
+  decoder_for LIMITS t.framing,
+  t.body,
+  λ later body rest done. record {
+    start = unread ++ later;
+    interims = interims_append came unread later is;
+    response = record { head = t.head; body = body };
+    rest = rest;
+    reads = record {
+      framing = t.framing;
+      after_head = unread' ++ later;
+      head = accepts_append unread t.head t.framing unread' later t.accepts;
+      body = body_from_completes LIMITS t.framing (unread' ++ later) body rest done;
+    };
+    final = t.final;
+    code = t.code;
+    body = refl;
+  },
+)
+
+-- a piece
+pub goes : (came : List ℕ) (status : ℕ) (d : Decoder) (c : Client) (unread unread' value value' : List ℕ) → Proceeds came status value d unread → TakesPiece d c unread unread' value value' → IsInContent came status c unread' value'
+goes came status d c unread unread' value value' p t = (
+  t.new,
+  t.reading,
+  λ later body rest done.
+      let back = t.continues.back later body rest (subst (λ u. Completes t.new (u ++ later) body rest) t.rest done) in
+      subst (IsReply (came ++ later) status) (sym (append_assoc value t.piece body.bytes) ∙ ap (λ v. v ++ body.bytes) (sym t.grown))
+      (p later (with_front t.piece body) rest back),
+)
+
+-- the end
+pub ends : (came : List ℕ) (status : ℕ) (d : Decoder) (unread unread' value value' : List ℕ) → Proceeds came status value d unread → TakesEnd d unread unread' value value' → IsStanding came status value'
+ends came status d unread unread' value value' p t later =
+    subst (IsReply (came ++ later) status) (append-nil value ∙ sym t.same)
+    (p later (body_of [] t.trailers) (drop t.len unread ++ later) (t.completes later))
+
+-- nothing is left of a body that runs until the end of the connection
+pub drains : (d : Decoder) (c : Client) (unread unread' value value' : List ℕ) → TakesNothing d c unread unread' value value' → c.reading ≡ Reads.Body UntilClose → unread' ≡ []
+drains d c unread unread' value value' t closes = t.drained (same_body (sym t.taken.reading ∙ closes))
+
+-- bytes came
+pub comes : (came bytes : List ℕ) (s : Stage) (c : Client) (unread value : List ℕ) → IsReadTo came s c unread value → IsReadTo (came ++ bytes) s c (unread ++ bytes) value
+comes came bytes stage.Head c unread value (is, empty) = (interims_append came unread bytes is, empty)
+comes came bytes (stage.Content status) c unread value (d, is, p) = (
+  d,
+  is,
+  λ later body rest done.
+      subst (λ t. IsReply t status (value ++ body.bytes)) (sym (append_assoc came bytes later))
+      (p (bytes ++ later) body rest (subst (λ t. Completes d t body rest) (append_assoc unread bytes later) done)),
+)
+comes came bytes stage.Over c unread value h = tt
+
+-- the end of the connection
+pub closes : (came : List ℕ) (status : ℕ) (c : Client) (unread value : List ℕ) → IsInContent came status c unread value → c.reading ≡ Reads.Body UntilClose → unread ≡ [] → IsReply came status value
+closes came status c unread value (d, is, p) until none =
+    let at : d ≡ UntilClose = same_body (sym is ∙ until) in
+    let last : Completes d (unread ++ []) (body_of [] []) [] =
+    subst₂ (λ x u. Completes x (u ++ []) (body_of [] []) []) (sym at) (sym none) (refl, refl, refl) in
+    subst₂ (λ t v. IsReply t status v) (append-nil came) (append-nil value) (p [] (body_of [] []) [] last)
+
+-- a reply that stands is there
+pub stands_now : (came : List ℕ) (status : ℕ) (value : List ℕ) → IsStanding came status value → IsReply came status value
+stands_now came status value s = subst (λ t. IsReply t status value) (append-nil came) (s [])
+
+-- a fault that may come after bytes is not silence
+pub never_silent : (f : ReplyFault) → ((given given' : Option (List ℕ)) → (ends ends' most : ℕ) → RepliesAs given given' ends ends' most (Err f)) → f ≡ told.Silent → ⊥
+never_silent f h e =
+    let none = subst (λ x. RepliesAs (Some []) (Some (0 ∷ [])) 0 0 0 (Err x)) e (h (Some []) (Some (0 ∷ [])) 0 0 0) in
+    grind (arith, none)
+
+other_than : Result Reply ReplyFault → ReplyFault
+other_than (Ok r) = told.Lost
+other_than (Err f) = f
+
+pub no_silence : (f : ReplyFault) → ((given given' : Option (List ℕ)) → (ends ends' most : ℕ) → RepliesAs given given' ends ends' most (Err f)) → (r s : Result Reply ReplyFault) → r ≡ Err f → s ≡ Err told.Silent → r ≡ s → ⊥
+unfolding other_than
+no_silence f h r s is silent e = never_silent f h (ap other_than (sym is ∙ e ∙ silent))
+
+-- no head was found
+pub waits_on : (came : List ℕ) (s : Stage) (c c' : Client) (unread unread' value : List ℕ) → s ≡ stage.Head → FindsHead c' unread unread' (Ok None) → IsReadTo came s c unread value → IsReadTo came s c' unread' value
+waits_on came s c c' unread unread' value is found h =
+    let r = subst (λ x. IsReadTo came x c unread value) is h in
+    subst (λ x. IsReadTo came x c' unread' value) (sym is) (found.1 came r.0, r.1)
+
+-- a head was found
+pub begins_at : (came : List ℕ) (s : Stage) (c c' : Client) (status : ℕ) (unread unread' value value' : List ℕ) → s ≡ stage.Head → FindsHead c' unread unread' (Ok (Some status)) → value' ≡ [] → IsReadTo came s c unread value → IsReadTo came (stage.Content status) c' unread' value'
+begins_at came s c c' status unread unread' value value' is found empty h =
+    let r = subst (λ x. IsReadTo came x c unread value) is h in
+    subst (IsInContent came status c' unread') (sym empty) (found came r.0)
+
+module _ (came : List ℕ) (s : Stage) (status : ℕ) (c c' : Client) (unread unread' value value' : List ℕ) (is : s ≡ stage.Content status) (h : IsReadTo came s c unread value) where
+  in_content : IsInContent came status c unread value
+  in_content = subst (λ x. IsReadTo came x c unread value) is h
+
+  -- more of the content has to come
+  pub waits_in : TakesContent c c' unread unread' value value' (Ok false) → IsReadTo came s c' unread' value'
+  waits_in t = subst (λ x. IsReadTo came x c' unread' value') (sym is) (t.0 came status in_content)
+
+  -- all of it came
+  pub whole : TakesContent c c' unread unread' value value' (Ok true) → IsStanding came status value'
+  whole t = t came status in_content
+
+  -- all of it came with the end of the connection
+  pub whole_at_end : TakesContent c c' unread unread' value value' (Ok false) → c'.reading ≡ Reads.Body UntilClose → IsReply came status value'
+  whole_at_end t until = closes came status c' unread' value' (t.0 came status in_content) until (t.1 in_content.0 in_content.1 until)

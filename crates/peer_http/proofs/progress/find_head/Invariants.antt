@@ -1,0 +1,10 @@
+use Rattle.std.proofs.Common.{ℕ, List}
+use Rattle.peer_http.specs.Asks.{Awaits}
+use Rattle.peer_http.specs.Replies.{Interims}
+use Rattle.peer_http.proofs.progress.find_head.Given as goal
+
+abbrev pub invariant-loop-head : goal.invariant-loop-head
+invariant-loop-head l = record {
+  awaits : Awaits l.client;
+  keeps : (came : List ℕ) → Interims came l.fn.intake → Interims came l.intake;
+}

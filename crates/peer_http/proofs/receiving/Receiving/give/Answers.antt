@@ -1,0 +1,8 @@
+use Rattle.std.proofs.Common.{sym, subst}
+use Rattle.peer_http.specs.Receivings.{IsReadTo}
+use Rattle.peer_http.proofs.receiving.Receiving.give.Goals as goal
+
+pub invariant_of-self-clause-reads : goal.invariant_of-self-clause-reads
+invariant_of-self-clause-reads c =
+    let r = c.args.self.now in
+    ∣ subst (λ s. IsReadTo r.came.bytes s r.client r.intake c.replace-value.new.dest.items) (sym c.requires) tt ∣₁

@@ -1,0 +1,6 @@
+use Rattle.std.proofs.Common.{sym, subst₂}
+use Rattle.peer_http.specs.Replies.{Interims, none}
+use Rattle.peer_http.proofs.receiving.Receiving.new.Goals as goal
+
+pub invariant_of-result-clause-reads : goal.invariant_of-result-clause-reads
+invariant_of-result-clause-reads c = ∣ (subst₂ Interims (sym c.none.ensures) (sym c.new.ensures) none, c.new-2.ensures.items) ∣₁
