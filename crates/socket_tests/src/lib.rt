@@ -9,6 +9,8 @@ mod clients;
 #[cfg(test)]
 mod limited;
 #[cfg(test)]
+mod loops;
+#[cfg(test)]
 mod meeting;
 #[cfg(test)]
 mod servers;

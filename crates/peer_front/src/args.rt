@@ -1,0 +1,230 @@
+//! The words that the program is called with.
+ghost use Rattle.std.specs.Prelude.{◌≤◌};
+
+use crate::size::{bytes_of, number_of};
+use clap::{Arg, ArgAction, ArgMatches, Command};
+use std::alloc::{AllocError, Global};
+use std::time::Duration;
+use thiserror::Error;
+
+/// The most workers, and the most loops.
+pub const MAX_THREADS: u64 = 16;
+
+/// The most connections.
+pub const MAX_CONNECTIONS: u64 = 65_536;
+
+/// The most seconds for a value.
+pub const MAX_TIMEOUT: u64 = 3600;
+
+/// Why a word cannot be used.
+#[derive(Clone, Copy, Debug, PartialEq, Eq, Error)]
+pub enum WordFault {
+    #[error("a number from 1 to {0} is needed")]
+    Number(u64),
+    #[error("a number of bytes is needed, or of KiB, MiB or GiB, such as 64MiB")]
+    Size,
+    #[error("an address and a port are needed, such as 127.0.0.1:8001")]
+    Address,
+}
+
+/// A word that cannot be used, behind the flag that it was given to.
+#[derive(Clone, Copy, Debug, PartialEq, Eq, Error)]
+#[error("{flag} {word}: {fault}")]
+pub struct BadWord<'w> {
+    pub flag: &'w str,
+    pub word: &'w str,
+    pub fault: WordFault,
+}
+
+// A flag with a value.
+fn flag<'a>(
+    alloc: Global,
+    name: &'a str,
+    value: &'a str,
+    default: &'a str,
+    help: &'a str,
+) -> Arg<'a> {
+    Arg::new(alloc, name)
+        .long(name)
+        .value_name(value)
+        .default_value(default)
+        .help(help)
+}
+
+// The flags for what is served.
+fn with_groups<'a>(alloc: Global, command: Command<'a>) -> Result<Command<'a>, AllocError> {
+    command
+        .arg(
+            Arg::new(alloc, "listen")
+                .long("listen")
+                .value_name("ADDR")
+                .required(true)
+                .help("The address to serve, such as 127.0.0.1:8001"),
+        )?
+        .arg(
+            Arg::new(alloc, "demo")
+                .long("demo")
+                .action(ArgAction::SetTrue)
+                .help("Serve the groups echo, square and fill, for demonstrations"),
+        )?
+        .arg(
+            Arg::new(alloc, "table")
+                .long("table")
+                .value_name("FILE")
+                .help("Serve the lines GROUP tab KEY tab VALUE of a file"),
+        )?
+        .arg(
+            Arg::new(alloc, "GROUP=URL")
+                .action(ArgAction::Append)
+                .num_args(0..)
+                .help(
+                    "A group, and what stands before its keys at its origin, such as thumbs=http://10.0.0.7/thumbs/",
+                ),
+        )
+}
+
+// The flags for how it is served.
+fn with_settings<'a>(alloc: Global, command: Command<'a>) -> Result<Command<'a>, AllocError> {
+    command
+        .arg(flag(
+            alloc,
+            "workers",
+            "N",
+            "16",
+            "Threads that call origins, 1 to 16",
+        ))?
+        .arg(flag(
+            alloc,
+            "loops",
+            "N",
+            "2",
+            "Threads that serve connections, 1 to 16",
+        ))?
+        .arg(flag(
+            alloc,
+            "connections",
+            "N",
+            "10000",
+            "Connections open at one moment, 1 to 65536",
+        ))?
+        .arg(flag(
+            alloc,
+            "cache",
+            "BYTES",
+            "64MiB",
+            "What the cache of each group keeps at most, in bytes, KiB, MiB or GiB",
+        ))?
+        .arg(flag(
+            alloc,
+            "memory",
+            "BYTES",
+            "256MiB",
+            "What clients may hold together of replies that they do not take, in bytes, KiB, MiB or GiB",
+        ))?
+        .arg(flag(
+            alloc,
+            "timeout",
+            "SECONDS",
+            "10",
+            "How long an origin may take for a value, 1 to 3600",
+        ))?
+        .arg(
+            Arg::new(alloc, "connection-for-each")
+                .long("connection-for-each")
+                .action(ArgAction::SetTrue)
+                .help("Send each request to an origin on a connection of its own"),
+        )
+}
+
+/// What the program can be called with.
+pub fn command<'a>(alloc: Global) -> Result<Command<'a>, AllocError> {
+    let command = Command::new(alloc, "peer_front").version("0.1.0").about(
+        "A peer server for groupcache's clients, in front of HTTP services, a table or both",
+    );
+    with_settings(alloc, with_groups(alloc, command)?)
+}
+
+/// What the program is asked to do.
+#[derive(Clone, Copy, Debug, PartialEq, Eq)]
+pub struct Options<'w> {
+    pub listen: &'w str,
+    pub demo: bool,
+    pub table: Option<&'w str>,
+    pub workers: usize,
+    pub loops: usize,
+    pub connections: usize,
+    pub cache_bytes: u64,
+    pub memory: usize,
+    pub timeout: Duration,
+    pub connection_for_each: bool,
+}
+
+// The number of a flag.
+fn number<'w>(
+    matches: &ArgMatches<'w>,
+    flag: &'w str,
+    name: &str,
+    most: u64,
+) -> Result<u64, BadWord<'w>> {
+    let word = matches.get_str(name).unwrap_or("");
+    match number_of(word, most) {
+        Some(number) => Ok(number),
+        None => Err(BadWord {
+            flag,
+            word,
+            fault: WordFault::Number(most),
+        }),
+    }
+}
+
+// The size of a flag.
+fn size<'w>(matches: &ArgMatches<'w>, flag: &'w str, name: &str) -> Result<u64, BadWord<'w>> {
+    let word = matches.get_str(name).unwrap_or("");
+    match bytes_of(word) {
+        Some(bytes) => Ok(bytes),
+        None => Err(BadWord {
+            flag,
+            word,
+            fault: WordFault::Size,
+        }),
+    }
+}
+
+// Whether a word is an address and a port.
+fn is_address(word: &str) -> bool {
+    match word.rsplit_once(':') {
+        Some((host, port)) => !host.is_empty() && port.parse::<u16>().is_ok(),
+        None => false,
+    }
+}
+
+// The address to serve.
+fn listen<'w>(matches: &ArgMatches<'w>) -> Result<&'w str, BadWord<'w>> {
+    let word = matches.get_str("listen").unwrap_or("");
+    if is_address(word) {
+        return Ok(word);
+    }
+    Err(BadWord {
+        flag: "--listen",
+        word,
+        fault: WordFault::Address,
+    })
+}
+
+impl<'w> Options<'w> {
+    /// What the words say, or the first that cannot be used.
+    pub fn of(matches: &ArgMatches<'w>) -> Result<Options<'w>, BadWord<'w>> {
+        Ok(Options {
+            listen: listen(matches)?,
+            demo: matches.get_flag("demo"),
+            table: matches.get_str("table"),
+            workers: number(matches, "--workers", "workers", MAX_THREADS)? as usize,
+            loops: number(matches, "--loops", "loops", MAX_THREADS)? as usize,
+            connections: number(matches, "--connections", "connections", MAX_CONNECTIONS)? as usize,
+            cache_bytes: size(matches, "--cache", "cache")?,
+            memory: size(matches, "--memory", "memory")? as usize,
+            timeout: Duration::from_secs(number(matches, "--timeout", "timeout", MAX_TIMEOUT)?),
+            connection_for_each: matches.get_flag("connection-for-each"),
+        })
+    }
+}

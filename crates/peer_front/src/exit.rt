@@ -1,0 +1,34 @@
+//! How the program ends.
+
+use std::process::ExitCode;
+
+/// How the program ends.
+#[derive(Clone, Copy, Debug, PartialEq, Eq)]
+pub struct Exit {
+    pub status: u8,
+}
+
+/// Where what was asked for was done.
+pub const DONE: Exit = Exit { status: 0 };
+
+/// Where a word cannot be used.
+pub const BAD_WORD: Exit = Exit { status: 1 };
+
+/// Where the address cannot be bound.
+pub const CANNOT_BIND: Exit = Exit { status: 2 };
+
+/// Where standard output fails.
+pub const NO_OUTPUT: Exit = Exit { status: 4 };
+
+/// Where memory or a thread was refused.
+pub const OUT_OF_MEMORY: Exit = Exit { status: 5 };
+
+/// Where the system gives no random seed for the caches, so that clients could choose keys that collide.
+pub const NO_SEED: Exit = Exit { status: 7 };
+
+impl Exit {
+    /// The status as the system takes it.
+    pub fn code(self) -> ExitCode {
+        ExitCode::from(self.status)
+    }
+}

@@ -1,0 +1,70 @@
+//! A source that may be missing.
+ghost use Rattle.std.specs.Prelude.{◌≡◌, IfSome, Err};
+ghost use Rattle.peer_source.specs.Reports.{reported};
+ghost use Rattle.peer_front.specs.Maybes.{AllowsMaybe, AnswersMaybe, count_maybe, no_group, number_maybe};
+ghost use Rattle.peer_front.specs.Maybes.{maybe_answered, maybe_limited, maybe_numbered, maybe_within};
+
+use peer_source::{GetFault, GroupId, Source};
+use peer_view::AllocSink;
+use std::alloc::Global;
+
+/// A source that may be missing: then it has no groups.
+#[derive(Drop)]
+pub struct Maybe<S> {
+    pub source: Option<S>,
+}
+
+// The error of a group that a missing source has not.
+fn no_group_fault(alloc: Global, sink: &AllocSink) -> GetFault
+    ensures { IfSome (reported (Err result) sink.now) (λ a. a ≡ no_group) }
+{
+    match b"no such group".to_vec(alloc) {
+        Ok(text) => GetFault::Text(text),
+        Err(_) => GetFault::Memory,
+    }
+}
+
+impl<S: Source> Source for Maybe<S> {
+    ghost answers = { λ s. AnswersMaybe S.answers s.source };
+
+    ghost allowed = { AllowsMaybe S.allowed };
+
+    ghost count = { λ s. count_maybe S.count s.source };
+
+    ghost number_of = { λ s. number_maybe S.number_of s.source };
+
+    fn group_count(&self) -> usize {
+        match &self.source {
+            Some(source) => source.group_count(),
+            None => 0,
+        }
+    }
+
+    fn group(&self, name: &[u8]) -> Option<GroupId> {
+        match &self.source {
+            Some(source) => source.group(name),
+            None => None,
+        }
+    }
+
+    fn get(
+        &self,
+        alloc: Global,
+        group: GroupId,
+        key: &[u8],
+        sink: &mut AllocSink,
+    ) -> Result<(), GetFault> {
+        match &self.source {
+            Some(source) => source.get(alloc, group, key, sink),
+            None => Err(no_group_fault(alloc, sink)),
+        }
+    }
+
+    ghost within = { λ s g k a h. maybe_within S.answers S.allowed S.within s.source g k a h };
+
+    ghost limited = { λ g k a h. maybe_limited S.answers S.allowed S.limited g k a h };
+
+    ghost answered = { λ s g k. maybe_answered S.answers S.allowed S.answered s.source g k };
+
+    ghost numbered = { λ s name i e. maybe_numbered S.count S.number_of S.numbered s.source name i e };
+}

@@ -1,0 +1,67 @@
+//! The table that is served.
+
+use peer_table::{TableFault, TableSource};
+use peer_view::StdReader;
+use std::alloc::Global;
+use std::fs::Files;
+use std::{fs, io};
+use thiserror::Error;
+
+// How many reads are made at most for a table.
+const TABLE_READS: u64 = 1_000_000;
+
+/// Why no table could be read.
+#[derive(Debug, Drop, Error)]
+pub enum NoTable {
+    #[error("{0}")]
+    Open(io::Error),
+    #[error("read failed")]
+    Read,
+    #[error("too many reads")]
+    Spent,
+    #[error("bad table at line {0}")]
+    Line(usize),
+    #[error("table too large")]
+    TooLarge,
+    #[error("out of memory")]
+    Memory,
+}
+
+impl NoTable {
+    /// The status of the program.
+    pub fn status(&self) -> u8 {
+        match self {
+            NoTable::Open(_) => 1,
+            NoTable::Line(_) | NoTable::TooLarge => 2,
+            NoTable::Read => 3,
+            NoTable::Memory => 5,
+            NoTable::Spent => 6,
+        }
+    }
+}
+
+// What a fault of a table is for the program.
+fn no_table(fault: &TableFault) -> NoTable {
+    match fault {
+        TableFault::ReadFault => NoTable::Read,
+        TableFault::Spent => NoTable::Spent,
+        TableFault::TooLarge => NoTable::TooLarge,
+        TableFault::Line(n)
+        | TableFault::Repeated(n)
+        | TableFault::Groups(n)
+        | TableFault::Value(n) => NoTable::Line(*n),
+        TableFault::Memory => NoTable::Memory,
+    }
+}
+
+/// Reads the table of a file.
+pub fn read_table<H: Files>(rt: &H, alloc: Global, path: &str) -> Result<TableSource, NoTable> {
+    let file = match fs::open(rt, path) {
+        Ok(file) => file,
+        Err(error) => return Err(NoTable::Open(error)),
+    };
+    match TableSource::read_from(alloc, &mut StdReader::new(file), TABLE_READS) {
+        Ok(table) => Ok(table),
+        Err(fault) => Err(no_table(&fault)),
+    }
+}

@@ -1,0 +1,101 @@
+//! Tests of the words that the program is called with: what each bad one prints.
+use crate::args::{Options, command};
+use crate::size::bytes_of;
+use std::alloc::Global;
+use std::test::Fail;
+
+// What the options of these words print where one cannot be used, or nothing.
+fn told(alloc: Global, words: &[&str]) -> Result<String, Fail> {
+    let matches = command(alloc)?.try_get_matches_from(words)?;
+    match Options::of(&matches) {
+        Ok(_) => Ok(String::new(alloc)),
+        Err(bad) => Ok(format!(in alloc; "{bad}")?),
+    }
+}
+
+// Whether a flag with this value prints this.
+fn tells(alloc: Global, flag: &str, value: &str, text: &str) -> Result<bool, Fail> {
+    let words = ["peer_front", "--listen", "127.0.0.1:1", flag, value];
+    Ok(told(alloc, &words)?.as_str() == text)
+}
+
+#[test]
+fn numbers_are_within_their_bounds(rt: HostRuntime) -> Result<(), Fail> {
+    let alloc = rt.alloc();
+    let mut right = true;
+    for (flag, value, text) in [
+        ("--workers", "16", ""),
+        (
+            "--workers",
+            "0",
+            "--workers 0: a number from 1 to 16 is needed",
+        ),
+        (
+            "--workers",
+            "17",
+            "--workers 17: a number from 1 to 16 is needed",
+        ),
+        (
+            "--loops",
+            "+1",
+            "--loops +1: a number from 1 to 16 is needed",
+        ),
+        ("--loops", "x", "--loops x: a number from 1 to 16 is needed"),
+        ("--connections", "65536", ""),
+        (
+            "--connections",
+            "65537",
+            "--connections 65537: a number from 1 to 65536 is needed",
+        ),
+        (
+            "--timeout",
+            "",
+            "--timeout : a number from 1 to 3600 is needed",
+        ),
+        (
+            "--timeout",
+            "99999999999999999999",
+            "--timeout 99999999999999999999: a number from 1 to 3600 is needed",
+        ),
+    ] {
+        right &= tells(alloc, flag, value, text)?;
+    }
+    assert!(rt; right);
+    Ok(())
+}
+
+#[test]
+fn sizes_are_numbers_with_a_unit(rt: HostRuntime) {
+    let mut right = true;
+    for (text, bytes) in [
+        ("0", Some(0)),
+        ("1048576", Some(1_048_576)),
+        ("1KiB", Some(1024)),
+        ("64MiB", Some(67_108_864)),
+        ("2GiB", Some(2_147_483_648)),
+        ("64MB", None),
+        ("MiB", None),
+        ("", None),
+        ("-1", None),
+        ("1 MiB", None),
+        ("18446744073709551616", None),
+        ("18446744073709551615GiB", None),
+    ] {
+        right &= bytes_of(text) == bytes;
+    }
+    assert!(rt; right);
+}
+
+#[test]
+fn an_address_has_a_port(rt: HostRuntime) -> Result<(), Fail> {
+    let alloc = rt.alloc();
+    let mut right = true;
+    for word in ["127.0.0.1", ":80", "127.0.0.1:", "127.0.0.1:65536", "a:b"] {
+        let text = told(alloc, &["peer_front", "--listen", word])?;
+        right &= text.as_str().ends_with(
+            ": an address and a port are needed, such as 127.0.0.1:8001",
+        );
+    }
+    assert!(rt; right);
+    Ok(())
+}

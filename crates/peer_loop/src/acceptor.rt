@@ -1,0 +1,110 @@
+//! The thread that accepts: it deals streams to the loops in turn.
+//!
+//! Where no more connections can be had, new clients wait in the backlog of the system until one ends.
+
+use crate::limits::Limits;
+use crate::mailboxes::Mailboxes;
+use crate::occupancy::Occupancy;
+use mio::net::{TcpListener, TcpStream};
+use mio::{Events, Poll};
+use std::io::ErrorKind;
+use std::sync::Wait;
+use std::thread;
+use std::thread::Threads;
+use std::time::Clock;
+
+/// Where a server gets its clients.
+#[derive(Drop)]
+pub struct Acceptor<'a> {
+    pub listener: TcpListener,
+    pub poll: Poll,
+    pub events: Events,
+    pub mailboxes: &'a Mailboxes,
+    pub occupancy: &'a Occupancy,
+    pub limits: &'a Limits,
+    /// How many connections are accepted yet, none where there is no end.
+    pub left: Option<u64>,
+}
+
+impl<'a> Acceptor<'a> {
+    // Lets some time pass behind a call that failed.
+    fn pause<H: Threads + Wait + Clock>(&self, rt: &H) {
+        thread::sleep(rt, self.limits.pause);
+    }
+
+    // Waits for clients, or for room.
+    fn wait<H: Threads + Wait + Clock>(&mut self, rt: &H) {
+        if self.poll.poll(&mut self.events, None).is_err() {
+            self.pause(rt);
+        }
+    }
+
+    // Gives a stream to a loop, and waits where too many wait there.
+    fn give<H: Threads + Wait + Clock>(&self, rt: &H, mut stream: TcpStream, turn: usize) {
+        let Some(mailbox) = self.mailboxes.each.get(turn) else {
+            return;
+        };
+        self.occupancy.enter();
+        for _ in rt.forever() {
+            match mailbox.give(rt, stream) {
+                Ok(()) => return,
+                Err(back) => stream = back,
+            }
+            self.pause(rt);
+        }
+        unreachable!()
+    }
+
+    // Accepts one stream, or waits, and says whether there was one.
+    fn accept<H: Threads + Wait + Clock>(&mut self, rt: &H, turn: usize) -> bool {
+        if self.occupancy.is_full() {
+            self.occupancy.want_room();
+            if self.occupancy.is_full() {
+                self.wait(rt);
+            }
+            return false;
+        }
+        match self.listener.accept() {
+            Ok((stream, _)) => {
+                if stream.set_nodelay(true).is_ok() {
+                    self.give(rt, stream, turn);
+                }
+                true
+            }
+            Err(error) => {
+                match error.kind() {
+                    ErrorKind::WouldBlock => self.wait(rt),
+                    _ => self.pause(rt),
+                }
+                false
+            }
+        }
+    }
+
+    // The loop behind this one.
+    fn behind(&self, turn: usize) -> usize {
+        let next = turn.wrapping_add(1);
+        if next < self.mailboxes.each.len() {
+            next
+        } else {
+            0
+        }
+    }
+
+    /// Accepts as many connections as it is to, and deals them to the loops in turn.
+    pub fn run<H: Threads + Wait + Clock>(&mut self, rt: &H) {
+        let mut turn = 0;
+        for _ in rt.forever() {
+            if self.left == Some(0) {
+                return;
+            }
+            if self.accept(rt, turn) {
+                turn = self.behind(turn);
+                if let Some(left) = &mut self.left {
+                    *left = left.saturating_sub(1);
+                }
+            }
+        }
+        unreachable!()
+    }
+}

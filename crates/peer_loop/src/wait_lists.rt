@@ -1,0 +1,117 @@
+//! Which clients of a loop wait for the fills at each slot.
+//!
+//! The lists are chained through one entry for each client, so that to list a client takes no memory and cannot fail.
+
+use crate::mailbox::SLOTS;
+use std::alloc::{AllocError, Global};
+
+// Where a client is listed, and who is listed behind it.
+#[derive(Clone, Copy)]
+struct Entry {
+    slot: Option<usize>,
+    next: Option<usize>,
+}
+
+const UNLISTED: Entry = Entry {
+    slot: None,
+    next: None,
+};
+
+/// A list for each slot. A client is on one list at most.
+#[derive(Drop)]
+pub struct WaitLists {
+    first: [Option<usize>; SLOTS],
+    entries: Vec<Entry>,
+    // How many are listed.
+    count: usize,
+}
+
+impl WaitLists {
+    /// Nobody waits. It takes no memory yet.
+    pub fn new(alloc: Global) -> WaitLists {
+        WaitLists {
+            first: [None; SLOTS],
+            entries: Vec::new(alloc),
+            count: 0,
+        }
+    }
+
+    /// Whether nobody waits.
+    pub fn is_empty(&self) -> bool {
+        self.count == 0
+    }
+
+    /// Makes room for the entry of this client.
+    pub fn reserve(&mut self, key: usize) -> Result<(), AllocError> {
+        for _ in self.entries.len()..key.saturating_add(1) {
+            self.entries.push(UNLISTED)?;
+        }
+        Ok(())
+    }
+
+    /// The slot at which a client is listed.
+    pub fn slot(&self, key: usize) -> Option<usize> {
+        self.entries.get(key)?.slot
+    }
+
+    /// Lists a client, which is on no list, at the slot.
+    pub fn put(&mut self, slot: usize, key: usize) {
+        let (Some(first), Some(entry)) = (self.first.get_mut(slot), self.entries.get_mut(key))
+        else {
+            return;
+        };
+        entry.slot = Some(slot);
+        entry.next = first.replace(key);
+        self.count = self.count.saturating_add(1);
+    }
+
+    /// Takes one client off the list of the slot.
+    pub fn pop(&mut self, slot: usize) -> Option<usize> {
+        let first = self.first.get_mut(slot)?;
+        let key = (*first)?;
+        let entry = self.entries.get_mut(key)?;
+        *first = entry.next;
+        *entry = UNLISTED;
+        self.count = self.count.saturating_sub(1);
+        Some(key)
+    }
+
+    // Whom the client before this one, on the list of the slot, has behind it: that is `next` from now on.
+    fn unlink(&mut self, slot: usize, key: usize, next: Option<usize>) {
+        let mut at = match self.first.get(slot) {
+            Some(first) => *first,
+            None => None,
+        };
+        for _ in 0..self.entries.len() {
+            let Some(before) = at.and_then(|before| self.entries.get_mut(before)) else {
+                return;
+            };
+            if before.next == Some(key) {
+                before.next = next;
+                return;
+            }
+            at = before.next;
+        }
+    }
+
+    /// Takes one client off its list.
+    pub fn remove(&mut self, key: usize) {
+        let Some(
+            Entry {
+                slot: Some(slot),
+                next,
+            },
+        ) = self.entries.get(key).copied()
+        else {
+            return;
+        };
+        match self.first.get_mut(slot) {
+            Some(first) if *first == Some(key) => *first = next,
+            _ => self.unlink(slot, key, next),
+        }
+        if let Some(entry) = self.entries.get_mut(key) {
+            *entry = UNLISTED;
+        }
+        self.count = self.count.saturating_sub(1);
+    }
+}
