@@ -1,0 +1,101 @@
+#!/usr/bin/env python3
+"""Each flag of the built peer_front, each bad word, and its status with its line on standard error.
+
+    (cd crates/peer_front && rt run -- --version)      # builds it
+    python3 bench/front_statuses.py [crates/peer_front/out/peer_front]
+
+Its last line is `rows N failures 0`; where a row fails, so does the program.
+"""
+import os
+import socket
+import subprocess
+import sys
+import tempfile
+
+PROGRAM = sys.argv[1] if len(sys.argv) > 1 else "crates/peer_front/out/peer_front"
+
+
+def taken_address():
+    listener = socket.socket()
+    listener.bind(("127.0.0.1", 0))
+    listener.listen()
+    return listener, "127.0.0.1:%d" % listener.getsockname()[1]
+
+
+def table(data):
+    file = tempfile.NamedTemporaryFile(delete=False)
+    file.write(data)
+    file.close()
+    return file.name
+
+
+LISTENER, TAKEN = taken_address()
+HERE = ["--listen", "127.0.0.1:0"]
+GOOD = table(b"colors\tred\tv\n")
+BAD = table(b"colors\tred\n")
+TWICE = table(b"g\tk\tv\ng\tk\tv\n")
+LARGE = table(b"x" * 16777217)
+ECHO = table(b"echo\tk\tv\n")
+URL = "http://127.0.0.1:1/"
+THREADS = "a number from 1 to 16 is needed"
+SIZE = "a number of bytes is needed, or of KiB, MiB or GiB, such as 64MiB"
+
+# the words, the status, what standard error holds
+ROWS = [
+    (["--version"], 0, ""),
+    (["--help"], 0, ""),
+    ([], 1, "--listen <ADDR>"),
+    (HERE, 1, "peer_front: nothing to serve: give GROUP=URL, --table FILE or --demo\n"),
+    (["--listen", "127.0.0.1", "--demo"], 1,
+     "peer_front: --listen 127.0.0.1: an address and a port are needed, such as 127.0.0.1:8001\n"),
+    (["--listen", TAKEN, "--demo"], 2, f"peer_front: cannot serve {TAKEN}: "),
+    (HERE + ["--demo", "--nothing"], 1, "--nothing"),
+    (HERE + ["--demo", "--workers", "0"], 1, f"peer_front: --workers 0: {THREADS}\n"),
+    (HERE + ["--demo", "--workers", "17"], 1, f"peer_front: --workers 17: {THREADS}\n"),
+    (HERE + ["--demo", "--loops", "x"], 1, f"peer_front: --loops x: {THREADS}\n"),
+    (HERE + ["--demo", "--loops", "17"], 1, f"peer_front: --loops 17: {THREADS}\n"),
+    (HERE + ["--demo", "--connections", "0"], 1, "peer_front: --connections 0: a number from 1 to 65536 is needed\n"),
+    (HERE + ["--demo", "--connections", "65537"], 1, "peer_front: --connections 65537: a number from 1 to 65536 is needed\n"),
+    (HERE + ["--demo", "--cache", "64MB"], 1, f"peer_front: --cache 64MB: {SIZE}\n"),
+    (HERE + ["--demo", "--memory", "18446744073709551615GiB"], 1, f"peer_front: --memory 18446744073709551615GiB: {SIZE}\n"),
+    (HERE + ["--demo", "--timeout", "0"], 1, "peer_front: --timeout 0: a number from 1 to 3600 is needed\n"),
+    (HERE + ["--demo", "--timeout", "3601"], 1, "peer_front: --timeout 3601: a number from 1 to 3600 is needed\n"),
+    (HERE + ["colors"], 1, "peer_front: colors: GROUP=URL is needed, such as thumbs=http://10.0.0.7/thumbs/\n"),
+    (HERE + ["=" + URL], 1, f"peer_front: ={URL}: GROUP=URL is needed, such as thumbs=http://10.0.0.7/thumbs/\n"),
+    (HERE + ["a=ftp://127.0.0.1/"], 1, "peer_front: a=ftp://127.0.0.1/: "),
+    (HERE + ["a=https://127.0.0.1/"], 1, "peer_front: a=https://127.0.0.1/: https is not supported: "),
+    (HERE + ["a=http://name.invalid/"], 1, "peer_front: a=http://name.invalid/: "),
+    (HERE + ["a=" + URL, "a=" + URL], 1, f"peer_front: a={URL}: a group of this name is served already\n"),
+    (HERE + ["--table", GOOD, "colors=" + URL], 1, f"peer_front: colors={URL}: a group of this name is served already\n"),
+    (HERE + ["--demo", "echo=" + URL], 1, f"peer_front: echo={URL}: a group of this name is served already\n"),
+    (HERE + ["--demo", "--table", ECHO], 1, "peer_front: --demo: a group of this name is served already\n"),
+    (HERE + [f"g{i}={URL}" for i in range(65)], 1, f"peer_front: g64={URL}: there are more than 64 groups\n"),
+    (HERE + ["--table", "/nothing/here"], 1, "/nothing/here"),
+    (HERE + ["--table", BAD], 2, "bad table at line 1\n"),
+    (HERE + ["--table", TWICE], 2, "bad table at line 2\n"),
+    (HERE + ["--table", LARGE], 2, "table too large\n"),
+]
+
+failures = 0
+for words, status, text in ROWS:
+    done = subprocess.run([PROGRAM] + words, capture_output=True, timeout=60)
+    told = done.stderr.decode()
+    if done.returncode != status or text not in told:
+        failures += 1
+        print("words", words[:6], "status", done.returncode, "wanted", status, "told", repr(told), "wanted", repr(text))
+
+# Each flag with a good value is taken: the program says that it listens.
+for words in [["--demo", "--workers", "1", "--loops", "1", "--connections", "1", "--cache", "0", "--memory", "1KiB"],
+              ["--table", GOOD, "--timeout", "1"], ["a=" + URL, "--connection-for-each"], ["--table", GOOD, "--demo", "a=" + URL]]:
+    run = subprocess.Popen([PROGRAM] + HERE + words, stdout=subprocess.PIPE)
+    line = run.stdout.readline()
+    run.kill()
+    run.wait()
+    if line != b"listening\n":
+        failures += 1
+        print("words", words, "printed", line)
+
+for name in (GOOD, BAD, TWICE, LARGE, ECHO):
+    os.unlink(name)
+print("rows", len(ROWS) + 4, "failures", failures)
+sys.exit(1 if failures else 0)
