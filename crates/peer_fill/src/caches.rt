@@ -1,5 +1,6 @@
 //! The main caches of a pool as it locks them: one for each group of its source.
-ghost use Rattle.std.specs.Prelude.{IfOk, IfSome};
+ghost use Rattle.std.specs.Prelude.{◌≡◌, ◌-◌, ◌^◌, IfOk, IfSome, min, sum_by};
+ghost use Rattle.peer_source.specs.Caches.{bytes_in};
 ghost use Rattle.peer_fill.specs.Caches.{IsFoundFor, EachInPlace};
 
 use peer_source::{Evicted, Fill, GroupId, MainCache, Source};
@@ -37,6 +38,17 @@ impl<S: Source> Caches<S> {
             return Ok(None);
         };
         cache.get(key)
+    }
+
+    /// The bytes that all of them keep, 2^64 - 1 at most.
+    pub fn bytes(&self) -> u64
+        ensures { result ≡ min (sum_by (λ c. bytes_in c.entries) self.now.each.items) (2 ^ 64 - 1) }
+    {
+        let mut bytes = 0u64;
+        for cache in &self.each {
+            bytes = bytes.saturating_add(cache.bytes());
+        }
+        bytes
     }
 
     /// Keeps a value that was found, in the cache of its group.

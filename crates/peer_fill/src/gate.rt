@@ -9,6 +9,9 @@ pub trait Gate: Sync {
 
     /// The flight with this number has its fill, and has not landed yet.
     fn after_put<R: Wait>(&self, rt: &R, number: u64, group: GroupId, key: &[u8]);
+
+    /// The worker has called the source for so many jobs by now, and found the value of so many kept.
+    fn after_count(&self, _calls: u64, _rehits: u64) {}
 }
 
 /// Holds nobody back.

@@ -15,6 +15,7 @@ use crate::signals::Signals;
 use crate::table::{Counted, HasSixteenParts};
 use crossbeam_utils::CachePadded;
 use peer_source::{Names, Source};
+use peer_wait::lock;
 use std::alloc::Global;
 use std::hash::RandomState;
 use std::sync::atomic::AtomicBool;
@@ -92,6 +93,11 @@ impl<S: Source, L: Ledger> Pool<S, L> {
         ensures { result ≡ source_of self.now }
     {
         Names::of(&self.source)
+    }
+
+    /// The bytes of keys and values that the caches of all groups keep.
+    pub fn cached_bytes<R: Wait>(&self, rt: &R) -> u64 {
+        lock(rt, &self.caches).bytes()
     }
 
     /// Tells the workers to return once they find no job.

@@ -196,8 +196,25 @@ impl<S: Source, L: Ledger> Pool<S, L> {
         evicted.clear();
     }
 
-    // Looks into the cache again, and calls the source where there is no value. What the source finds is kept, unless
-    // memory refuses that.
+    // What a call of the source gives. A value that it finds is kept, unless memory refuses that.
+    fn call<R: Wait>(
+        &self,
+        rt: &R,
+        alloc: Global,
+        group: GroupId,
+        key: ByteView,
+        evicted: &mut Evicted,
+    ) -> Fill<S>
+        ensures group { result.group ≡ group.number }
+        ensures key { result.key ≡ key }
+        ensures answer { IfSome result.answer (S.answers (source_of self.now) group.number key) }
+    {
+        let fill = Fill::run(alloc, &self.source, group, key);
+        self.keep(rt, &fill, evicted);
+        fill
+    }
+
+    // Looks into the cache again, and calls the source where there is no value.
     fn make<R: Wait>(
         &self,
         rt: &R,
@@ -211,9 +228,7 @@ impl<S: Source, L: Ledger> Pool<S, L> {
         if let Some(fill) = self.cached_fill(rt, group, &key) {
             return Made::Rehit(fill);
         }
-        let fill = Fill::run(alloc, &self.source, group, key);
-        self.keep(rt, &fill, evicted);
-        Made::Called(fill)
+        Made::Called(self.call(rt, alloc, group, key, evicted))
     }
 
     // Sets the fill of the flight, which is of the flight's group and key, and tells those who wait for it.
@@ -280,6 +295,7 @@ impl<S: Source, L: Ledger> Pool<S, L> {
         gate.before_call(rt, group, key.as_slice());
         let made = self.make(rt, alloc, group, key, &mut seat.evicted);
         seat.fills.count(&made);
+        gate.after_count(seat.fills.calls, seat.fills.rehits);
         self.tell_of_room(&seat.fills);
         self.put_and_land(rt, right, made.into_fill(), gate);
         true
@@ -360,12 +376,36 @@ impl<S: Source, L: Ledger> Pool<S, L> {
             gate.before_call(rt, group, key.as_slice());
             let Some(fill) = self.cached_fill(rt, group, &key) else {
                 seat.fills.calls += 1;
+                gate.after_count(seat.fills.calls, seat.fills.rehits);
                 return Some(TakenJob { right, key });
             };
             seat.fills.rehits += 1;
+            gate.after_count(seat.fills.calls, seat.fills.rehits);
             self.put_and_land(rt, right, fill, gate);
         }
         None
+    }
+
+    /// Fills the flight of the job as a worker does: by a call of the source. A value that it finds is kept, unless memory
+    /// refuses that. Those who wait are told, and the flight is landed.
+    pub fn fill_job<R: Wait, G: Gate>(
+        &self,
+        rt: &R,
+        alloc: Global,
+        seat: &mut FillSeat<S, L>,
+        job: TakenJob<S>,
+        gate: &G,
+    )
+        requires { IsFillSeatOf self.now seat.old }
+        ensures seat { IsFillSeatOf self.now seat.new }
+        ensures parts { fill_parts seat.new ≡ fill_parts seat.old }
+        ensures counts { fills_of seat.new ≡ fills_of seat.old }
+    {
+        seat.make_room();
+        let TakenJob { right, key } = job;
+        let group = right.flight().group();
+        let fill = self.call(rt, alloc, group, key, &mut seat.evicted);
+        self.put_and_land(rt, right, fill, gate);
     }
 
     /// Sets the fill of the job's flight: this answer. A value that was found is kept, unless memory refuses that. Those who

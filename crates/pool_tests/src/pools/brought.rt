@@ -87,6 +87,8 @@ struct Seen {
     gate: [u64; 2],
     // How many jobs were filled of three, at most two, and then all that were left.
     filled: [usize; 3],
+    // Whether a job that was filled by a call shows its value, and the caches keep it.
+    called: [bool; 2],
 }
 
 // Takes the jobs of two claims, and finishes the second one first.
@@ -135,7 +137,33 @@ fn work_off<L: Ledger, R: Wait>(
     [two, one, none]
 }
 
-// Asks for two keys whose values are brought, and then for three that are filled.
+// Takes the job of a flight, and has it filled by a call of the source. Whether its value is shown, and is kept where the
+// caches may keep it.
+fn fill_one<L: Ledger, R: Wait>(
+    rt: &R,
+    alloc: Global,
+    pool: &Pool<Numbering, L>,
+    seat: &mut ConnSeat<Numbering, L>,
+    fill: &mut FillSeat<Numbering, L>,
+    gate: &Counting,
+) -> Option<[bool; 2]>
+    requires seat { IsConnSeatOf pool.now seat.old }
+    requires fill { IsFillSeatOf pool.now fill.old }
+    requires groups { 0 < (source_of pool.now).groups }
+    ensures seat { IsConnSeatOf pool.now seat.new }
+    ensures fill { IsFillSeatOf pool.now fill.new }
+{
+    let before = pool.cached_bytes(rt);
+    let claim = ask_in(rt, alloc, pool, seat, ECHO, b"six")?;
+    let job = pool.take_job(rt, fill, gate)?;
+    pool.fill_job(rt, alloc, fill, job, gate);
+    let mut note = claim.note();
+    let value = value_of(claim.look(&mut note)?);
+    let is_kept = pool.cached_bytes(rt) == before.saturating_add(7);
+    Some([value.starts_with(b"six") && value.len() == 4, is_kept])
+}
+
+// Asks for two keys whose values are brought, and then for four that are filled.
 fn use_seats<L: Ledger, R: Wait>(
     rt: &R,
     alloc: Global,
@@ -159,6 +187,7 @@ fn use_seats<L: Ledger, R: Wait>(
     let (own, shown, is_last) = bring_both(rt, pool, fill, &[one, two], &gate);
     let hit = ask_in(rt, alloc, pool, seat, ECHO, b"two")?;
     let filled = work_off(rt, alloc, pool, seat, fill, &gate);
+    let called = fill_one(rt, alloc, pool, seat, fill, &gate)?;
     Some(Seen {
         none: [is_empty, is_last],
         own,
@@ -166,6 +195,7 @@ fn use_seats<L: Ledger, R: Wait>(
         hit: matches!(hit, Claim::Ready(_)),
         gate: [gate.before.load(SeqCst), gate.after.load(SeqCst)],
         filled,
+        called,
     })
 }
 
@@ -219,9 +249,10 @@ fn expected(hit: bool, filled: [usize; 3], led: u64) -> Option<(Option<Seen>, Op
         hit,
         gate: [led, led],
         filled,
+        called: [true, hit],
     };
     let report = Report {
-        asked: 6,
+        asked: 7,
         hits: u64::from(hit),
         led,
         joined: 0,
@@ -236,7 +267,7 @@ fn expected(hit: bool, filled: [usize; 3], led: u64) -> Option<(Option<Seen>, Op
 #[test]
 fn a_value_that_is_brought_is_shown_told_and_kept(rt: HostRuntime) -> Result<(), Fail> {
     let found = with_brought::<Brand, HostRuntime>(&rt, rt.alloc(), 1000, Blank::new(16));
-    assert_eq!(rt; found, expected(true, [2, 1, 0], 5));
+    assert_eq!(rt; found, expected(true, [2, 1, 0], 6));
     Ok(())
 }
 
@@ -244,6 +275,6 @@ fn a_value_that_is_brought_is_shown_told_and_kept(rt: HostRuntime) -> Result<(),
 #[test]
 fn a_flight_whose_answer_was_brought_has_landed(rt: HostRuntime) -> Result<(), Fail> {
     let found = with_brought::<Brand, HostRuntime>(&rt, rt.alloc(), 0, Blank::new(16));
-    assert_eq!(rt; found, expected(false, [2, 2, 0], 6));
+    assert_eq!(rt; found, expected(false, [2, 2, 0], 7));
     Ok(())
 }
