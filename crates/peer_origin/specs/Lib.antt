@@ -1,4 +1,5 @@
 pub mod Fetches
+pub mod Kinds
 pub mod Origins
 pub mod Targets
 pub mod Texts

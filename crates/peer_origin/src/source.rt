@@ -1,7 +1,9 @@
 //! The source over origins.
-ghost use Rattle.std.specs.Prelude.{◌≡◌, ◌+◌, ◌<◌, ◌≤◌, length, drop, IfSome, IfOk, option_map};
+ghost use Rattle.std.specs.Prelude.{◌≡◌, ◌+◌, ◌<◌, ◌≤◌, ℕ, List, length, drop, Err, IfSome, IfOk, option_map};
+ghost use Rattle.peer_source.specs.Answers.{Failed};
 ghost use Rattle.peer_source.specs.Reports.{reported};
 ghost use Rattle.peer_origin.specs.Origins.{IsOriginAnswer, number_from, origin_answered, origin_limited, origin_numbered};
+ghost use Rattle.peer_origin.specs.Texts.{text_of};
 
 use crate::deadline::Deadline;
 use crate::exchange::fetch;
@@ -11,25 +13,34 @@ use crate::settings::FetchSettings;
 use crate::sockets::Sockets;
 use bytes::Bytes;
 use peer_source::{GetFault, GroupId, Source};
+use peer_stats::FailureSlots;
 use peer_view::{AllocSink, ByteView, SinkFault};
 use std::alloc::Global;
 use std::net::{Net, TcpListener, TcpStream};
 use std::sync::Wait;
 use std::time::Clock;
 
-/// A source of what origins answer, one for each group. It holds the runtime, by which it connects and tells the time.
+/// A source of what origins answer, one for each group. It holds the runtime, by which it connects and tells the time, and
+/// counts there why an origin gave no value.
 #[derive(Drop)]
 pub struct OriginSource<'a, H> {
     rt: &'a H,
+    failures: &'a FailureSlots,
     origins: Vec<Origin>,
     settings: FetchSettings,
 }
 
 impl<'a, H> OriginSource<'a, H> {
     /// A source over these origins, in the order of their groups' numbers.
-    pub fn new(rt: &'a H, origins: Vec<Origin>, settings: FetchSettings) -> OriginSource<'a, H> {
+    pub fn new(
+        rt: &'a H,
+        failures: &'a FailureSlots,
+        origins: Vec<Origin>,
+        settings: FetchSettings,
+    ) -> OriginSource<'a, H> {
         OriginSource {
             rt,
+            failures,
             origins,
             settings,
         }
@@ -48,6 +59,14 @@ fn put(value: Vec<u8>, sink: &mut AllocSink) -> Result<(), GetFault>
         Err(SinkFault::TooLong) => Err(GetFault::TooLong),
         Err(SinkFault::Memory) => Err(GetFault::Memory),
     }
+}
+
+// Counts a fault, and says what it is for a source.
+fn counted(alloc: Global, failures: &FailureSlots, fault: FetchFault) -> GetFault
+    ensures { (value : List ℕ) → IfSome (reported (Err result) value) (λ a. a ≡ Failed (text_of fault)) }
+{
+    failures.count(fault.kind());
+    get_fault(alloc, fault)
 }
 
 // The number of the origin with a name.
@@ -93,7 +112,7 @@ impl<'a, H: Net<Listener = TcpListener, Stream = TcpStream> + Clock + Wait + Syn
             return Err(get_fault(alloc, FetchFault::Status(404)));
         };
         let Some(deadline) = Deadline::begin(self.rt, self.settings.value) else {
-            return Err(get_fault(alloc, FetchFault::Late));
+            return Err(counted(alloc, self.failures, FetchFault::Late));
         };
         let mut sockets = Sockets::new(self.rt, alloc, origin, &self.settings, &deadline);
         match fetch(
@@ -104,7 +123,7 @@ impl<'a, H: Net<Listener = TcpListener, Stream = TcpStream> + Clock + Wait + Syn
             key,
         ) {
             Ok(value) => put(value, sink),
-            Err(fault) => Err(get_fault(alloc, fault)),
+            Err(fault) => Err(counted(alloc, self.failures, fault)),
         }
     }
 

@@ -6,7 +6,7 @@ pub returns-in_default : goal.returns-in_default
 returns-in_default g c = fault_answers (fault.Status 404) _ (c.get_fault.ensures c.args.sink.now)
 
 pub returns-in-Err : goal.returns-in-Err
-returns-in-Err g c = fault_answers c.in-Err.fault _ (c.get_fault-in-Err.ensures c.args.sink.now)
+returns-in-Err g c = fault_answers c.in-Err.fault _ (c.counted-in-Err.ensures c.args.sink.now)
 
 pub returns-in_default-begin : goal.returns-in_default-begin
-returns-in_default-begin g c = fault_answers fault.Late _ (c.get_fault-in_default-begin.ensures c.args.sink.now)
+returns-in_default-begin g c = fault_answers fault.Late _ (c.counted.ensures c.args.sink.now)

@@ -1,0 +1,76 @@
+-- The page of numbers, in Prometheus' text format 0.0.4.
+use Rattle.std.specs.Prelude.{◌≡◌, ℕ, List, [], ◌++◌, codes, decimal}
+use Rattle.peer_stats.specs.declared.counts.LoopCounts.{LoopCounts}
+use Rattle.peer_stats.specs.declared.counts.WorkerCounts.{WorkerCounts}
+use Rattle.peer_stats.specs.declared.counts.AcceptCounts.{AcceptCounts}
+use Rattle.peer_stats.specs.declared.counts.FailureCounts.{FailureCounts}
+use Rattle.peer_stats.specs.declared.counts.Counts.{Counts}
+
+-- what a name is for, and its type
+abbrev pub family_text : List ℕ → List ℕ → List ℕ → List ℕ
+family_text name kind help =
+    codes "# HELP peer_front_" ++ name ++ codes " " ++ help ++ codes "\n# TYPE peer_front_" ++ name ++ codes " " ++ kind ++ codes "\n"
+
+-- a number and the end of its line
+abbrev pub number_text : ℕ → List ℕ
+number_text value = decimal value ++ codes "\n"
+
+-- a number with its name
+abbrev pub sample_text : List ℕ → ℕ → List ℕ
+sample_text name value = codes "peer_front_" ++ name ++ codes " " ++ number_text value
+
+-- a number that never falls
+abbrev pub counter_text : List ℕ → ℕ → List ℕ → List ℕ
+counter_text name value help = family_text name (codes "counter") help ++ sample_text name value
+
+-- a number that rises and falls
+abbrev pub gauge_text : List ℕ → ℕ → List ℕ → List ℕ
+gauge_text name value help = family_text name (codes "gauge") help ++ sample_text name value
+
+-- what loops have counted
+abbrev pub loops_text : LoopCounts → List ℕ
+loops_text c =
+    counter_text (codes "asked_total") c.asked (codes "Values asked for.")
+    ++ counter_text (codes "hits_total") c.hits (codes "Asks that a cache answered.")
+    ++ counter_text (codes "led_total") c.led (codes "Asks that began a flight.")
+    ++ counter_text (codes "joined_total") c.joined (codes "Asks that joined a flight under way.")
+    ++ counter_text (codes "strangers_total") c.strangers (codes "Fills of another key than was asked for.")
+
+-- what workers have counted
+abbrev pub workers_text : WorkerCounts → List ℕ
+workers_text c =
+    counter_text (codes "calls_total") c.calls (codes "Flights for which a source was called.")
+    ++ counter_text (codes "rehits_total") c.rehits (codes "Flights whose value a cache had by then.")
+
+-- connections: those that are open, and what the thread that accepts has counted
+abbrev pub connections_text : ℕ → AcceptCounts → List ℕ
+connections_text connected c =
+    gauge_text (codes "connections") connected (codes "Connections that are open.")
+    ++ counter_text (codes "connections_accepted_total") c.accepted (codes "Connections accepted.")
+    ++ counter_text (codes "accept_failures_total") c.failed (codes "Accepts that failed.")
+
+-- the failures of one kind
+abbrev pub kind_text : List ℕ → ℕ → List ℕ
+kind_text kind value =
+    codes "peer_front_origin_failures_total{kind=\"" ++ kind ++ codes "\"} " ++ number_text value
+
+-- the failures of origins
+abbrev pub failures_text : FailureCounts → List ℕ
+failures_text c =
+    family_text (codes "origin_failures_total") (codes "counter") (codes "Calls for which an origin gave no value.")
+    ++ kind_text (codes "no_such_key") c.no_such_key ++ kind_text (codes "status") c.status
+    ++ kind_text (codes "unreached") c.unreached ++ kind_text (codes "late") c.late
+    ++ kind_text (codes "lost") c.lost ++ kind_text (codes "malformed") c.malformed
+    ++ kind_text (codes "too_long") c.too_long ++ kind_text (codes "memory") c.memory
+
+-- the process
+abbrev pub process_text : ℕ → ℕ → List ℕ
+process_text cached seconds =
+    gauge_text (codes "cache_bytes") cached (codes "Bytes of keys and values in all caches.")
+    ++ gauge_text (codes "uptime_seconds") seconds (codes "Seconds since the start.")
+
+-- the whole page
+abbrev pub page_text : Counts → ℕ → List ℕ
+page_text c seconds =
+    loops_text c.loops ++ workers_text c.workers ++ connections_text c.loops.connections c.accepts
+    ++ failures_text c.failures ++ process_text c.cache_bytes seconds

@@ -1,0 +1,98 @@
+//! Numbers that were counted, as a reader sees them.
+ghost use Rattle.std.specs.Prelude.{◌≡◌};
+ghost use Rattle.peer_stats.specs.Sums.{loop_sum, worker_sum};
+
+/// What one loop has counted, or all of them. Each is what the getters of its seat give.
+#[derive(Clone, Copy, Debug, PartialEq, Eq)]
+pub struct LoopCounts {
+    pub asked: u64,
+    pub hits: u64,
+    pub led: u64,
+    pub joined: u64,
+    pub strangers: u64,
+    /// The connections that it has by now.
+    pub connections: u64,
+}
+
+/// What one worker has counted, or all of them.
+#[derive(Clone, Copy, Debug, PartialEq, Eq)]
+pub struct WorkerCounts {
+    pub calls: u64,
+    pub rehits: u64,
+}
+
+/// What the thread that accepts has counted.
+#[derive(Clone, Copy, Debug, PartialEq, Eq)]
+pub struct AcceptCounts {
+    pub accepted: u64,
+    /// The accepts that failed, since the process has no free file descriptor or for another reason of the system.
+    pub failed: u64,
+}
+
+/// How often origins gave no value, by why.
+#[derive(Clone, Copy, Debug, PartialEq, Eq)]
+pub struct FailureCounts {
+    pub no_such_key: u64,
+    pub status: u64,
+    pub unreached: u64,
+    pub late: u64,
+    pub lost: u64,
+    pub malformed: u64,
+    pub too_long: u64,
+    pub memory: u64,
+}
+
+/// All that a server has counted.
+#[derive(Clone, Copy, Debug, PartialEq, Eq)]
+pub struct Counts {
+    pub loops: LoopCounts,
+    pub workers: WorkerCounts,
+    pub accepts: AcceptCounts,
+    pub failures: FailureCounts,
+    /// The bytes of keys and values in all caches.
+    pub cache_bytes: u64,
+}
+
+impl LoopCounts {
+    /// Nothing was counted.
+    pub const NONE: LoopCounts = LoopCounts {
+        asked: 0,
+        hits: 0,
+        led: 0,
+        joined: 0,
+        strangers: 0,
+        connections: 0,
+    };
+
+    /// What two loops have counted together. A sum past 2^64 wraps, as Prometheus takes it for a restart.
+    pub fn plus(self, other: LoopCounts) -> LoopCounts
+        ensures { result ≡ loop_sum self other }
+    {
+        LoopCounts {
+            asked: self.asked.wrapping_add(other.asked),
+            hits: self.hits.wrapping_add(other.hits),
+            led: self.led.wrapping_add(other.led),
+            joined: self.joined.wrapping_add(other.joined),
+            strangers: self.strangers.wrapping_add(other.strangers),
+            connections: self.connections.wrapping_add(other.connections),
+        }
+    }
+}
+
+impl WorkerCounts {
+    /// Nothing was counted.
+    pub const NONE: WorkerCounts = WorkerCounts {
+        calls: 0,
+        rehits: 0,
+    };
+
+    /// What two workers have counted together.
+    pub fn plus(self, other: WorkerCounts) -> WorkerCounts
+        ensures { result ≡ worker_sum self other }
+    {
+        WorkerCounts {
+            calls: self.calls.wrapping_add(other.calls),
+            rehits: self.rehits.wrapping_add(other.rehits),
+        }
+    }
+}

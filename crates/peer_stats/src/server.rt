@@ -1,0 +1,200 @@
+//! The server of the page: one thread, and few clients at a time, each for a few seconds.
+
+use crate::client::StatsClient;
+use crate::counters::Counters;
+use crate::end::StatsEnd;
+use crate::service::StatsService;
+use mio::net::{TcpListener, TcpStream};
+use mio::{Events, Interest, Poll, Token};
+use slab::Slab;
+use std::alloc::Global;
+use std::hash::RandomState;
+use std::io::ErrorKind;
+use std::net::Net;
+use std::sync::Wait;
+use std::thread::Threads;
+use std::time::{Clock, Duration, Instant};
+use std::{net, thread};
+
+// The token of the listener.
+const LISTENER: Token = Token(usize::MAX - 1);
+
+// How many clients there are at a time. Others wait in the backlog until one is done or overdue.
+const MAX_CLIENTS: usize = 64;
+
+// How many events one wait reports.
+const MAX_EVENTS: usize = 64;
+
+// How often the server looks for clients that are overdue, where it has some.
+const TICK_SECONDS: u64 = 1;
+
+// The pause behind a call of the system that failed.
+const PAUSE_MILLIS: u64 = 100;
+
+/// What a server of the page waits by.
+#[derive(Drop)]
+struct Waits {
+    poll: Poll,
+    events: Events,
+}
+
+/// A server of the page.
+#[derive(Drop)]
+pub struct StatsServer {
+    alloc: Global,
+    listener: TcpListener,
+    waits: Waits,
+    keys: RandomState,
+}
+
+// The server while it runs.
+#[derive(Drop)]
+struct Running<'a> {
+    alloc: Global,
+    listener: TcpListener,
+    keys: RandomState,
+    clients: Slab<StatsClient>,
+    service: StatsService<'a>,
+    // An accept failed, and is to be tried again.
+    failed: bool,
+}
+
+/// A server of the page that listens, and how to end it. None where memory or the system refuses it.
+pub fn open_stats<H: Net>(
+    rt: &H,
+    alloc: Global,
+    listener: net::TcpListener,
+    keys: RandomState,
+) -> Option<(StatsServer, StatsEnd)> {
+    let poll = Poll::new(rt).ok()?;
+    let events = Events::with_capacity(alloc, MAX_EVENTS).ok()?;
+    listener.set_nonblocking(true).ok()?;
+    let mut listener = TcpListener::from_std(listener);
+    poll.registry()
+        .register(&mut listener, LISTENER, Interest::READABLE)
+        .ok()?;
+    let end = StatsEnd::new(&poll)?;
+    let server = StatsServer {
+        alloc,
+        listener,
+        waits: Waits { poll, events },
+        keys,
+    };
+    Some((server, end))
+}
+
+impl<'a> Running<'a> {
+    // Adds a client, unless memory or the system refuses that.
+    fn add(&mut self, poll: &Poll, stream: TcpStream) {
+        let now = self.service.uptime;
+        let mut client = StatsClient::new(self.alloc, self.keys, stream, now);
+        if self.clients.reserve(1).is_err() {
+            return;
+        }
+        let token = Token(self.clients.vacant_key());
+        if client.register(poll.registry(), token).is_ok() {
+            let _ = self.clients.insert(client);
+        }
+    }
+
+    // Accepts the clients that wait, as many as there is room for.
+    fn accept(&mut self, poll: &Poll) {
+        for _ in self.clients.len()..MAX_CLIENTS {
+            match self.listener.accept() {
+                Ok((stream, _)) => self.add(poll, stream),
+                Err(error) => {
+                    self.failed = error.kind() != ErrorKind::WouldBlock;
+                    return;
+                }
+            }
+        }
+    }
+
+    // Gives a client its turn.
+    fn turn(&mut self, key: usize) {
+        let Some(client) = self.clients.get_mut(key) else {
+            return;
+        };
+        if !client.turn(&mut self.service) {
+            let _ = self.clients.try_remove(key);
+        }
+    }
+
+    // Lets those go that have taken too long.
+    fn sweep(&mut self) {
+        for key in 0..self.clients.capacity() {
+            let overdue = match self.clients.get(key) {
+                Some(client) => client.is_overdue(self.service.uptime),
+                None => false,
+            };
+            if overdue {
+                let _ = self.clients.try_remove(key);
+            }
+        }
+    }
+
+    // How long nothing is to be done unless an event comes.
+    fn time_to_wait(&self) -> Option<Duration> {
+        if self.clients.is_empty() && !self.failed {
+            None
+        } else {
+            Some(Duration::from_secs(TICK_SECONDS))
+        }
+    }
+
+    // Waits for events, and serves those whom they concern.
+    fn serve_once<H: Threads + Wait + Clock>(
+        &mut self,
+        rt: &H,
+        waits: &mut Waits,
+        begun: Option<Instant>,
+    ) {
+        if waits
+            .poll
+            .poll(&mut waits.events, self.time_to_wait())
+            .is_err()
+        {
+            thread::sleep(rt, Duration::from_millis(PAUSE_MILLIS));
+        }
+        if let Some(now) = begun.and_then(|begun| begun.elapsed(rt).ok()) {
+            self.service.uptime = now;
+        }
+        for event in waits.events.iter() {
+            self.turn(event.token().0);
+        }
+        self.sweep();
+        self.accept(&waits.poll);
+    }
+}
+
+impl StatsServer {
+    /// Serves until it is ended.
+    pub fn run<H: Threads + Wait + Clock>(self, rt: &H, counters: &Counters, end: &StatsEnd) {
+        let StatsServer {
+            alloc,
+            listener,
+            mut waits,
+            keys,
+        } = self;
+        let mut running = Running {
+            alloc,
+            listener,
+            keys,
+            clients: Slab::new(alloc),
+            service: StatsService {
+                alloc,
+                counters,
+                uptime: Duration::ZERO,
+            },
+            failed: false,
+        };
+        let begun = Instant::now(rt).ok();
+        for _ in rt.forever() {
+            if end.is_set() {
+                return;
+            }
+            running.serve_once(rt, &mut waits, begun);
+        }
+        unreachable!()
+    }
+}
