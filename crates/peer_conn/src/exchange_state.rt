@@ -126,7 +126,8 @@ impl<S: Source> ExchangeState<S> {
     ghost use Rattle.peer_conn.specs.Intakes.{IsGivenUpFor, is_given_up, is_judging, told};
     ghost use Rattle.peer_conn.specs.Nexts.{IsNextWish};
     ghost use Rattle.peer_head.specs.Blocks.{IsFrontLength};
-    ghost use Rattle.peer_conn.specs.ExchangeStates.{Upholds, Keeps, AreSent, HoldsLittle, has_much_output, is_full, is_over, lent, room_of};
+    ghost use Rattle.peer_conn.specs.ExchangeStates.{Upholds, Keeps, AreSent, HoldsLittle, has_much_output, is_full};
+    ghost use Rattle.peer_conn.specs.ExchangeStates.{is_over, lent, room_of};
     ghost use Rattle.peer_conn.specs.ExchangeStates.{takes_bytes, unsent, Receives, Sends, GivesUp, SaysSent, SaysLittle};
     ghost use Rattle.peer_conn.specs.Outboxes.{IsFrontOf};
     ghost use Rattle.peer_conn.specs.Asking.{AddsTickets, AsksOne, IsJudgedThrough, KeepsWhereNext};

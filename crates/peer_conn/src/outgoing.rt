@@ -107,7 +107,7 @@ impl Outgoing {
         }
     }
 
-    // Puts the reply of a claim, where its fill is there.
+    // Puts the reply of a claim, where its fill is there. That of a ready claim is its own, and is not compared.
     fn answer_claim<S: Source, L: Ledger>(
         &mut self,
         pool: &Pool<S, L>,
@@ -117,6 +117,12 @@ impl Outgoing {
     ) -> Result<Answered, AllocError>
         ensures { AnswersClaim (allows S.allowed) claim.now closing bare self.old.out.bytes self.new.out.bytes result }
     {
+        if let Claim::Ready(fill) = claim {
+            return match self.put_fill(fill, closing, bare) {
+                Ok(()) => Ok(Answered::Put),
+                Err(fault) => Err(fault),
+            };
+        }
         let Some(fill) = look_once(claim) else {
             return Ok(Answered::Waits);
         };
