@@ -9,6 +9,7 @@ use peer_fetch::{FetchBell, FetchThread, FetchThreadSettings};
 use peer_fill::{ConnSeat, FillSeat, NoGate, Pool, Report, pop_conn, pop_fill};
 use peer_origin::{FetchSettings, Origin, OriginSource, Place};
 use peer_source::Source;
+use peer_stats::Counters;
 use std::alloc::Global;
 use std::marker::Brand;
 use std::net::{Net, TcpListener, TcpStream};
@@ -221,7 +222,8 @@ fn see_at<
     let Some(running) = FetchThread::new(rt, alloc, places, settings) else {
         return None;
     };
-    let source = OriginSource::new(rt, origins, settings.fetch);
+    let counters = Counters::new();
+    let source = OriginSource::new(rt, counters.failures(), origins, settings.fetch);
     let opened = open_pool::<OriginSource<'_, H>, L>(alloc, source, 0, 1, 1, blank);
     match opened {
         Some(opened) => Some(run_opened(rt, alloc, opened, running, beside)),

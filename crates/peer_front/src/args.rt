@@ -4,6 +4,8 @@ ghost use Rattle.std.specs.Prelude.{◌≤◌};
 use crate::size::{bytes_of, number_of};
 use clap::{Arg, ArgAction, ArgMatches, Command};
 use std::alloc::{AllocError, Global};
+use std::fmt;
+use std::fmt::{Display, Formatter};
 use std::time::Duration;
 use thiserror::Error;
 
@@ -25,6 +27,8 @@ pub enum WordFault {
     Size,
     #[error("an address and a port are needed, such as 127.0.0.1:8001")]
     Address,
+    #[error("a port, or an address and a port, is needed, such as 9100 or 127.0.0.1:9100")]
+    Page,
 }
 
 /// A word that cannot be used, behind the flag that it was given to.
@@ -136,12 +140,49 @@ fn with_settings<'a>(alloc: Global, command: Command<'a>) -> Result<Command<'a>,
         )
 }
 
+// The flags for whoever runs it.
+fn with_operation<'a>(alloc: Global, command: Command<'a>) -> Result<Command<'a>, AllocError> {
+    command
+        .arg(
+            Arg::new(alloc, "stats")
+                .long("stats")
+                .value_name("ADDR")
+                .help("Where /metrics and /healthz are served, such as 9100 for 127.0.0.1:9100"),
+        )?
+        .arg(
+            Arg::new(alloc, "until-eof")
+                .long("until-eof")
+                .action(ArgAction::SetTrue)
+                .help(
+                    "End once standard input has ended and clients have their replies, and print the totals",
+                ),
+        )
+}
+
 /// What the program can be called with.
 pub fn command<'a>(alloc: Global) -> Result<Command<'a>, AllocError> {
     let command = Command::new(alloc, "peer_front").version("0.1.0").about(
         "A peer server for groupcache's clients, in front of HTTP services, a table or both",
     );
-    with_settings(alloc, with_groups(alloc, command)?)
+    with_operation(alloc, with_settings(alloc, with_groups(alloc, command)?)?)
+}
+
+/// Where the page of counters is served.
+#[derive(Clone, Copy, Debug, PartialEq, Eq)]
+pub enum PageAddress<'w> {
+    /// This port of the loopback address.
+    Loopback(u16),
+    /// An address and a port.
+    At(&'w str),
+}
+
+impl<'w> Display for PageAddress<'w> {
+    fn fmt<W: fmt::Write>(&self, f: &mut Formatter<W>) -> fmt::Result {
+        match self {
+            PageAddress::Loopback(port) => write!(f, "127.0.0.1:{port}"),
+            PageAddress::At(address) => write!(f, "{address}"),
+        }
+    }
 }
 
 /// What the program is asked to do.
@@ -157,6 +198,8 @@ pub struct Options<'w> {
     pub memory: usize,
     pub timeout: Duration,
     pub connection_for_each: bool,
+    pub stats: Option<PageAddress<'w>>,
+    pub until_eof: bool,
 }
 
 // The number of a flag.
@@ -211,6 +254,32 @@ fn listen<'w>(matches: &ArgMatches<'w>) -> Result<&'w str, BadWord<'w>> {
     })
 }
 
+// The address of the page that a word says, if it says one.
+fn page_address<'w>(word: &'w str) -> Option<PageAddress<'w>> {
+    if let Some(port) = number_of(word, 65_535) {
+        Some(PageAddress::Loopback(port as u16))
+    } else if is_address(word) {
+        Some(PageAddress::At(word))
+    } else {
+        None
+    }
+}
+
+// The address of the page, if one is asked for.
+fn stats<'w>(matches: &ArgMatches<'w>) -> Result<Option<PageAddress<'w>>, BadWord<'w>> {
+    let Some(word) = matches.get_str("stats") else {
+        return Ok(None);
+    };
+    match page_address(word) {
+        Some(address) => Ok(Some(address)),
+        None => Err(BadWord {
+            flag: "--stats",
+            word,
+            fault: WordFault::Page,
+        }),
+    }
+}
+
 impl<'w> Options<'w> {
     /// What the words say, or the first that cannot be used.
     pub fn of(matches: &ArgMatches<'w>) -> Result<Options<'w>, BadWord<'w>> {
@@ -225,6 +294,8 @@ impl<'w> Options<'w> {
             memory: size(matches, "--memory", "memory")? as usize,
             timeout: Duration::from_secs(number(matches, "--timeout", "timeout", MAX_TIMEOUT)?),
             connection_for_each: matches.get_flag("connection-for-each"),
+            stats: stats(matches)?,
+            until_eof: matches.get_flag("until-eof"),
         })
     }
 }

@@ -10,11 +10,15 @@ mod beside;
 mod exit;
 mod groups;
 mod maybe;
+mod page;
+mod running;
 mod serve;
 mod size;
 mod table;
 #[cfg(test)]
 mod tests;
+mod troubles;
+mod until_eof;
 
 use crate::args::{Options, command};
 use crate::exit::{BAD_WORD, DONE, Exit, OUT_OF_MEMORY};
@@ -22,6 +26,7 @@ use crate::serve::serve;
 use clap::ArgMatches;
 use std::env;
 use std::fs::Files;
+use std::io::Read;
 use std::net::{Net, TcpListener, TcpStream};
 use std::process::ExitCode;
 use std::random::RandomSource;
@@ -53,7 +58,9 @@ fn main(rt: HostRuntime) -> ExitCode {
 
 // Does what the words ask for.
 fn run<
+    R: Read + Send + Drop + 'static,
     H: AllocGlobal
+        + Input<Reader = R>
         + Print
         + Eprint
         + Files

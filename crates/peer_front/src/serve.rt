@@ -5,18 +5,22 @@ use crate::beside::Beside;
 use crate::exit::{BAD_WORD, CANNOT_BIND, DONE, Exit, NO_OUTPUT, NO_SEED, OUT_OF_MEMORY};
 use crate::groups::{FrontSource, first_in, origins_of};
 use crate::maybe::Maybe;
+use crate::page::page_of;
+use crate::running::serve_watched;
 use crate::table::read_table;
+use crate::until_eof::stop_of;
 use peer_fill::Report;
-use peer_loop::{Limits, ServerFault, Settings, serve_loops};
+use peer_loop::{Limits, Settings, Stop};
 use peer_origin::{FetchSettings, Origin, OriginSource};
 use peer_source::{DemoSource, Source};
+use peer_stats::{Counters, FailureSlots};
 use peer_table::TableSource;
 use std::alloc::Global;
 use std::fmt::Display;
 use std::fs::Files;
 use std::hash::RandomState;
 use std::io;
-use std::io::Write;
+use std::io::{Read, Write};
 use std::net::{Net, TcpListener, TcpStream};
 use std::random::RandomSource;
 use std::sync::Wait;
@@ -87,6 +91,7 @@ fn has_demo_group(table: &Option<TableSource>) -> bool {
 // The parts as one source.
 fn join<'a, H: Net<Listener = TcpListener, Stream = TcpStream> + Clock + Wait + Sync>(
     rt: &'a H,
+    failures: &'a FailureSlots,
     options: &Options<'_>,
     table: Option<TableSource>,
     origins: Vec<Origin>,
@@ -96,7 +101,7 @@ fn join<'a, H: Net<Listener = TcpListener, Stream = TcpStream> + Clock + Wait + 
         connection_for_each: options.connection_for_each,
         ..FetchSettings::usual()
     };
-    let origins = OriginSource::new(rt, origins, settings);
+    let origins = OriginSource::new(rt, failures, origins, settings);
     let behind = Beside::new(Maybe { source: table }, origins)?;
     let demo = if options.demo { Some(DemoSource) } else { None };
     Beside::new(behind, Maybe { source: demo })
@@ -112,7 +117,12 @@ fn source_of<
         + Clock
         + Wait
         + Sync,
->(rt: &'a H, options: &Options<'_>, words: &[&str]) -> Result<FrontSource<'a, H>, Exit> {
+>(
+    rt: &'a H,
+    failures: &'a FailureSlots,
+    options: &Options<'_>,
+    words: &[&str],
+) -> Result<FrontSource<'a, H>, Exit> {
     let origins = match origins_of(rt, rt.alloc(), words) {
         Ok(origins) => origins,
         Err(bad) => return Err(refuse(rt, &bad, BAD_WORD)),
@@ -124,7 +134,7 @@ fn source_of<
     if options.demo && has_demo_group(&table) {
         return Err(refuse_twice(rt, "--demo"));
     }
-    let Some(source) = join(rt, options, table, origins) else {
+    let Some(source) = join(rt, failures, options, table, origins) else {
         return Err(refuse(rt, &"out of memory", OUT_OF_MEMORY));
     };
     match source.group_count() {
@@ -138,19 +148,14 @@ fn source_of<
     }
 }
 
-// Serves for ever, unless the system refuses what a server needs.
-fn serve_source<
-    S: Source,
-    H: Net<Listener = TcpListener, Stream = TcpStream> + Threads + Wait + Clock + Sync,
->(
-    rt: &H,
-    alloc: Global,
-    source: S,
-    listener: TcpListener,
+// How it is served.
+fn settings_of<'a>(
     options: &Options<'_>,
     seed: RandomState,
-) -> Result<Report, ServerFault> {
-    let settings = Settings {
+    counters: &'a Counters,
+    stop: &'a Stop,
+) -> Settings<'a> {
+    Settings {
         workers: options.workers,
         loops: options.loops,
         connections: options.connections,
@@ -159,13 +164,16 @@ fn serve_source<
         cache_bytes: options.cache_bytes,
         seed,
         limits: Limits::usual(),
-    };
-    serve_loops(rt, alloc, source, listener, &settings)
+        counters,
+        stop,
+    }
 }
 
 /// Serves what is asked for, or says why not.
 pub fn serve<
+    R: Read + Send + Drop + 'static,
     H: AllocGlobal
+        + Input<Reader = R>
         + Print
         + Eprint
         + Files
@@ -176,7 +184,8 @@ pub fn serve<
         + Clock
         + Sync,
 >(rt: &H, options: &Options<'_>, words: &[&str]) -> Exit {
-    let source = match source_of(rt, options, words) {
+    let counters = Counters::new();
+    let source = match source_of(rt, counters.failures(), options, words) {
         Ok(source) => source,
         Err(exit) => return exit,
     };
@@ -190,16 +199,41 @@ pub fn serve<
             return CANNOT_BIND;
         }
     };
+    let page = match page_of(rt, options, seed) {
+        Ok(page) => page,
+        Err(exit) => return exit,
+    };
+    say_serving(rt, source.group_count(), &listener, options);
     if say_listening(rt).is_err() {
         return NO_OUTPUT;
     }
-    match serve_source(rt, rt.alloc(), source, listener, options, seed) {
+    let Ok(stop) = stop_of(rt, options) else {
+        return refuse(rt, &"out of memory, threads or descriptors", OUT_OF_MEMORY);
+    };
+    let settings = settings_of(options, seed, &counters, &stop);
+    match serve_watched(rt, source, listener, &settings, page) {
         Ok(report) => match say_totals(rt, &report) {
             Ok(()) => DONE,
             Err(_) => NO_OUTPUT,
         },
         Err(fault) => refuse(rt, &fault, OUT_OF_MEMORY),
     }
+}
+
+// Says on standard error what is served and where.
+fn say_serving<H: AllocGlobal + Eprint>(
+    rt: &H,
+    groups: usize,
+    listener: &TcpListener,
+    options: &Options<'_>,
+) {
+    let _ = match listener.local_addr() {
+        Ok(address) => eprintln!(rt;
+            "peer_front: serves {groups} groups at {address}, {} connections at most, on {} loops and {} workers",
+            options.connections, options.loops, options.workers
+        ),
+        Err(_) => eprintln!(rt; "peer_front: serves {groups} groups at {}", options.listen),
+    };
 }
 
 // Says that connections can come.

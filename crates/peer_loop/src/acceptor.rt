@@ -1,12 +1,15 @@
 //! The thread that accepts: it deals streams to the loops in turn.
 //!
-//! Where no more connections can be had, new clients wait in the backlog of the system until one ends.
+//! Where no more connections can be had, new clients wait in the backlog of the system until one ends. Once the server was
+//! told to stop, it accepts no more.
 
 use crate::limits::Limits;
 use crate::mailboxes::Mailboxes;
 use crate::occupancy::Occupancy;
+use crate::stop::Stop;
 use mio::net::{TcpListener, TcpStream};
 use mio::{Events, Poll};
+use peer_stats::Counters;
 use std::io::ErrorKind;
 use std::sync::Wait;
 use std::thread;
@@ -22,6 +25,8 @@ pub struct Acceptor<'a> {
     pub mailboxes: &'a Mailboxes,
     pub occupancy: &'a Occupancy,
     pub limits: &'a Limits,
+    pub counters: &'a Counters,
+    pub stop: &'a Stop,
     /// How many connections are accepted yet, none where there is no end.
     pub left: Option<u64>,
 }
@@ -66,6 +71,7 @@ impl<'a> Acceptor<'a> {
         }
         match self.listener.accept() {
             Ok((stream, _)) => {
+                self.counters.accepts().count_accepted();
                 if stream.set_nodelay(true).is_ok() {
                     self.give(rt, stream, turn);
                 }
@@ -74,7 +80,10 @@ impl<'a> Acceptor<'a> {
             Err(error) => {
                 match error.kind() {
                     ErrorKind::WouldBlock => self.wait(rt),
-                    _ => self.pause(rt),
+                    _ => {
+                        self.counters.accepts().count_failed();
+                        self.pause(rt);
+                    }
                 }
                 false
             }
@@ -91,11 +100,20 @@ impl<'a> Acceptor<'a> {
         }
     }
 
-    /// Accepts as many connections as it is to, and deals them to the loops in turn.
-    pub fn run<H: Threads + Wait + Clock>(&mut self, rt: &H) {
+    // Tells the loops that no more clients come, and whether they are to let theirs go.
+    fn close(&self) {
+        if self.stop.is_asked() {
+            self.mailboxes.stop();
+        } else {
+            self.mailboxes.close();
+        }
+    }
+
+    // Accepts until the server was told to end, or as many connections as it is to.
+    fn accept_all<H: Threads + Wait + Clock>(&mut self, rt: &H) {
         let mut turn = 0;
         for _ in rt.forever() {
-            if self.left == Some(0) {
+            if self.left == Some(0) || self.stop.is_asked() {
                 return;
             }
             if self.accept(rt, turn) {
@@ -106,5 +124,12 @@ impl<'a> Acceptor<'a> {
             }
         }
         unreachable!()
+    }
+
+    /// Accepts connections and deals them to the loops in turn, until it was told to stop, or has accepted as many as it is
+    /// to.
+    pub fn run<H: Threads + Wait + Clock>(&mut self, rt: &H) {
+        self.accept_all(rt);
+        self.close();
     }
 }

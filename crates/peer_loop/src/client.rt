@@ -282,6 +282,12 @@ impl<'a, S: Source, F: Facts<S>> Client<'a, S, F> {
         self.counted = 0;
     }
 
+    /// Reads nothing more of it, as if it had told its end. Whether it holds nothing, and can be let go.
+    pub fn stop(&mut self) -> bool {
+        self.exchange.end();
+        !self.is_ready && self.holds_nothing() && !self.exchange.rest().job
+    }
+
     /// Reads, answers and writes, as far as that goes in one turn.
     pub fn turn<L: Ledger, H: Wait>(
         &mut self,

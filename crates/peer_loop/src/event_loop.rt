@@ -12,6 +12,7 @@ use mio::net::TcpStream;
 use mio::{Events, Poll, Registry, Token};
 use peer_conn::Exchange;
 use peer_source::Source;
+use peer_stats::Counters;
 use slab::Slab;
 use std::alloc::{AllocError, Global};
 use std::collections::VecDeque;
@@ -28,6 +29,9 @@ pub struct Shared<'a> {
     pub mailbox: &'a Mailbox,
     pub occupancy: &'a Occupancy,
     pub limits: &'a Limits,
+    pub counters: &'a Counters,
+    /// The number of the loop, by which it publishes what it counts.
+    pub number: usize,
 }
 
 /// What a loop waits by.
@@ -49,10 +53,14 @@ pub struct EventLoop<'a, S: Source, F: Facts<S>> {
     for_room: VecDeque<usize>,
     // Those that wait for a fill.
     waiting: WaitLists,
+    // Whether its clients were stopped.
+    stopped: bool,
     // The time since the loop began, as it was when it last waited.
     now: Duration,
     // When it last looked for clients that are overdue.
     swept: Duration,
+    // The same, when it last published how many bytes the caches have.
+    weighed: Duration,
 }
 
 impl<'a, S: Source, F: Facts<S>> EventLoop<'a, S, F> {
@@ -68,8 +76,10 @@ impl<'a, S: Source, F: Facts<S>> EventLoop<'a, S, F> {
             ready: VecDeque::new(alloc),
             for_room: VecDeque::new(alloc),
             waiting: WaitLists::new(alloc),
+            stopped: false,
             now: Duration::ZERO,
             swept: Duration::ZERO,
+            weighed: Duration::ZERO,
         }
     }
 
@@ -95,7 +105,7 @@ impl<'a, S: Source, F: Facts<S>> EventLoop<'a, S, F> {
         client.register(registry, token).is_ok() && self.clients.insert(client).is_ok()
     }
 
-    // Takes in the streams that were given.
+    // Takes in the streams that were given. Once the server was told to end, they are let go.
     fn take_streams<L: Ledger, H: Wait>(
         &mut self,
         rt: &H,
@@ -106,7 +116,7 @@ impl<'a, S: Source, F: Facts<S>> EventLoop<'a, S, F> {
             let Some(stream) = self.shared.mailbox.next_stream(rt) else {
                 return;
             };
-            if !self.add(registry, stream, seat.exchange(self.alloc)) {
+            if self.stopped || !self.add(registry, stream, seat.exchange(self.alloc)) {
                 self.shared.occupancy.leave();
             }
         }
@@ -277,6 +287,48 @@ impl<'a, S: Source, F: Facts<S>> EventLoop<'a, S, F> {
         }
     }
 
+    // Lets a client go that holds nothing, and has another its turn, in which it is answered and closed.
+    fn stop_client(&mut self, key: usize) {
+        let Some(client) = self.clients.get_mut(key) else {
+            return;
+        };
+        if client.stop() {
+            self.forget(key);
+        } else {
+            self.ready(key);
+        }
+    }
+
+    // Lets idle clients go, and reads nothing more of the others, once the server was told to end.
+    fn stop_clients(&mut self) {
+        if self.stopped || !self.shared.mailbox.is_stopping() {
+            return;
+        }
+        self.stopped = true;
+        for key in 0..self.clients.capacity() {
+            self.stop_client(key);
+        }
+    }
+
+    // Publishes what the loop has counted.
+    fn publish<L: Ledger>(&self, seat: &LoopSeat<'a, S, L, F>) {
+        let counts = seat.counts(self.clients.len());
+        self.shared
+            .counters
+            .of_loop(self.shared.number)
+            .publish(counts);
+    }
+
+    // Publishes how many bytes the caches have, where a tick is over, or the loop has no clients.
+    fn publish_caches<L: Ledger, H: Wait>(&mut self, rt: &H, seat: &LoopSeat<'a, S, L, F>) {
+        if self.weighed != self.swept || self.clients.is_empty() {
+            self.weighed = self.swept;
+            self.shared
+                .counters
+                .publish_cache_bytes(seat.cached_bytes(rt));
+        }
+    }
+
     // Tells the time, and sweeps where a tick is over.
     fn tell_time<H: Clock>(&mut self, rt: &H, begun: Option<Instant>) {
         let Some(now) = begun.and_then(|begun| begun.elapsed(rt).ok()) else {
@@ -360,6 +412,7 @@ impl<'a, S: Source, F: Facts<S>> EventLoop<'a, S, F> {
     {
         let time = self.time_to_wait(rt, seat);
         self.wait(rt, time, waits);
+        self.stop_clients();
         self.take_streams(rt, waits.poll.registry(), seat);
         self.tell_time(rt, begun);
         for word in 0..WORDS {
@@ -367,6 +420,8 @@ impl<'a, S: Source, F: Facts<S>> EventLoop<'a, S, F> {
         }
         self.push_left(rt, seat);
         self.serve_ready(rt, seat);
+        self.publish(seat);
+        self.publish_caches(rt, seat);
     }
 
     /// Serves until no more streams are given and all clients are gone.

@@ -16,8 +16,11 @@ mod mailboxes;
 mod occupancy;
 mod seat;
 mod server;
+mod stop;
 mod threads;
 mod wait_lists;
+mod worker_gate;
 
 pub use limits::Limits;
 pub use server::{ServerFault, Settings, serve_loops};
+pub use stop::Stop;

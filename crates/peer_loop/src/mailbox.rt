@@ -76,6 +76,7 @@ pub struct Mailbox {
     told: [AtomicU64; WORDS],
     arrived: ArrayQueue<TcpStream>,
     closing: AtomicBool,
+    stopping: AtomicBool,
 }
 
 impl Mailbox {
@@ -89,6 +90,7 @@ impl Mailbox {
             told: Default::default(),
             arrived: ArrayQueue::new(alloc, MAX_ARRIVED).ok()?,
             closing: AtomicBool::new(false),
+            stopping: AtomicBool::new(false),
         })
     }
 
@@ -158,6 +160,17 @@ impl Mailbox {
     pub fn close(&self) {
         self.closing.store(true, SeqCst);
         self.wake();
+    }
+
+    /// The server was told to end: the loop lets idle clients go, and reads nothing more of the others.
+    pub fn stop(&self) {
+        self.stopping.store(true, SeqCst);
+        self.close();
+    }
+
+    /// Whether the server was told to end.
+    pub fn is_stopping(&self) -> bool {
+        self.stopping.load(SeqCst)
     }
 
     /// Whether no more streams are given, and none waits. The look at those that wait is behind the other: each was given

@@ -18,6 +18,13 @@ impl Mailboxes {
             mailbox.close();
         }
     }
+
+    /// The server was told to end.
+    pub fn stop(&self) {
+        for mailbox in &self.each {
+            mailbox.stop();
+        }
+    }
 }
 
 impl Gate for Mailboxes {

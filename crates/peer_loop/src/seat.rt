@@ -6,6 +6,7 @@ use crate::facts::Facts;
 use peer_conn::{Exchange, Rest};
 use peer_fill::{ConnSeat, Pool};
 use peer_source::Source;
+use peer_stats::LoopCounts;
 use std::alloc::Global;
 use std::marker::PhantomData;
 use std::sync::Wait;
@@ -93,6 +94,23 @@ impl<'a, S: Source, L: Ledger, F: Facts<S>> LoopSeat<'a, S, L, F> {
         } else {
             Asked::Done
         }
+    }
+
+    /// What it has counted, where the loop has so many connections.
+    pub fn counts(&self, connections: usize) -> LoopCounts {
+        LoopCounts {
+            asked: self.seat.asked(),
+            hits: self.seat.hits(),
+            led: self.seat.led(),
+            joined: self.seat.joined(),
+            strangers: self.seat.strangers(),
+            connections: connections as u64,
+        }
+    }
+
+    /// The bytes of keys and values in all caches.
+    pub fn cached_bytes<H: Wait>(&self, rt: &H) -> u64 {
+        self.pool.cached_bytes(rt)
     }
 
     /// Whether a job is left, for which the queue of jobs had no room.

@@ -10,11 +10,13 @@ use crate::limits::{Limits, MAX_EVENTS, MAX_READ};
 use crate::mailbox::Mailbox;
 use crate::mailboxes::Mailboxes;
 use crate::occupancy::Occupancy;
+use crate::stop::Stop;
 use crate::threads::{LoopParts, Seats, use_seats};
 use mio::net::TcpListener;
 use mio::{Events, Interest, Poll, Token};
 use peer_fill::{OpenFault, Opened, Pool, Report};
 use peer_source::Source;
+use peer_stats::Counters;
 use std::alloc::Global;
 use std::hash::RandomState;
 use std::marker::Brand;
@@ -38,8 +40,8 @@ pub enum ServerFault {
 }
 
 /// How a server serves.
-#[derive(Clone, Copy, Debug)]
-pub struct Settings {
+#[derive(Clone, Copy)]
+pub struct Settings<'a> {
     /// How many threads call the source, from 1 to 16.
     pub workers: usize,
     /// How many threads serve connections, from 1 to 16.
@@ -49,7 +51,7 @@ pub struct Settings {
     /// How many bytes of replies and values all clients together may hold, those not counted that hold 64 KiB at most. Where
     /// it is more, a client's next requests wait until it holds nothing.
     pub memory: usize,
-    /// How many connections are accepted before the server ends, none where it does not end.
+    /// How many connections are accepted before the server ends by itself, none where it does not.
     pub accepts: Option<u64>,
     /// How many bytes of keys and values the cache of each group keeps at most.
     pub cache_bytes: u64,
@@ -57,6 +59,10 @@ pub struct Settings {
     pub seed: RandomState,
     /// How long clients are waited for.
     pub limits: Limits,
+    /// Where its threads publish what they count.
+    pub counters: &'a Counters,
+    /// By what it is told to end.
+    pub stop: &'a Stop,
 }
 
 // What loops need beside their seats, and a mailbox for each. None where memory or a descriptor was refused.
@@ -91,7 +97,7 @@ fn serve_seats<S: Source, L: Ledger + Send + Sync, H: Threads + Wait + Clock + N
     pool: &Pool<S, L>,
     seats: Seats<S, L>,
     listener: net::TcpListener,
-    settings: &Settings,
+    settings: &Settings<'_>,
 ) -> Option<Seats<S, L>>
     requires fills { All (IsFillSeatOf pool.now) seats.fills.items }
     requires conns { All (IsConnSeatOf pool.now) seats.conns.items }
@@ -107,6 +113,7 @@ fn serve_seats<S: Source, L: Ledger + Send + Sync, H: Threads + Wait + Clock + N
     let events = Events::with_capacity(alloc, MAX_EVENTS).ok()?;
     let occupancy = Occupancy::new(&poll, settings.connections, settings.memory)?;
     let listener = watch(listener, &poll)?;
+    settings.stop.watch(&poll)?;
     let acceptor = Acceptor {
         listener,
         poll,
@@ -114,6 +121,8 @@ fn serve_seats<S: Source, L: Ledger + Send + Sync, H: Threads + Wait + Clock + N
         mailboxes: &mailboxes,
         occupancy: &occupancy,
         limits: &settings.limits,
+        counters: settings.counters,
+        stop: settings.stop,
         left: settings.accepts,
     };
     use_seats(rt, alloc, pool, seats, loops, acceptor)
@@ -125,7 +134,7 @@ fn serve_opened<S: Source, L: Ledger + Send + Sync, H: Threads + Wait + Clock + 
     alloc: Global,
     opened: Opened<S, L>,
     listener: net::TcpListener,
-    settings: &Settings,
+    settings: &Settings<'_>,
 ) -> Option<Report>
     requires fills { All (IsFillSeatOf opened.pool) opened.fills.items }
     requires conns { All (IsConnSeatOf opened.pool) opened.conns.items }
@@ -152,7 +161,7 @@ fn over_pool<S: Source, L: Ledger + Send + Sync, H: Threads + Wait + Clock + Net
     alloc: Global,
     source: S,
     listener: net::TcpListener,
-    settings: &Settings,
+    settings: &Settings<'_>,
     blank: Blank,
 ) -> Result<Report, ServerFault>
     requires name { blank.name ≡ L.name }
@@ -183,14 +192,14 @@ fn over_pool<S: Source, L: Ledger + Send + Sync, H: Threads + Wait + Clock + Net
     }
 }
 
-/// Serves the listener's clients until so many connections as the settings say were accepted and have ended, and gives
-/// the pool's report.
+/// Serves the listener's clients until so many connections as the settings say were accepted and have ended, or until it
+/// was told to stop, and gives the pool's report.
 pub fn serve_loops<S: Source, H: Threads + Wait + Clock + Net + Sync>(
     rt: &H,
     alloc: Global,
     source: S,
     listener: net::TcpListener,
-    settings: &Settings,
+    settings: &Settings<'_>,
 ) -> Result<Report, ServerFault>
     ensures workers { IsErrOf result (ServerFault.Open OpenFault.Workers) ↔ IsOutside 16 settings.now.workers }
     ensures loops { IsErrOf result (ServerFault.Open OpenFault.Conns)

@@ -7,6 +7,7 @@ use crate::acceptor::Acceptor;
 use crate::event_loop::{EventLoop, Shared, Waits};
 use crate::facts::Facts;
 use crate::seat::LoopSeat;
+use crate::worker_gate::WorkerGate;
 use peer_fill::{
     ConnSeat, FillSeat, KeepsConn, KeepsFill, Pool, join_conns, join_fills, pop_conn, pop_fill,
 };
@@ -115,6 +116,8 @@ fn use_conns<S: Source, L: Ledger + Send + Sync, H: Threads + Wait + Clock + Syn
                     mailbox,
                     occupancy: acceptor.occupancy,
                     limits: acceptor.limits,
+                    counters: acceptor.counters,
+                    number: loops.len(),
                 };
                 let serve = move ||
                     requires { IsConnSeatOf pool.now seat }
@@ -128,7 +131,6 @@ fn use_conns<S: Source, L: Ledger + Send + Sync, H: Threads + Wait + Clock + Syn
                 serving.push_reserved(handle);
             }
             acceptor.run(rt);
-            acceptor.mailboxes.close();
             join_conns(rt, pool, serving, &mut served);
             Some(served)
         },
@@ -155,7 +157,7 @@ pub fn use_seats<S: Source, L: Ledger + Send + Sync, H: Threads + Wait + Clock +
     ensures all_conns { IfSome result (λ seats. HaveAllConns seats.conns.items) }
 {
     let Seats { mut fills, conns } = seats;
-    let mailboxes = acceptor.mailboxes;
+    let (mailboxes, counters) = (acceptor.mailboxes, acceptor.counters);
     thread::scope(
         thread::scope_env(),
         rt,
@@ -173,11 +175,12 @@ pub fn use_seats<S: Source, L: Ledger + Send + Sync, H: Threads + Wait + Clock +
             let mut worked = Vec::with_capacity(alloc, fills.len()).ok()?;
             while let Some(seat) = pop_fill(pool, &mut fills) {
                 let promise = KeepsFill::new(pool, &seat);
+                let gate = WorkerGate::new(mailboxes, counters, fills.len());
                 let work = move ||
                     requires { IsFillSeatOf pool.now seat }
                     ensures seat { IsFillSeatOf pool.entry.now result }
                     ensures parts { fill_parts result ≡ fill_parts seat }
-                { pool.run_worker(rt, alloc, seat, mailboxes) };
+                { pool.run_worker(rt, alloc, seat, &gate) };
                 let Ok(handle) = scope.spawn_with(promise, work) else {
                     pool.stop();
                     return None;

@@ -9,6 +9,8 @@ mod clients;
 #[cfg(test)]
 mod limited;
 #[cfg(test)]
+mod loop_servers;
+#[cfg(test)]
 mod loops;
 #[cfg(test)]
 mod meeting;
@@ -16,3 +18,5 @@ mod meeting;
 mod servers;
 #[cfg(test)]
 mod serving;
+#[cfg(test)]
+mod stopping;

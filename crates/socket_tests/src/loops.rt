@@ -4,12 +4,12 @@ use crate::clients::{
     ASK, ASK_LAST, FOUND, FOUND_LAST, connect, exchange, exchange_and_end, is_text, listen,
     receive, send,
 };
+use crate::loop_servers::{Outside, beside, patient, settings_of};
 use crate::servers::has_asked;
-use peer_fill::{OpenFault, Report};
+use peer_fill::OpenFault;
 use peer_loop::{Limits, ServerFault, Settings, serve_loops};
 use peer_source::{DemoSource, Source};
 use std::alloc::Global;
-use std::hash::RandomState;
 use std::hint::spin_loop;
 use std::io::Read;
 use std::net::{Net, SocketAddr, TcpListener, TcpStream};
@@ -18,70 +18,10 @@ use std::sync::Wait;
 use std::sync::atomic::AtomicBool;
 use std::sync::atomic::Ordering::SeqCst;
 use std::test::Fail;
+use std::thread;
 use std::thread::Threads;
 use std::time::{Clock, Duration};
-use std::{io, thread};
 use test_support::{Hook, Hooked};
-
-// Limits that a test can wait for. None of them is meant to be met: also a loop that sleeps wakes for its tick only when the
-// client of the test has long given up.
-fn patient() -> Limits {
-    Limits {
-        tick: Duration::from_secs(60),
-        silence: Duration::from_secs(60),
-        silence_when_full: Duration::from_secs(60),
-        request_when_full: Duration::from_secs(60),
-        unread: Duration::from_secs(60),
-        linger: Duration::from_secs(10),
-        pause: Duration::from_millis(1),
-    }
-}
-
-// A server on so many loops, beside one worker, which accepts so many connections.
-fn settings_of(
-    rt: &impl RandomSource,
-    loops: usize,
-    connections: usize,
-    accepts: u64,
-    limits: Limits,
-) -> io::Result<Settings> {
-    Ok(Settings {
-        workers: 1,
-        loops,
-        connections,
-        memory: 1_048_576,
-        accepts: Some(accepts),
-        cache_bytes: 0,
-        seed: RandomState::new(rt)?,
-        limits,
-    })
-}
-
-// Serves while the clients run, and gives what both answered.
-fn beside<
-    S: Source,
-    T,
-    C: FnOnce() -> T,
-    H: AllocGlobal
-        + Threads
-        + Wait
-        + Clock
-        + Sync
-        + Net<Listener = TcpListener, Stream = TcpStream>,
->(rt: &H, source: S, listener: TcpListener, settings: &Settings, clients: C) -> (Option<Report>, T)
-    requires { C.pre clients }
-{
-    thread::scope(thread::scope_env(), rt, move |scope| {
-        let serve = move || serve_loops(rt, rt.alloc(), source, listener, settings).ok();
-        match scope.spawn(serve) {
-            Ok(server) => {
-                let seen = clients();
-                (server.join(rt), seen)
-            }
-            Err(_) => (None, clients()),
-        }
-    })
-}
 
 const ASK_TWICE: &[u8] = b"GET /_groupcache/echo/k HTTP/1.1\r\nHost: h\r\n\r\n\
       GET /_groupcache/echo/k HTTP/1.1\r\nHost: h\r\nConnection: close\r\n\r\n";
@@ -93,7 +33,8 @@ const FOUND_TWICE: &[u8] =
 #[test]
 fn a_client_asks_a_loop_twice(rt: HostRuntime) -> Result<(), Fail> {
     let (listener, address) = listen(&rt)?;
-    let settings = settings_of(&rt, 1, 1, 1, patient())?;
+    let outside = Outside::new();
+    let settings = settings_of(&rt, &outside, 1, 1, 1, patient())?;
     let (report, received) = beside(&rt, DemoSource, listener, &settings, || {
         exchange(&rt, address, ASK_TWICE)
     });
@@ -105,9 +46,39 @@ fn a_client_asks_a_loop_twice(rt: HostRuntime) -> Result<(), Fail> {
 }
 
 #[test]
+fn a_server_publishes_what_it_counts(rt: HostRuntime) -> Result<(), Fail> {
+    let (listener, address) = listen(&rt)?;
+    let outside = Outside::new();
+    let settings = settings_of(&rt, &outside, 1, 1, 1, patient())?;
+    let (report, _) = beside(&rt, DemoSource, listener, &settings, || {
+        exchange(&rt, address, ASK_TWICE)
+    });
+    let counts = outside.counters.read();
+    let (loops, workers) = (counts.loops, counts.workers);
+    let parts = loops
+        .hits
+        .wrapping_add(loops.led)
+        .wrapping_add(loops.joined);
+    let jobs = workers.calls.wrapping_add(workers.rehits);
+    assert!(rt; has_asked(&report, loops.asked));
+    assert_eq!(rt;
+        [
+            loops.asked,
+            parts,
+            loops.connections,
+            counts.accepts.accepted
+        ],
+        [2, 2, 0, 1]
+    );
+    assert_eq!(rt; [jobs, counts.accepts.failed], [loops.led, 0]);
+    Ok(())
+}
+
+#[test]
 fn more_clients_than_connections(rt: HostRuntime) -> Result<(), Fail> {
     let (listener, address) = listen(&rt)?;
-    let settings = settings_of(&rt, 2, 1, 3, patient())?;
+    let outside = Outside::new();
+    let settings = settings_of(&rt, &outside, 2, 1, 3, patient())?;
     let (report, seen) = beside(&rt, DemoSource, listener, &settings, || {
         let (Some(one), Some(other)) = (connect(&rt, address), connect(&rt, address)) else {
             return [false; 3];
@@ -157,8 +128,8 @@ fn ask_once(stream: &TcpStream, key: &[u8; 5]) -> bool {
     send(stream, &request) && reader.read_exact(&mut reply).is_ok() && reply == wanted
 }
 
-// Asks for so many keys, one after the other, and says whether each reply came.
-fn ask_each<H: AllocGlobal + Net<Listener = TcpListener, Stream = TcpStream>>(
+/// Asks for so many keys, one after the other, and says whether each reply came.
+pub fn ask_each<H: AllocGlobal + Net<Listener = TcpListener, Stream = TcpStream>>(
     rt: &H,
     address: SocketAddr,
     count: u32,
@@ -172,7 +143,8 @@ fn ask_each<H: AllocGlobal + Net<Listener = TcpListener, Stream = TcpStream>>(
 #[test]
 fn one_client_is_woken_for_each_of_a_thousand_keys(rt: HostRuntime) -> Result<(), Fail> {
     let (listener, address) = listen(&rt)?;
-    let settings = settings_of(&rt, 1, 1, 1, patient())?;
+    let outside = Outside::new();
+    let settings = settings_of(&rt, &outside, 1, 1, 1, patient())?;
     let (report, asked) = beside(&rt, DemoSource, listener, &settings, || {
         ask_each(&rt, address, 1_100)
     });
@@ -205,7 +177,8 @@ impl Hook for Sweeping {
 #[test]
 fn a_fill_comes_at_each_moment_of_falling_asleep(rt: HostRuntime) -> Result<(), Fail> {
     let (listener, address) = listen(&rt)?;
-    let settings = settings_of(&rt, 1, 1, 1, patient())?;
+    let outside = Outside::new();
+    let settings = settings_of(&rt, &outside, 1, 1, 1, patient())?;
     let source = Hooked { hook: Sweeping };
     let (report, asked) = beside(&rt, source, listener, &settings, || {
         ask_each(&rt, address, 9_999)
@@ -249,8 +222,8 @@ fn all_answered(alloc: Global, clients: &[Option<TcpStream>], requests: &[Vec<u8
     [sent, received]
 }
 
-// Six clients ask for 700 keys each, and for one more. The keys of each begin so many behind those of the one before.
-fn six_ask<H: AllocGlobal + Net<Listener = TcpListener, Stream = TcpStream>>(
+/// Six clients ask for 700 keys each, and for one more. The keys of each begin so many behind those of the one before.
+pub fn six_ask<H: AllocGlobal + Net<Listener = TcpListener, Stream = TcpStream>>(
     rt: &H,
     address: SocketAddr,
     apart: u32,
@@ -278,7 +251,8 @@ fn six_ask<H: AllocGlobal + Net<Listener = TcpListener, Stream = TcpStream>>(
 #[test]
 fn clients_of_three_loops_ask_for_the_same_keys_at_once(rt: HostRuntime) -> Result<(), Fail> {
     let (listener, address) = listen(&rt)?;
-    let settings = settings_of(&rt, 3, 100, 6, patient())?;
+    let outside = Outside::new();
+    let settings = settings_of(&rt, &outside, 3, 100, 6, patient())?;
     let (report, seen) = beside(&rt, DemoSource, listener, &settings, || {
         six_ask(&rt, address, 0)
     });
@@ -333,7 +307,8 @@ fn each_asks<
 fn more_clients_ask_than_the_queue_has_room_for(rt: HostRuntime) -> Result<(), Fail> {
     let open = AtomicBool::new(false);
     let (listener, address) = listen(&rt)?;
-    let settings = settings_of(&rt, 1, 400, 300, patient())?;
+    let outside = Outside::new();
+    let settings = settings_of(&rt, &outside, 1, 400, 300, patient())?;
     let source = Hooked {
         hook: Gated { open: &open },
     };
@@ -363,7 +338,8 @@ fn a_silent_client_is_closed(rt: HostRuntime) -> Result<(), Fail> {
         },
     ] {
         let (listener, address) = listen(&rt)?;
-        let settings = settings_of(&rt, 1, 1, 2, limits)?;
+        let outside = Outside::new();
+        let settings = settings_of(&rt, &outside, 1, 1, 2, limits)?;
         let (report, seen) = beside(&rt, DemoSource, listener, &settings, || {
             [
                 is_text(&exchange(&rt, address, ASK), FOUND),
@@ -384,7 +360,8 @@ fn a_client_that_takes_nothing_is_closed(rt: HostRuntime) -> Result<(), Fail> {
         unread: Duration::from_millis(100),
         ..patient()
     };
-    let settings = settings_of(&rt, 1, 1, 2, limits)?;
+    let outside = Outside::new();
+    let settings = settings_of(&rt, &outside, 1, 1, 2, limits)?;
     let (report, seen) = beside(&rt, DemoSource, listener, &settings, || {
         let held = connect(&rt, address);
         let sent = match &held {
@@ -405,6 +382,31 @@ fn a_client_that_takes_nothing_is_closed(rt: HostRuntime) -> Result<(), Fail> {
     Ok(())
 }
 
+// Whether a server with these numbers is refused by this fault.
+fn is_refused<
+    S: Source,
+    H: AllocGlobal
+        + Threads
+        + Wait
+        + Clock
+        + Sync
+        + RandomSource
+        + Net<Listener = TcpListener, Stream = TcpStream>,
+>(rt: &H, source: S, workers: usize, loops: usize, fault: OpenFault) -> Result<bool, Fail> {
+    let (listener, _) = listen(rt)?;
+    let outside = Outside::new();
+    let settings = settings_of(rt, &outside, loops, 1, 1, patient())?;
+    let settings = Settings {
+        workers,
+        ..settings
+    };
+    let answered = serve_loops(rt, rt.alloc(), source, listener, &settings);
+    Ok(match answered {
+        Err(ServerFault::Open(found)) => found == fault,
+        _ => false,
+    })
+}
+
 #[test]
 fn loops_refuse_each_number(rt: HostRuntime) -> Result<(), Fail> {
     for (workers, loops, fault) in [
@@ -413,16 +415,7 @@ fn loops_refuse_each_number(rt: HostRuntime) -> Result<(), Fail> {
         (1, 0, OpenFault::Conns),
         (1, 17, OpenFault::Conns),
     ] {
-        let (listener, _) = listen(&rt)?;
-        let settings = Settings {
-            workers,
-            ..settings_of(&rt, loops, 1, 1, patient())?
-        };
-        let answered = serve_loops(&rt, rt.alloc(), DemoSource, listener, &settings);
-        let refused = match answered {
-            Err(ServerFault::Open(found)) => found == fault,
-            _ => false,
-        };
+        let refused = is_refused(&rt, DemoSource, workers, loops, fault)?;
         assert!(rt; refused, "at {workers} {loops}");
     }
     Ok(())
