@@ -39,6 +39,7 @@ ECHO = table(b"echo\tk\tv\n")
 URL = "http://127.0.0.1:1/"
 THREADS = "a number from 1 to 16 is needed"
 SIZE = "a number of bytes is needed, or of KiB, MiB or GiB, such as 64MiB"
+PAGE = "a port, or an address and a port, is needed, such as 9100 or 127.0.0.1:9100"
 
 # the words, the status, what standard error holds
 ROWS = [
@@ -59,6 +60,18 @@ ROWS = [
     (HERE + ["--demo", "--cache", "64MB"], 1, f"peer_front: --cache 64MB: {SIZE}\n"),
     (HERE + ["--demo", "--memory", "18446744073709551615GiB"], 1, f"peer_front: --memory 18446744073709551615GiB: {SIZE}\n"),
     (HERE + ["--demo", "--timeout", "0"], 1, "peer_front: --timeout 0: a number from 1 to 3600 is needed\n"),
+    (HERE + ["--demo", "--stats", "x"], 1, f"peer_front: --stats x: {PAGE}\n"),
+    (HERE + ["--demo", "--stats", ""], 1, f"peer_front: --stats : {PAGE}\n"),
+    (HERE + ["--demo", "--stats", "0"], 1, f"peer_front: --stats 0: {PAGE}\n"),
+    (HERE + ["--demo", "--stats", "65536"], 1, f"peer_front: --stats 65536: {PAGE}\n"),
+    (HERE + ["--demo", "--stats", "127.0.0.1"], 1, f"peer_front: --stats 127.0.0.1: {PAGE}\n"),
+    (HERE + ["--demo", "--stats", ":9100"], 1, f"peer_front: --stats :9100: {PAGE}\n"),
+    (HERE + ["--demo", "--stats", TAKEN], 2, f"peer_front: cannot serve --stats {TAKEN}: "),
+    (HERE + ["--demo", "--stats", TAKEN.split(":")[1]], 2, f"peer_front: cannot serve --stats {TAKEN}: "),
+    (HERE + ["--demo", "--stats"], 1, "--stats"),
+    (HERE + ["--demo", "--until-eof=x"], 1, "--until-eof"),
+    (HERE + ["--demo", "--until-eof"], 0, "peer_front: serves 3 groups at 127.0.0.1:"),
+    (HERE + ["--demo", "--until-eof", "--stats", "127.0.0.1:0"], 0, "peer_front: serves /metrics and /healthz at 127.0.0.1:0\n"),
     (HERE + ["--demo", "--timeout", "3601"], 1, "peer_front: --timeout 3601: a number from 1 to 3600 is needed\n"),
     (HERE + ["colors"], 1, "peer_front: colors: GROUP=URL is needed, such as thumbs=http://10.0.0.7/thumbs/\n"),
     (HERE + ["=" + URL], 1, f"peer_front: ={URL}: GROUP=URL is needed, such as thumbs=http://10.0.0.7/thumbs/\n"),
@@ -78,7 +91,7 @@ ROWS = [
 
 failures = 0
 for words, status, text in ROWS:
-    done = subprocess.run([PROGRAM] + words, capture_output=True, timeout=60)
+    done = subprocess.run([PROGRAM] + words, stdin=subprocess.DEVNULL, capture_output=True, timeout=60)
     told = done.stderr.decode()
     if done.returncode != status or text not in told:
         failures += 1
@@ -86,7 +99,8 @@ for words, status, text in ROWS:
 
 # Each flag with a good value is taken: the program says that it listens.
 for words in [["--demo", "--workers", "1", "--loops", "1", "--connections", "1", "--cache", "0", "--memory", "1KiB"],
-              ["--table", GOOD, "--timeout", "1"], ["a=" + URL, "--connection-for-each"], ["--table", GOOD, "--demo", "a=" + URL]]:
+              ["--table", GOOD, "--timeout", "1"], ["a=" + URL, "--connection-for-each"], ["--table", GOOD, "--demo", "a=" + URL],
+              ["--demo", "--stats", "127.0.0.1:0"]]:
     run = subprocess.Popen([PROGRAM] + HERE + words, stdout=subprocess.PIPE)
     line = run.stdout.readline()
     run.kill()
@@ -97,5 +111,5 @@ for words in [["--demo", "--workers", "1", "--loops", "1", "--connections", "1",
 
 for name in (GOOD, BAD, TWICE, LARGE, ECHO):
     os.unlink(name)
-print("rows", len(ROWS) + 4, "failures", failures)
+print("rows", len(ROWS) + 5, "failures", failures)
 sys.exit(1 if failures else 0)

@@ -1,9 +1,9 @@
 #!/usr/bin/env python3
 """Requests a second over sockets: the built server beside groupcache in Go, hyper in Rust, and a C server that parses next to nothing.
 
-    (cd crates/peer_serve && rt run < stdin > /dev/null)      # builds the server
+    (cd crates/peer_front && rt run -- --version)      # builds the server; or peer_serve, by (cd crates/peer_serve && rt run < stdin)
     apt-get install gcc golang-go golang-github-golang-groupcache-dev librust-hyper+full-dev librust-tokio+full-dev python3-matplotlib
-    /usr/bin/python3 bench/net.py [--rounds 5] [--seconds 0.5] [--loads small|big|quick] [--hogs] [--draw docs/speed.svg] [SERVER]
+    /usr/bin/python3 bench/net.py [--rounds 5] [--seconds 0.5] [--loads small|big|many|quick] [--hogs] [--draw docs/speed.svg] [--words "WORD .."] [SERVER]
 
 Builds the peers and the load generator into bench/net/out, starts all servers, and runs each load against each server in turn,
 so many rounds, interleaved: the machine's own speed swings, so only ratios of one round count. Every reply is checked byte by
@@ -29,8 +29,12 @@ GRID = [(c, d) for d in (1, 16, 64) for c in (1, 4, 16)]
 SMALL = [("echo", key, c, d) for key in ("hot:k", "unique") for c, d in GRID]
 BIG = [("fill", f"hot:{size}", c, d) for size in (65536, 1048576) for d in (1, 16) for c in (1, 4)]
 QUICK = [("echo", key, c, d) for key in ("hot:k", "unique") for c, d in ((1, 1), (4, 1), (4, 16), (16, 64))]
-LOADS = {"small": SMALL, "big": BIG, "quick": QUICK}
+MANY = [("echo", key, c, 1) for key in ("hot:k", "unique") for c in (100, 1000)]
+LOADS = {"small": SMALL, "big": BIG, "many": MANY, "quick": QUICK}
 REFERENCE = "go"
+
+# How each of our programs serves the demonstration source.
+WORDS = {"peer_front": ["--listen", "{addr}", "--demo"], "peer_serve": ["{addr}", "2", "16", "1000000"]}
 
 
 def built(path, command, folder, **more):
@@ -59,7 +63,7 @@ def peers():
 def program(path):
     """The whole path of the built server."""
     if not os.path.exists(path):
-        sys.exit(f"{os.path.basename(sys.argv[0])}: no program {path}: run `rt run < stdin` in crates/peer_serve first")
+        sys.exit(f"{os.path.basename(sys.argv[0])}: no program {path}: run `rt run` in its crate first")
     return os.path.abspath(path)
 
 
@@ -179,16 +183,17 @@ def draw(results, names, path):
 
 def main():
     parser = argparse.ArgumentParser()
-    parser.add_argument("server", nargs="?", default="crates/peer_serve/out/peer_serve")
+    parser.add_argument("server", nargs="?", default="crates/peer_front/out/peer_front")
     parser.add_argument("--rounds", type=int, default=5)
     parser.add_argument("--seconds", type=float, default=0.5)
     parser.add_argument("--loads", choices=LOADS, default="small")
     parser.add_argument("--hogs", action="store_true")
     parser.add_argument("--draw")
+    parser.add_argument("--words", default="")
     given = parser.parse_args()
     server = program(given.server)
     load, commands = peers()
-    commands = {REFERENCE: commands.pop(REFERENCE), "ours": [server, "{addr}", "2", "16", "1000000"], **commands}
+    commands = {REFERENCE: commands.pop(REFERENCE), "ours": [server, *WORDS[os.path.basename(server)], *given.words.split()], **commands}
     servers, hogs = {}, []
     try:
         for name, command in commands.items():
