@@ -1,50 +1,108 @@
 #!/usr/bin/env python3
-"""Whether the wrong bodies that docs/PROMISES.md names are those of the crates' must-fail/ folders, each named once at least.
+"""Whether docs/PROMISES.md names what there is.
 
     docs/check_promises.py
 
-Prints each name without an edit, and each edit without a row, and ends with status 1 where there is one. `and others` behind
-a name stands for all edits of the same file name up to its first `_`.
+Of the first table: each wrong body that a row names is an edit of some crate's must-fail/ folder; each function, type and
+crate that carries a promise is there; and each clause that stands behind a dot is one of a function of that name. Of the
+tables of wrong programs in threads: each test and each edit that they name is there. Each edit stands in one of these rows.
+
+Prints what is not so, and how much was looked at, and ends with status 1 where something is not so. `*` stands for all
+functions of a type.
 """
 import os
 import re
 import sys
 
 ROOT = os.path.dirname(os.path.dirname(os.path.abspath(__file__)))
+CRATES = os.path.join(ROOT, "crates")
+NAME = re.compile(r"`([^`]+)`")
+CONTRACT = re.compile(r"^((?:[A-Za-z_]\w*::)*)(\w+|\*)?((?:\.\w+)*)$")
+DECLARED = re.compile(r"\b(?:fn|struct|enum|trait|mod|type) (\w+)")
+FUNCTION = re.compile(r"\bfn (\w+)(.*?)(?=\bfn \w|\Z)", re.DOTALL)
+TYPE = re.compile(r"^(?:pub(?:\([a-z]+\))? )?(?:impl|trait|struct|enum)\b[^{;]*", re.MULTILINE)
+
+
+def sources():
+    """The texts of all sources."""
+    for path, folders, names in os.walk(CRATES):
+        folders[:] = [folder for folder in folders if folder != "out"]
+        for name in names:
+            if name.endswith(".rt"):
+                with open(os.path.join(path, name), encoding="utf-8") as source:
+                    yield source.read()
+
+
+class Declared:
+    """What the sources declare."""
+
+    def __init__(self):
+        self.names, self.clauses, self.methods = set(os.listdir(CRATES)) | {"Hash", "laws"}, set(), set()
+        for text in sources():
+            self.names.update(DECLARED.findall(text))
+            types = {word for head in TYPE.findall(text) for word in re.findall(r"\b[A-Z]\w+", head)}
+            for name, rest in FUNCTION.findall(text):
+                self.clauses.update((name, clause) for clause in re.findall(r"\b(?:ensures|requires) (\w+) \{", rest))
+                self.methods.update((word, name) for word in types)
 
 
 def edits():
     """The names of all edits."""
-    crates = os.path.join(ROOT, "crates")
-    folders = [os.path.join(crates, name, "must-fail") for name in os.listdir(crates)]
+    folders = [os.path.join(CRATES, name, "must-fail") for name in os.listdir(CRATES)]
     return {file[: -len(".edit")] for folder in folders if os.path.isdir(folder) for file in os.listdir(folder)}
 
 
-def named(found):
-    """The names in the last columns of the page's tables that are or look like edits, with those that `and others` stands for."""
-    names = set()
-    with open(os.path.join(ROOT, "docs/PROMISES.md"), encoding="utf-8") as page:
-        for line in page:
-            last = line.rstrip().rstrip("|").rsplit("|", 1)[-1] if line.startswith("|") else ""
-            words = set(re.findall(r"`([a-z][a-z0-9]*_[a-z0-9_]+)`", last))
-            if "and others" in last:
-                starts = {word.split("_")[0] for word in words}
-                words |= {name for name in found if name.split("_")[0] in starts}
-            names |= words
-    return names
+def rows_of(page):
+    """The rows of the tables in a part of the page, without their heads."""
+    rows = [line.strip().strip("|").split(" | ") for line in page.split("\n") if line.startswith("| ")]
+    return [row for row in rows if row[0].strip() not in ("Promise", "Wrong body")]
+
+
+def wrong_bodies(column):
+    """The edits that a column names, where it does not name the function of another row."""
+    return set() if column.strip().startswith("those of") else set(NAME.findall(column))
+
+
+def untrue_contracts(column, declared):
+    """The names of this column that no source declares. A name that begins with a dot is a clause of the one before it."""
+    of, function = "", ""
+    for name in NAME.findall(column):
+        parts = CONTRACT.match(name)
+        if not parts:
+            yield name
+            continue
+        path, last, clauses = parts.group(1), parts.group(2), parts.group(3)
+        if path:
+            of = path.split("::")[-2]
+        elif last and last[0].isupper():
+            of = ""
+        function = last or function
+        if function != "*" and function not in declared.names or of and of not in declared.names:
+            yield name
+        elif path and of[0].isupper() and function != "*" and (of, function) not in declared.methods:
+            yield name
+        for clause in clauses.split(".")[1:]:
+            if (function, clause) not in declared.clauses:
+                yield name
 
 
 def main():
-    found = edits()
-    names = named(found)
-    missing = sorted(found - names)
-    for name in missing:
-        print(f"no row: {name}")
-    unknown = sorted(name for name in names - found if any(name.split("_")[0] == edit.split("_")[0] for edit in found))
-    for name in unknown:
-        print(f"no edit: {name}")
-    print(f"edits {len(found)} without a row {len(missing)} names without an edit {len(unknown)}")
-    sys.exit(1 if missing or unknown else 0)
+    with open(os.path.join(ROOT, "docs/PROMISES.md"), encoding="utf-8") as page:
+        promises, _, others = page.read().partition("\n## Memory that is refused")
+    declared, found, wrong = Declared(), edits(), []
+    named, contracts = set(), 0
+    for row in rows_of(promises):
+        contracts += len(NAME.findall(row[1]))
+        wrong += [f"no contract: {name}" for name in untrue_contracts(row[1], declared)]
+        named |= wrong_bodies(row[2])
+    wrong += [f"no edit: {name}" for name in sorted(named - found)]
+    threads = others.partition("\n## Wrong programs in threads")[2].partition("\n## ")[0]
+    told = [re.split(r"[:.]+", name)[-1] for row in rows_of(threads) for name in NAME.findall(row[-1]) if "/" not in name]
+    known = declared.names | found | {clause for _, clause in declared.clauses}
+    wrong += [f"no test, contract or edit: {name}" for name in told if name not in known]
+    wrong += [f"no row: {name}" for name in sorted(found - named - set(told))]
+    print("\n".join([*wrong, f"edits {len(found)} contracts {contracts} of wrong programs {len(told)} untrue {len(wrong)}"]))
+    sys.exit(1 if wrong else 0)
 
 
 main()
