@@ -1,0 +1,87 @@
+#!/usr/bin/env python3
+"""Whether the files and names that README and docs/ name are there.
+
+    docs/check_names.py
+
+Of each page but TRAPS, which names what the toolchain has: each path between backquotes has to be a file or a folder, from
+the top, from crates/, from a crate, or from a crate's src/; and each name in backquotes that looks like one of a program
+(`snake_case`, `CamelCase`, with `::` or a dot) has to stand somewhere in the sources, the scripts or the examples. Where a
+text says "`name`, `name` in `path`", each name has to stand in that file.
+
+Prints what is not so, and ends with status 1 where something is not.
+"""
+import glob
+import os
+import re
+import sys
+
+ROOT = os.path.dirname(os.path.dirname(os.path.abspath(__file__)))
+QUOTED = re.compile(r"`([^`]+)`")
+PATH = re.compile(r"[\w.-]+(?:/[\w.*-]+)+/?|[\w-]+\.(?:rt|py|md|svg|txt|antt|edit)")
+NAME = re.compile(r"(?:\w+(?:::|\.))*(?:[a-z]+(?:_\w+)+|[A-Z]+[a-z]\w*|[A-Z]+_\w+)")
+IN_FILE = re.compile(r"((?:`[^`]+`(?:, | and ))*`[^`]+`) in `([^`]+)`")
+# Names of HTTP, of groupcache, of Go, and of what a text makes up.
+OTHERS = re.compile(r"/|out/|values/|net/http|lru/lru\.go|fill/1048576|BasePath|Date")
+# The names of this page are those of the toolchain.
+OF_TOOLCHAIN = "TRAPS.md"
+
+
+def found_at(path):
+    """The files and folders that a path may stand for."""
+    path = path.rstrip("/")
+    starts = ["", "docs", "crates", "crates/*", "crates/*/src", "crates/*/src/*", "bench"]
+    ends = ["", ".antt", ".rt"]
+    return [one for start in starts for end in ends for one in glob.glob(os.path.join(ROOT, start, path + end))]
+
+
+def all_text():
+    """All that the sources, scripts and examples say, and the names of their files."""
+    texts = []
+    for folder in ("crates", "bench", "examples", "docs/pictures", ".ci"):
+        for path, folders, names in os.walk(os.path.join(ROOT, folder)):
+            folders[:] = [name for name in folders if name != "out"]
+            for name in names:
+                texts.append(name)
+                with open(os.path.join(path, name), encoding="utf-8", errors="replace") as text:
+                    texts.append(text.read())
+    with open(os.path.join(ROOT, "crates.txt"), encoding="utf-8") as text:
+        texts.append(text.read())
+    return set(re.findall(r"\w+", "\n".join(texts)))
+
+
+def untrue(line, known, names_too):
+    """What a line names that is not there."""
+    for name in QUOTED.findall(line):
+        if PATH.fullmatch(name) and not OTHERS.match(name):
+            if names_too and not found_at(name):
+                yield f"no file: {name}"
+        elif names_too and NAME.fullmatch(name) and not OTHERS.match(name):
+            missing = [word for word in re.findall(r"\w+", name) if word not in known]
+            if missing:
+                yield f"no name: {name}"
+    for names, path in IN_FILE.findall(line):
+        if not PATH.fullmatch(path):
+            continue
+        words = set()
+        for one in found_at(path):
+            if os.path.isfile(one):
+                with open(one, encoding="utf-8") as text:
+                    words.update(re.findall(r"\w+", text.read()))
+        for name in QUOTED.findall(names):
+            if not words.issuperset(re.findall(r"\w+", name.split("::")[-1])):
+                yield f"no {name} in {path}"
+
+
+def main():
+    known, count, wrong = all_text(), 0, []
+    for page in [os.path.join(ROOT, "README.md"), *sorted(glob.glob(os.path.join(ROOT, "docs/*.md")))]:
+        with open(page, encoding="utf-8") as lines:
+            for number, line in enumerate(lines, 1):
+                count += len(QUOTED.findall(line))
+                found = untrue(line, known, not page.endswith(OF_TOOLCHAIN))
+                wrong += [f"{os.path.relpath(page, ROOT)}:{number}: {one}" for one in found]
+    print("\n".join([*wrong, f"words in backquotes {count} not there {len(wrong)}"]))
+    sys.exit(1 if wrong else 0)
+
+
+main()
