@@ -6,7 +6,8 @@
 Of each page but TRAPS, which names what the toolchain has: each path between backquotes has to be a file or a folder, from
 the top, from crates/, from a crate, or from a crate's src/; and each name in backquotes that looks like one of a program
 (`snake_case`, `CamelCase`, with `::` or a dot) has to stand somewhere in the sources, the scripts or the examples. Where a
-text says "`name`, `name` in `path`", each name has to stand in that file.
+text says "`name`, `name` in `path`", each name has to stand in that file. Each line of the indented blocks of REUSE behind
+"From `path`" has to stand in that file.
 
 Prints what is not so, and ends with status 1 where something is not.
 """
@@ -72,8 +73,26 @@ def untrue(line, known, names_too):
                 yield f"no {name} in {path}"
 
 
+def blocks(page):
+    """Each file of REUSE that code is taken from, with that code."""
+    for part in re.split(r"\bFrom (?=`)", page)[1:]:
+        path, _, rest = part[1:].partition("`")
+        yield path, "\n".join(re.findall(r"^(?:    .*)?$", rest.partition("\n")[2].split("\n`")[0], re.MULTILINE)).strip("\n")
+
+
+def unlike(page):
+    """The blocks of REUSE that their files do not have."""
+    for path, block in blocks(page):
+        with open(os.path.join(ROOT, path), encoding="utf-8") as source:
+            lines = {line.strip() for line in source}
+        missing = [line.strip() for line in block.split("\n") if line.strip() not in lines | {""}]
+        yield from (f"not in {path}: {line}" for line in missing)
+
+
 def main():
     known, count, wrong = all_text(), 0, []
+    with open(os.path.join(ROOT, "docs/REUSE.md"), encoding="utf-8") as page:
+        wrong += unlike(page.read())
     for page in [os.path.join(ROOT, "README.md"), *sorted(glob.glob(os.path.join(ROOT, "docs/*.md")))]:
         with open(page, encoding="utf-8") as lines:
             for number, line in enumerate(lines, 1):
