@@ -6,8 +6,8 @@
 Of each page but TRAPS, which names what the toolchain has: each path between backquotes has to be a file or a folder, from
 the top, from crates/, from a crate, or from a crate's src/; and each name in backquotes that looks like one of a program
 (`snake_case`, `CamelCase`, with `::` or a dot) has to stand somewhere in the sources, the scripts or the examples. Where a
-text says "`name`, `name` in `path`", each name has to stand in that file. Each line of the indented blocks of REUSE behind
-"From `path`" has to stand in that file.
+text says "`name`, `name` in `path`", each name has to stand in that file. Each line of an indented block behind "From `path`"
+has to stand in that file.
 
 Prints what is not so, and ends with status 1 where something is not.
 """
@@ -15,6 +15,7 @@ import glob
 import os
 import re
 import sys
+from itertools import takewhile
 
 ROOT = os.path.dirname(os.path.dirname(os.path.abspath(__file__)))
 QUOTED = re.compile(r"`([^`]+)`")
@@ -74,28 +75,28 @@ def untrue(line, known, names_too):
 
 
 def blocks(page):
-    """Each file of REUSE that code is taken from, with that code."""
+    """Each file that the page takes code from, with the lines of that code."""
     for part in re.split(r"\bFrom (?=`)", page)[1:]:
         path, _, rest = part[1:].partition("`")
-        yield path, "\n".join(re.findall(r"^(?:    .*)?$", rest.partition("\n")[2].split("\n`")[0], re.MULTILINE)).strip("\n")
+        lines = takewhile(lambda line: not line or line.startswith("    "), rest.split("\n")[1:])
+        yield path, [line.strip() for line in lines if line]
 
 
 def unlike(page):
-    """The blocks of REUSE that their files do not have."""
+    """What the blocks of the page say that their files do not."""
     for path, block in blocks(page):
         with open(os.path.join(ROOT, path), encoding="utf-8") as source:
             lines = {line.strip() for line in source}
-        missing = [line.strip() for line in block.split("\n") if line.strip() not in lines | {""}]
-        yield from (f"not in {path}: {line}" for line in missing)
+        yield from (f"not in {path}: {line}" for line in block if line not in lines)
 
 
 def main():
     known, count, wrong = all_text(), 0, []
-    with open(os.path.join(ROOT, "docs/REUSE.md"), encoding="utf-8") as page:
-        wrong += unlike(page.read())
     for page in [os.path.join(ROOT, "README.md"), *sorted(glob.glob(os.path.join(ROOT, "docs/*.md")))]:
         with open(page, encoding="utf-8") as lines:
-            for number, line in enumerate(lines, 1):
+            text = lines.read()
+            wrong += [f"{os.path.relpath(page, ROOT)}: {one}" for one in unlike(text)]
+            for number, line in enumerate(text.split("\n"), 1):
                 count += len(QUOTED.findall(line))
                 found = untrue(line, known, not page.endswith(OF_TOOLCHAIN))
                 wrong += [f"{os.path.relpath(page, ROOT)}:{number}: {one}" for one in found]
