@@ -2,14 +2,17 @@
 """Instructions a request of the built peer_serve, counted by callgrind: they do not change with what else the machine does.
 
     (cd crates/peer_serve && rt run < stdin > /dev/null)    # builds it
+    (cd crates/exchange_rate && rt run < stdin)             # builds the program of one exchange
     apt-get install valgrind
-    python3 bench/instructions.py [--parts] [crates/peer_serve/out/peer_serve]
+    python3 bench/instructions.py [--parts] [--only ROWS] [crates/peer_serve/out/peer_serve]
 
 Serial: so many requests on standard input, one thread, no cache. Over a connection: the server with one worker, a client that
-has 16 requests in flight. Each row runs 1,000 requests and 9,000; what the 9,000 took more, over 8,000, is the number for one. Over
-a connection the threads wait for one another, so the median of three runs is given with the least and the largest. With
---parts it prints in place of that what share of a run's instructions which part of the program takes, by the names of functions;
-what a compiler wrote into another function counts as that one's.
+has 16 requests in flight. An exchange: a connection as a state over memory, as the loops of peer_front have one for each client,
+in one thread that fills the jobs too; a thousand bytes come in each turn. Each row runs 1,000 requests and 9,000; what the 9,000
+took more, over 8,000, is the number for one. Over a connection the threads wait for one another, so the median of three runs is
+given with the least and the largest. --only serial, connection or exchange prints those rows alone. With --parts it prints in
+place of that what share of a run's instructions which part of the program takes, by the names of functions; what a compiler wrote
+into another function counts as that one's.
 """
 import argparse
 import collections
@@ -47,12 +50,19 @@ CONNECTED = [
     ("a hit: echo/k, the head of Go's client", same("echo/k", GO)),
     ("a key asked for once: echo", lambda i: request(f"echo/{i:09}")),
 ]
+EXCHANGE = [
+    ("a hit: echo/k, 45 bytes", same("echo/k")),
+    ("a hit: echo/k, the head of Go's client", same("echo/k", GO)),
+    ("a key asked for once: echo", lambda i: request(f"echo/{i:09}")),
+    ("a group that is not there: 404", same("none/k")),
+]
 
 
-def counted(words, **how):
+def counted(words, program=None, **how):
     """A process under callgrind, whose last line but one tells how many instructions it took."""
     tool = ["valgrind", "--tool=callgrind", f"--callgrind-out-file={options.out}"]
-    return subprocess.Popen([*tool, os.path.abspath(options.program), *words], stderr=subprocess.PIPE, text=True, **how)
+    path = os.path.abspath(program or options.program)
+    return subprocess.Popen([*tool, path, *words], stderr=subprocess.PIPE, text=True, **how)
 
 
 def total(process):
@@ -62,11 +72,15 @@ def total(process):
     return int(found[1])
 
 
-def serial(made, number):
+def serial(made, number, program=None):
     with tempfile.TemporaryFile() as requests:
         requests.write(b"".join(made(i) for i in range(number)))
         requests.seek(0)
-        return total(counted([], stdin=requests, stdout=subprocess.DEVNULL))
+        return total(counted([], program, stdin=requests, stdout=subprocess.DEVNULL))
+
+
+def exchange(made, number):
+    return serial(made, number, options.exchange)
 
 
 def free_port():
@@ -129,18 +143,26 @@ def print_parts():
 
 def print_counts():
     print("| request | instructions |\n|---|---|")
-    for name, made in SERIAL:
+    for name, made in SERIAL if options.only in (None, "serial") else []:
         print(f"| serial, {name} | {each(serial, made):,.0f} |")
-    for name, made in CONNECTED:
+    for name, made in CONNECTED if options.only in (None, "connection") else []:
         counts = [each(connected, made) for _ in range(3)]
         print(f"| over a connection, {name} | {statistics.median(counts):,.0f} ({min(counts):,.0f} to {max(counts):,.0f}) |")
+    for name, made in EXCHANGE if options.only in (None, "exchange") else []:
+        print(f"| an exchange, {name} | {each(exchange, made):,.0f} |")
 
 
 parser = argparse.ArgumentParser()
 parser.add_argument("program", nargs="?", default="crates/peer_serve/out/peer_serve")
+parser.add_argument("--exchange", default="crates/exchange_rate/out/exchange_rate")
+parser.add_argument("--only", choices=["serial", "connection", "exchange"])
 parser.add_argument("--parts", action="store_true")
 options = parser.parse_args()
 options.out = "/dev/null"
-if not os.path.exists(options.program):
-    sys.exit(f"instructions.py: no program {options.program}: run `rt run < stdin` in crates/peer_serve first")
+needed = [options.exchange] if options.only == "exchange" else [options.program]
+if not options.only and not options.parts:
+    needed.append(options.exchange)
+for program in needed:
+    if not os.path.exists(program):
+        sys.exit(f"instructions.py: no program {program}: run `rt run < stdin` in its crate first")
 print_parts() if options.parts else print_counts()
