@@ -5,6 +5,7 @@ mod brought;
 mod full;
 mod gates;
 mod numbering;
+mod oldest;
 mod opening;
 mod refills;
 mod threads;

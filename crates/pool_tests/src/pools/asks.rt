@@ -14,8 +14,8 @@ use std::sync::ledger::{Blank, Ledger};
 use std::test::Fail;
 use test_support::{SeatLists, ask_in, close_pool, do_jobs, open_pool, push_conn};
 
-// What five asks gave: which were hits, and the last byte of what each showed, or 0.
-type Shown = ([bool; 5], [u8; 5]);
+/// What five asks gave: which were hits, and the last byte of what each showed, or 0.
+pub type Shown = ([bool; 5], [u8; 5]);
 
 // Asks for a key of one byte, and has the worker run behind it: whether it was a hit, and the last byte that it showed.
 fn ask_and_work<S: Source, L: Ledger, R: Wait>(
@@ -39,8 +39,8 @@ fn ask_and_work<S: Source, L: Ledger, R: Wait>(
     Some((matches!(claim, Claim::Ready(_)), last))
 }
 
-// The same for five keys, the last of which is then asked for again.
-fn ask_for_each<S: Source, L: Ledger, R: Wait>(
+/// The same for five keys.
+pub fn ask_for_each<S: Source, L: Ledger, R: Wait>(
     rt: &R,
     alloc: Global,
     pool: &Pool<S, L>,
@@ -61,11 +61,10 @@ fn ask_for_each<S: Source, L: Ledger, R: Wait>(
         hits[i] = hit;
         lasts[i] = last;
     }
-    let _claim = ask_in(rt, alloc, pool, conn, ECHO, &[keys[4]])?;
     Some((hits, lasts))
 }
 
-// The same with the seats of these lists.
+// The same with the seats of these lists, and the last key is then asked for again.
 fn use_lists<S: Source, L: Ledger, R: Wait>(
     rt: &R,
     alloc: Global,
@@ -81,6 +80,7 @@ fn use_lists<S: Source, L: Ledger, R: Wait>(
 {
     let mut conn = pop_conn(pool, &mut lists.conns)?;
     let shown = ask_for_each(rt, alloc, pool, &mut conn, &mut lists.fills, keys);
+    let _claim = ask_in(rt, alloc, pool, &mut conn, ECHO, &[keys[4]]);
     push_conn(pool, &mut lists.conns, conn)?;
     shown
 }
