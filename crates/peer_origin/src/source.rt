@@ -9,13 +9,14 @@ use crate::deadline::Deadline;
 use crate::exchange::fetch;
 use crate::fault::{FetchFault, get_fault};
 use crate::origin::Origin;
+use crate::place::Place;
 use crate::settings::FetchSettings;
 use crate::sockets::Sockets;
 use bytes::Bytes;
 use peer_source::{GetFault, GroupId, Source};
 use peer_stats::FailureSlots;
 use peer_view::{AllocSink, ByteView, SinkFault};
-use std::alloc::Global;
+use std::alloc::{AllocError, Global};
 use std::net::{Net, TcpListener, TcpStream};
 use std::sync::Wait;
 use std::time::Clock;
@@ -31,6 +32,9 @@ pub struct OriginSource<'a, H> {
 }
 
 impl<'a, H> OriginSource<'a, H> {
+    ghost use Rattle.std.specs.Prelude.{◌≡◌, IfOk, map};
+    ghost use Rattle.peer_origin.specs.Places.{asked_at};
+
     /// A source over these origins, in the order of their groups' numbers.
     pub fn new(
         rt: &'a H,
@@ -44,6 +48,17 @@ impl<'a, H> OriginSource<'a, H> {
             origins,
             settings,
         }
+    }
+
+    /// The places of its origins, in the order of their groups' numbers.
+    pub fn places(&self, alloc: Global) -> Result<Vec<Place>, AllocError>
+        ensures { IfOk result (λ places. map asked_at places.items ≡ map (λ o. asked_at o.place) self.now.origins.items) }
+    {
+        let mut places = Vec::new(alloc);
+        for origin in &self.origins {
+            places.push(origin.place.copy(alloc)?)?;
+        }
+        Ok(places)
     }
 }
 
