@@ -1,2 +1,3 @@
 pub mod Fetchings
+pub mod Places
 pub mod Threads

@@ -8,10 +8,17 @@ use Rattle.peer_fill.specs.Seats.{fills_of, fill_parts}
 use Rattle.peer_fill.specs.declared.pool.Pool.{Pool}
 use Rattle.peer_fill.specs.declared.seats.FillSeat.{FillSeat}
 use Rattle.peer_origin.specs.Origins.{IsOriginAnswer}
+use Rattle.peer_origin.specs.declared.place.Place.{Place}
+use Rattle.peer_fetch.specs.Places.{HasPlace}
+use Rattle.peer_fetch.specs.declared.settings.FetchPlan.{FetchPlan}
 
--- whatever an origin may answer, the source may
-abbrev pub AllowsOrigins : (ℕ → List ℕ → Answer → Type 0) → Type 0
-AllowsOrigins answers = (group : ℕ) (key : List ℕ) (a : Answer) → IsOriginAnswer a → answers group key a
+-- of groups that have a place the source may answer whatever an origin may
+abbrev pub AllowsOrigins : (ℕ → List ℕ → Answer → Type 0) → ℕ → List Place → Type 0
+AllowsOrigins answers first each = (group : ℕ) (key : List ℕ) (a : Answer) → HasPlace first each group → IsOriginAnswer a → answers group key a
+
+-- the same for the places of a plan
+abbrev pub Allows : (ℕ → List ℕ → Answer → Type 0) → FetchPlan → Type 0
+Allows answers plan = AllowsOrigins answers plan.places.first plan.places.each.now
 
 module _ {S L : Type 0} {g : Source.Ghosts S} {h : Ledger.Ghosts L} where
   -- it is the same seat of the pool, with its parts, and it counted on

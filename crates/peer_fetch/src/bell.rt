@@ -39,18 +39,20 @@ impl FetchBell {
         })
     }
 
-    /// Jobs were pushed, one or many. Where the thread is awake, this is one load.
-    pub fn ring(&self) {
-        if self.asleep.load(SeqCst) && self.asleep.swap(false, SeqCst) {
+    /// Jobs were pushed, one or many. Whether the thread was asleep, and is woken. Where it is awake, this is one load.
+    pub fn ring(&self) -> bool {
+        let sleeps = self.asleep.load(SeqCst) && self.asleep.swap(false, SeqCst);
+        if sleeps {
             // A wake-up that the system refuses is one that it has under way.
             let _ = self.waker.wake();
         }
+        sleeps
     }
 
     /// No more jobs are pushed: the thread ends once it finds none and has no value under way.
     pub fn stop(&self) {
         self.stopping.store(true, SeqCst);
-        self.ring();
+        let _ = self.ring();
     }
 
     /// Whether no more jobs are pushed.

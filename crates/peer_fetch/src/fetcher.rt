@@ -2,14 +2,15 @@
 
 use crate::done::Done;
 use crate::link::{Link, Turn};
+use crate::places::Numbered;
 use crate::settings::FetchThreadSettings;
 use crate::under_way::UnderWay;
 use mio::event::Event;
 use mio::net::TcpStream;
 use mio::{Interest, Registry, Token};
 use peer_fill::TakenJob;
-use peer_origin::{Failure, FetchFault, Place};
-use peer_source::{GroupId, Source};
+use peer_origin::{Failure, FetchFault};
+use peer_source::Source;
 use slab::Slab;
 use std::alloc::{AllocError, Global};
 use std::collections::VecDeque;
@@ -52,7 +53,6 @@ impl Room {
 #[derive(Drop)]
 pub struct Fetcher<'a, S: Source> {
     alloc: Global,
-    places: &'a [Place],
     settings: FetchThreadSettings,
     links: Slab<Link<'a, S>>,
     // For each origin the connections that may be used again, the one used last behind the others. Some may be gone.
@@ -100,17 +100,11 @@ fn open<H: Net>(
 }
 
 impl<'a, S: Source> Fetcher<'a, S> {
-    /// Nothing is under way. The places are those of the groups, by their numbers.
-    pub fn new(
-        alloc: Global,
-        places: &'a [Place],
-        settings: FetchThreadSettings,
-        room: Room,
-    ) -> Fetcher<'a, S> {
+    /// Nothing is under way.
+    pub fn new(alloc: Global, settings: FetchThreadSettings, room: Room) -> Fetcher<'a, S> {
         let Room { idle, buffer } = room;
         Fetcher {
             alloc,
-            places,
             settings,
             links: Slab::new(alloc),
             idle,
@@ -120,11 +114,6 @@ impl<'a, S: Source> Fetcher<'a, S> {
             now: Duration::ZERO,
             next_due: None,
         }
-    }
-
-    /// The place of a group's origin.
-    pub fn place(&self, group: GroupId) -> Option<&'a Place> {
-        self.places.get(group.number)
     }
 
     /// Whether another value may be under way.
@@ -256,13 +245,12 @@ impl<'a, S: Source> Fetcher<'a, S> {
     pub fn begin<H: Net>(
         &mut self,
         ground: &Ground<'_, H>,
-        place: &'a Place,
+        at: Numbered<'a>,
         job: TakenJob<S>,
     ) -> Option<Done<'a, S>> {
-        let origin = job.group().number;
         let due = self.now.saturating_add(self.settings.fetch.value);
-        match UnderWay::begin(self.alloc, place, job, due) {
-            Ok(under) => self.start(ground, under, origin),
+        match UnderWay::begin(self.alloc, at.place, job, due) {
+            Ok(under) => self.start(ground, under, at.number),
             Err(done) => Some(done),
         }
     }

@@ -4,7 +4,8 @@
 //! It stands on the jobs of `peer_fill`, the requests and replies of `peer_http`, the origins, rules and texts of
 //! `peer_origin`, and the readiness of sockets of `mio`. It promises of each value that it is the content of a whole reply
 //! with status 200 to the request for this very key, on bytes that came behind that request, and that two requests were
-//! sent at most (`Fetching`); and of a thread that it hands back its seat with its parts, as a worker does.
+//! sent at most (`Fetching`); and of a thread that it hands back its seat with its parts, as a worker does. For a group without a place
+//! it calls the source.
 #![tactic(auto)]
 
 mod bell;
@@ -12,11 +13,13 @@ mod done;
 mod fetcher;
 mod fetching;
 mod link;
+mod places;
 mod settings;
 mod thread;
 mod under_way;
 
 pub use bell::FetchBell;
 pub use fetching::{Answer, Fetching};
-pub use settings::FetchThreadSettings;
-pub use thread::FetchThread;
+pub use places::{Numbered, Places};
+pub use settings::{FetchPlan, FetchThreadSettings};
+pub use thread::{FetchParts, FetchThread};

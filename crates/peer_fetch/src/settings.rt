@@ -1,6 +1,8 @@
-//! What can be set of a fetch thread.
+//! What can be set of a fetch thread, and what it fetches.
 
+use crate::places::Places;
 use peer_origin::FetchSettings;
+use peer_stats::FailureSlots;
 use std::time::Duration;
 
 /// What can be set of a fetch thread.
@@ -23,4 +25,14 @@ impl FetchThreadSettings {
             pause: Duration::from_millis(10),
         }
     }
+}
+
+/// What a fetch thread is to fetch, and how.
+#[derive(Clone, Copy)]
+pub struct FetchPlan<'a> {
+    /// The places of the groups that it fetches for. The source is called for all others.
+    pub places: Places<'a>,
+    pub settings: FetchThreadSettings,
+    /// Where is counted why an origin gave no value.
+    pub failures: &'a FailureSlots,
 }

@@ -1,17 +1,16 @@
 //! The thread that fetches: it takes jobs, waits for its connections, and fills flights.
-ghost use Rattle.std.specs.Prelude.{IfSome};
+ghost use Rattle.std.specs.Prelude.{◌≡◌, IfSome};
 ghost use Rattle.peer_source.specs.Outcomes.{answer_of};
 ghost use Rattle.peer_fill.specs.Pools.{source_of, IsFillSeatOf};
 ghost use Rattle.peer_origin.specs.Origins.{IsOriginAnswer};
-ghost use Rattle.peer_fetch.specs.Threads.{AllowsOrigins, IsLaterSeat};
+ghost use Rattle.peer_fetch.specs.Threads.{Allows, IsLaterSeat};
 
 use crate::bell::{FetchBell, WOKEN};
 use crate::done::{Done, outcome_of};
 use crate::fetcher::{Fetcher, Ground, Room};
-use crate::settings::FetchThreadSettings;
+use crate::settings::FetchPlan;
 use mio::{Events, Poll, Registry};
 use peer_fill::{FillSeat, Gate, Pool, TakenJob};
-use peer_origin::{FetchFault, Place};
 use peer_source::{Outcome, Source};
 use std::alloc::Global;
 use std::net::Net;
@@ -23,15 +22,20 @@ use std::time::{Clock, Duration, Instant};
 // How many events one wait gives.
 const MAX_EVENTS: usize = 1024;
 
-/// What a thread needs that fetches values, beside its seat. It may be sent to the thread.
+/// What the system and memory give a thread that fetches, before it is one.
 #[derive(Drop)]
-pub struct FetchThread<'a> {
-    alloc: Global,
+pub struct FetchParts {
     poll: Poll,
     events: Events,
     room: Room,
-    places: &'a [Place],
-    settings: FetchThreadSettings,
+}
+
+/// A thread that fetches, beside its seat. It may be sent to the thread.
+#[derive(Drop)]
+pub struct FetchThread<'a> {
+    alloc: Global,
+    parts: FetchParts,
+    plan: FetchPlan<'a>,
 }
 
 // A thread that fetches.
@@ -43,71 +47,77 @@ struct Running<'a, S: Source> {
     pause: Duration,
 }
 
-// The pool whose jobs are taken, and its gate.
+// The pool whose jobs are taken, its gate, and what is fetched.
 #[derive(Drop)]
-struct Desk<'p, S: Source, L: Ledger, G> {
+struct Desk<'p, 'a, S: Source, L: Ledger, G> {
     alloc: Global,
     pool: &'p Pool<S, L>,
     gate: &'p G,
+    plan: FetchPlan<'a>,
 }
 
-// Fills the flight of a job.
-fn fill<S: Source, L: Ledger, G: Gate, H: Wait>(
+// Fills the flight of a job: with this outcome, where its group has a place, and else by a call of the source.
+fn fill<'a, S: Source, L: Ledger, G: Gate, H: Wait>(
     rt: &H,
-    desk: &Desk<'_, S, L, G>,
+    desk: &Desk<'_, 'a, S, L, G>,
     seat: &mut FillSeat<S, L>,
     job: TakenJob<S>,
     outcome: Outcome,
 )
     requires seat { IsFillSeatOf desk.now.pool.now seat.old }
-    requires answers { AllowsOrigins (S.answers (source_of desk.now.pool.now)) }
+    requires answers { Allows (S.answers (source_of desk.now.pool.now)) desk.now.plan }
     requires answer { IfSome (answer_of outcome) IsOriginAnswer }
     ensures { IsLaterSeat desk.now.pool.now seat.old seat.new }
 {
-    desk.pool.finish(rt, seat, job, outcome, desk.gate);
+    match desk.plan.places.of(job.group()) {
+        Some(_) => desk.pool.finish(rt, seat, job, outcome, desk.gate),
+        None => desk.pool.fill_job(rt, desk.alloc, seat, job, desk.gate),
+    }
 }
 
-// Fills the flight of a job whose value was fetched, or was not.
-fn fill_done<S: Source, L: Ledger, G: Gate, H: Wait>(
+// Fills the flight of a job whose value was fetched, or was not, and counts why it was not.
+fn fill_done<'a, S: Source, L: Ledger, G: Gate, H: Wait>(
     rt: &H,
-    desk: &Desk<'_, S, L, G>,
+    desk: &Desk<'_, 'a, S, L, G>,
     seat: &mut FillSeat<S, L>,
-    done: Option<Done<'_, S>>,
+    done: Option<Done<'a, S>>,
 )
     requires seat { IsFillSeatOf desk.now.pool.now seat.old }
-    requires answers { AllowsOrigins (S.answers (source_of desk.now.pool.now)) }
+    requires answers { Allows (S.answers (source_of desk.now.pool.now)) desk.now.plan }
     ensures { IsLaterSeat desk.now.pool.now seat.old seat.new }
 {
     let Some(done) = done else {
         return;
     };
     let Done { job, got, .. } = done;
+    if let Err(fault) = &got {
+        desk.plan.failures.count(fault.kind());
+    }
     fill(rt, desk, seat, job, outcome_of(desk.alloc, got));
 }
 
-// Takes a job, and begins to fetch its value. Whether there was one.
+// Takes a job, and begins to fetch its value where its group has a place. Whether there was one.
 fn take_job<'a, S: Source, L: Ledger, G: Gate, H: Net + Wait>(
     ground: &Ground<'_, H>,
-    desk: &Desk<'_, S, L, G>,
+    desk: &Desk<'_, 'a, S, L, G>,
     seat: &mut FillSeat<S, L>,
     fetcher: &mut Fetcher<'a, S>,
 ) -> bool
     requires seat { IsFillSeatOf desk.now.pool.now seat.old }
-    requires answers { AllowsOrigins (S.answers (source_of desk.now.pool.now)) }
+    requires answers { Allows (S.answers (source_of desk.now.pool.now)) desk.now.plan }
     ensures { IsLaterSeat desk.now.pool.now seat.old seat.new }
 {
     let Some(job) = desk.pool.take_job(ground.rt, seat, desk.gate) else {
         return false;
     };
-    match fetcher.place(job.group()) {
-        Some(place) => {
-            let done = fetcher.begin(ground, place, job);
+    match desk.plan.places.of(job.group()) {
+        Some(at) => {
+            let done = fetcher.begin(ground, at, job);
             fill_done(ground.rt, desk, seat, done);
         }
-        None => {
-            let outcome = outcome_of(desk.alloc, Err(FetchFault::Status(404)));
-            fill(ground.rt, desk, seat, job, outcome);
-        }
+        None => desk
+            .pool
+            .fill_job(ground.rt, desk.alloc, seat, job, desk.gate),
     }
     true
 }
@@ -115,12 +125,12 @@ fn take_job<'a, S: Source, L: Ledger, G: Gate, H: Net + Wait>(
 // Takes jobs while there is room for their values. Whether there was one.
 fn take_jobs<'a, S: Source, L: Ledger, G: Gate, H: Net + Wait>(
     ground: &Ground<'_, H>,
-    desk: &Desk<'_, S, L, G>,
+    desk: &Desk<'_, 'a, S, L, G>,
     seat: &mut FillSeat<S, L>,
     fetcher: &mut Fetcher<'a, S>,
 ) -> bool
     requires seat { IsFillSeatOf desk.now.pool.now seat.old }
-    requires answers { AllowsOrigins (S.answers (source_of desk.now.pool.now)) }
+    requires answers { Allows (S.answers (source_of desk.now.pool.now)) desk.now.plan }
     ensures { IsLaterSeat desk.now.pool.now seat.old seat.new }
 {
     let mut took = false;
@@ -136,12 +146,12 @@ fn take_jobs<'a, S: Source, L: Ledger, G: Gate, H: Net + Wait>(
 // Gives each of those a turn that are to have one by now.
 fn serve_ready<'a, S: Source, L: Ledger, G: Gate, H: Net + Wait>(
     ground: &Ground<'_, H>,
-    desk: &Desk<'_, S, L, G>,
+    desk: &Desk<'_, 'a, S, L, G>,
     seat: &mut FillSeat<S, L>,
     fetcher: &mut Fetcher<'a, S>,
 )
     requires seat { IsFillSeatOf desk.now.pool.now seat.old }
-    requires answers { AllowsOrigins (S.answers (source_of desk.now.pool.now)) }
+    requires answers { Allows (S.answers (source_of desk.now.pool.now)) desk.now.plan }
     ensures { IsLaterSeat desk.now.pool.now seat.old seat.new }
 {
     for _ in 0..fetcher.ready_count() {
@@ -157,13 +167,13 @@ fn serve_ready<'a, S: Source, L: Ledger, G: Gate, H: Net + Wait>(
 // sleeps.
 fn time_to_wait<'a, S: Source, L: Ledger, G: Gate, H: Net + Wait>(
     ground: &Ground<'_, H>,
-    desk: &Desk<'_, S, L, G>,
+    desk: &Desk<'_, 'a, S, L, G>,
     seat: &mut FillSeat<S, L>,
     fetcher: &mut Fetcher<'a, S>,
     bell: &FetchBell,
 ) -> Option<Duration>
     requires seat { IsFillSeatOf desk.now.pool.now seat.old }
-    requires answers { AllowsOrigins (S.answers (source_of desk.now.pool.now)) }
+    requires answers { Allows (S.answers (source_of desk.now.pool.now)) desk.now.plan }
     ensures { IsLaterSeat desk.now.pool.now seat.old seat.new }
 {
     if fetcher.is_ready() {
@@ -181,13 +191,13 @@ fn time_to_wait<'a, S: Source, L: Ledger, G: Gate, H: Net + Wait>(
 // Whether all is done: no more jobs are pushed, there is none, and no value is under way.
 fn work_on<'a, S: Source, L: Ledger, G: Gate, H: Net + Wait>(
     ground: &Ground<'_, H>,
-    desk: &Desk<'_, S, L, G>,
+    desk: &Desk<'_, 'a, S, L, G>,
     seat: &mut FillSeat<S, L>,
     fetcher: &mut Fetcher<'a, S>,
     bell: &FetchBell,
 ) -> bool
     requires seat { IsFillSeatOf desk.now.pool.now seat.old }
-    requires answers { AllowsOrigins (S.answers (source_of desk.now.pool.now)) }
+    requires answers { Allows (S.answers (source_of desk.now.pool.now)) desk.now.plan }
     ensures { IsLaterSeat desk.now.pool.now seat.old seat.new }
 {
     let stopping = bell.is_stopping();
@@ -196,32 +206,27 @@ fn work_on<'a, S: Source, L: Ledger, G: Gate, H: Net + Wait>(
     stopping && !took && fetcher.is_empty()
 }
 
-impl<'a> FetchThread<'a> {
-    /// What a thread needs that fetches values of these places, which are those of the groups by their numbers; and its
-    /// bell. None where memory or the system refuses it.
-    pub fn new<H: Net>(
-        rt: &H,
-        alloc: Global,
-        places: &'a [Place],
-        settings: FetchThreadSettings,
-    ) -> Option<(FetchThread<'a>, FetchBell)> {
+impl FetchParts {
+    /// What a thread needs that fetches from so many origins, and its bell. None where memory or the system refuses it.
+    pub fn new<H: Net>(rt: &H, alloc: Global, origins: usize) -> Option<(FetchParts, FetchBell)> {
         let poll = Poll::new(rt).ok()?;
         let bell = FetchBell::new(&poll)?;
         let events = Events::with_capacity(alloc, MAX_EVENTS).ok()?;
-        let room = Room::new(alloc, places.len()).ok()?;
-        let thread = FetchThread {
-            alloc,
-            poll,
-            events,
-            room,
-            places,
-            settings,
-        };
-        Some((thread, bell))
+        let room = Room::new(alloc, origins).ok()?;
+        Some((FetchParts { poll, events, room }, bell))
+    }
+}
+
+impl<'a> FetchThread<'a> {
+    /// A thread that fetches by this plan.
+    pub fn new(alloc: Global, parts: FetchParts, plan: FetchPlan<'a>) -> FetchThread<'a>
+        ensures { result.plan ≡ plan.entry }
+    {
+        FetchThread { alloc, parts, plan }
     }
 
     /// Takes jobs of the pool and fills their flights with what the origins answer, until the bell was stopped, there is no
-    /// job, and no value is under way.
+    /// job, and no value is under way. For a group without a place the source is called.
     pub fn run<S: Source, L: Ledger, G: Gate, H: Net + Clock + Wait>(
         self,
         rt: &H,
@@ -231,26 +236,25 @@ impl<'a> FetchThread<'a> {
         gate: &G,
     ) -> FillSeat<S, L>
         requires seat { IsFillSeatOf pool.now seat }
-        requires answers { AllowsOrigins (S.answers (source_of pool.now)) }
+        requires answers { Allows (S.answers (source_of pool.now)) self.plan }
         ensures { IsLaterSeat pool.now seat result }
     {
-        let FetchThread {
-            alloc,
-            poll,
-            events,
-            room,
-            places,
-            settings,
-        } = self;
+        let FetchThread { alloc, parts, plan } = self;
+        let FetchParts { poll, events, room } = parts;
         let mut thread = Running {
             poll,
             events,
-            fetcher: Fetcher::new(alloc, places, settings, room),
-            pause: settings.pause,
+            fetcher: Fetcher::new(alloc, plan.settings, room),
+            pause: plan.settings.pause,
         };
         let mut seat = seat;
         let begun = Instant::now(rt).ok();
-        let desk = Desk { alloc, pool, gate };
+        let desk = Desk {
+            alloc,
+            pool,
+            gate,
+            plan,
+        };
         for _ in rt.forever() {
             if thread.turn(rt, &desk, &mut seat, bell) {
                 return seat;
@@ -288,12 +292,12 @@ impl<'a, S: Source> Running<'a, S> {
     fn turn<L: Ledger, G: Gate, H: Net + Clock + Wait>(
         &mut self,
         rt: &H,
-        desk: &Desk<'_, S, L, G>,
+        desk: &Desk<'_, 'a, S, L, G>,
         seat: &mut FillSeat<S, L>,
         bell: &FetchBell,
     ) -> bool
         requires seat { IsFillSeatOf desk.now.pool.now seat.old }
-        requires answers { AllowsOrigins (S.answers (source_of desk.now.pool.now)) }
+        requires answers { Allows (S.answers (source_of desk.now.pool.now)) desk.now.plan }
         ensures { IsLaterSeat desk.now.pool.now seat.old seat.new }
     {
         let ground = Ground {
