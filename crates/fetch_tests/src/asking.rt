@@ -45,7 +45,7 @@ fn ask<S: Source, L: Ledger, R: Wait>(
     ensures { IsConnSeatOf pool.now seat.new }
 {
     let claim = ask_for(rt, alloc, pool, seat, key);
-    bell.ring();
+    let _ = bell.ring();
     claim
 }
 

@@ -1,11 +1,11 @@
 //! A fetch thread, an origin and a client, each in a thread, and what the client sees.
 ghost use Rattle.std.specs.Prelude.{◌≡◌, All};
 ghost use Rattle.peer_fill.specs.Pools.{source_of, IsConnSeatOf, IsFillSeatOf};
-ghost use Rattle.peer_fetch.specs.Threads.{AllowsOrigins};
+ghost use Rattle.peer_fetch.specs.Threads.{Allows};
 
 use crate::asking::{Answered, Plan, Texts, ask_all};
 use crate::origin::{Told, serve};
-use peer_fetch::{FetchBell, FetchThread, FetchThreadSettings};
+use peer_fetch::{FetchBell, FetchParts, FetchPlan, FetchThread, FetchThreadSettings, Places};
 use peer_fill::{ConnSeat, FillSeat, NoGate, Pool, Report, pop_conn, pop_fill};
 use peer_origin::{FetchSettings, Origin, OriginSource, Place};
 use peer_source::Source;
@@ -95,7 +95,7 @@ fn run_all<
 ) -> (FillSeat<S, L>, ConnSeat<S, L>, Answered)
     requires fill { IsFillSeatOf pool.now seats.0 }
     requires conn { IsConnSeatOf pool.now seats.1 }
-    requires answers { AllowsOrigins (S.answers (source_of pool.now)) }
+    requires answers { Allows (S.answers (source_of pool.now)) running.0.plan }
     ensures fill { IsFillSeatOf pool.now result.0 }
     ensures conn { IsConnSeatOf pool.now result.1 }
 {
@@ -106,7 +106,7 @@ fn run_all<
         rt,
         move || -> FillSeat<S, L>
             requires fill { IsFillSeatOf pool.now fill }
-            requires answers { AllowsOrigins (S.answers (source_of pool.now)) }
+            requires answers { Allows (S.answers (source_of pool.now)) thread.plan }
             ensures { IsFillSeatOf pool.entry.now result }
         { thread.run(rt, pool, fill, bell, &NoGate) },
         move || -> (ConnSeat<S, L>, Answered)
@@ -132,7 +132,7 @@ fn use_lists<
 ) -> Option<Answered>
     requires fills { All (IsFillSeatOf pool.now) lists.old.fills.items }
     requires conns { All (IsConnSeatOf pool.now) lists.old.conns.items }
-    requires answers { AllowsOrigins (S.answers (source_of pool.now)) }
+    requires answers { Allows (S.answers (source_of pool.now)) running.0.plan }
     ensures fills { All (IsFillSeatOf pool.now) lists.new.fills.items }
     ensures conns { All (IsConnSeatOf pool.now) lists.new.conns.items }
 {
@@ -158,7 +158,7 @@ fn run_opened<
 ) -> (Option<Answered>, Option<Report>)
     requires fills { All (IsFillSeatOf opened.0) opened.1.fills.items }
     requires conns { All (IsConnSeatOf opened.0) opened.1.conns.items }
-    requires answers { AllowsOrigins (S.answers (source_of opened.0)) }
+    requires answers { Allows (S.answers (source_of opened.0)) running.0.plan }
 {
     let (pool, mut lists) = opened;
     let answered = use_lists(rt, alloc, &pool, &mut lists, running, beside);
@@ -176,34 +176,27 @@ fn place_of<H: Net<Listener = TcpListener, Stream = TcpStream>>(
     Place::of_url(rt, alloc, &url).ok()
 }
 
-// A listener, the places of its one group, and the origins at these places.
+/// A listener, and the origins at its place.
 #[derive(Drop)]
-struct Prepared {
-    listener: TcpListener,
-    places: Vec<Place>,
-    origins: Vec<Origin>,
+pub struct Prepared {
+    pub listener: TcpListener,
+    pub origins: Vec<Origin>,
 }
 
-// A listener on a free port of the loopback address.
-fn prepare<H: Net<Listener = TcpListener, Stream = TcpStream>>(
+/// A listener on a free port of the loopback address.
+pub fn prepare<H: Net<Listener = TcpListener, Stream = TcpStream>>(
     rt: &H,
     alloc: Global,
 ) -> Option<Prepared> {
     let listener = TcpListener::bind(rt, "127.0.0.1:0").ok()?;
-    let mut places = Vec::new(alloc);
-    places.push(place_of(rt, alloc, &listener)?).ok()?;
     let mut origins = Vec::new(alloc);
     let place = place_of(rt, alloc, &listener)?;
     let name = b"echo".to_vec(alloc).ok()?;
     origins.push(Origin::new(alloc, name, place)).ok()?;
-    Some(Prepared {
-        listener,
-        places,
-        origins,
-    })
+    Some(Prepared { listener, origins })
 }
 
-// What is seen of a setting at these places.
+// What is seen of a setting at the places of these origins.
 fn see_at<
     L: Ledger + Send + Sync,
     H: Threads + Net<Listener = TcpListener, Stream = TcpStream> + Clock + Wait + Sync,
@@ -211,7 +204,6 @@ fn see_at<
     rt: &H,
     alloc: Global,
     origins: Vec<Origin>,
-    places: &[Place],
     beside: Beside<'_, '_>,
     blank: Blank,
 ) -> Option<(Option<Answered>, Option<Report>)>
@@ -219,11 +211,19 @@ fn see_at<
     requires parts { (blank.parts ≡ L.parts) × (blank.parts ≡ 16) }
 {
     let settings = beside.setting.settings;
-    let Some(running) = FetchThread::new(rt, alloc, places, settings) else {
-        return None;
-    };
     let counters = Counters::new();
     let source = OriginSource::new(rt, counters.failures(), origins, settings.fetch);
+    let places = source.places(alloc).ok()?;
+    let (parts, bell) = FetchParts::new(rt, alloc, places.len())?;
+    let plan = FetchPlan {
+        places: Places {
+            first: 0,
+            each: places.as_slice(),
+        },
+        settings,
+        failures: counters.failures(),
+    };
+    let running = (FetchThread::new(alloc, parts, plan), bell);
     let opened = open_pool::<OriginSource<'_, H>, L>(alloc, source, 0, 1, 1, blank);
     match opened {
         Some(opened) => Some(run_opened(rt, alloc, opened, running, beside)),
@@ -239,18 +239,14 @@ fn see<
     requires name { blank.name ≡ L.name }
     requires parts { (blank.parts ≡ L.parts) × (blank.parts ≡ 16) }
 {
-    let Prepared {
-        listener,
-        places,
-        origins,
-    } = prepare(rt, alloc)?;
+    let Prepared { listener, origins } = prepare(rt, alloc)?;
     let told = Told::new();
     let beside = Beside {
         listener,
         told: &told,
         setting,
     };
-    let (answered, report) = see_at::<L, H>(rt, alloc, origins, &places, beside, blank)?;
+    let (answered, report) = see_at::<L, H>(rt, alloc, origins, beside, blank)?;
     let seen = Seen {
         answered: answered?,
         requests: told.requests.load(SeqCst),
@@ -259,8 +255,8 @@ fn see<
     Some((seen, report))
 }
 
-// Times that no test is to meet.
-fn patient() -> FetchThreadSettings {
+/// Times that no test is to meet.
+pub fn patient() -> FetchThreadSettings {
     FetchThreadSettings {
         fetch: FetchSettings {
             connect: Duration::from_secs(20),

@@ -3,13 +3,10 @@
 //! Where no more connections can be had, new clients wait in the backlog of the system until one ends. Once the server was
 //! told to stop, it accepts no more.
 
-use crate::limits::Limits;
-use crate::mailboxes::Mailboxes;
-use crate::occupancy::Occupancy;
+use crate::site::Site;
 use crate::stop::Stop;
 use mio::net::{TcpListener, TcpStream};
 use mio::{Events, Poll};
-use peer_stats::Counters;
 use std::io::ErrorKind;
 use std::sync::Wait;
 use std::thread;
@@ -22,10 +19,7 @@ pub struct Acceptor<'a> {
     pub listener: TcpListener,
     pub poll: Poll,
     pub events: Events,
-    pub mailboxes: &'a Mailboxes,
-    pub occupancy: &'a Occupancy,
-    pub limits: &'a Limits,
-    pub counters: &'a Counters,
+    pub site: Site<'a>,
     pub stop: &'a Stop,
     /// How many connections are accepted yet, none where there is no end.
     pub left: Option<u64>,
@@ -34,7 +28,7 @@ pub struct Acceptor<'a> {
 impl<'a> Acceptor<'a> {
     // Lets some time pass behind a call that failed.
     fn pause<H: Threads + Wait + Clock>(&self, rt: &H) {
-        thread::sleep(rt, self.limits.pause);
+        thread::sleep(rt, self.site.limits.pause);
     }
 
     // Waits for clients, or for room.
@@ -46,10 +40,10 @@ impl<'a> Acceptor<'a> {
 
     // Gives a stream to a loop, and waits where too many wait there.
     fn give<H: Threads + Wait + Clock>(&self, rt: &H, mut stream: TcpStream, turn: usize) {
-        let Some(mailbox) = self.mailboxes.each.get(turn) else {
+        let Some(mailbox) = self.site.mailboxes.each.get(turn) else {
             return;
         };
-        self.occupancy.enter();
+        self.site.occupancy.enter();
         for _ in rt.forever() {
             match mailbox.give(rt, stream) {
                 Ok(()) => return,
@@ -62,16 +56,16 @@ impl<'a> Acceptor<'a> {
 
     // Accepts one stream, or waits, and says whether there was one.
     fn accept<H: Threads + Wait + Clock>(&mut self, rt: &H, turn: usize) -> bool {
-        if self.occupancy.is_full() {
-            self.occupancy.want_room();
-            if self.occupancy.is_full() {
+        if self.site.occupancy.is_full() {
+            self.site.occupancy.want_room();
+            if self.site.occupancy.is_full() {
                 self.wait(rt);
             }
             return false;
         }
         match self.listener.accept() {
             Ok((stream, _)) => {
-                self.counters.accepts().count_accepted();
+                self.site.counters.accepts().count_accepted();
                 if stream.set_nodelay(true).is_ok() {
                     self.give(rt, stream, turn);
                 }
@@ -81,7 +75,7 @@ impl<'a> Acceptor<'a> {
                 match error.kind() {
                     ErrorKind::WouldBlock => self.wait(rt),
                     _ => {
-                        self.counters.accepts().count_failed();
+                        self.site.counters.accepts().count_failed();
                         self.pause(rt);
                     }
                 }
@@ -93,7 +87,7 @@ impl<'a> Acceptor<'a> {
     // The loop behind this one.
     fn behind(&self, turn: usize) -> usize {
         let next = turn.wrapping_add(1);
-        if next < self.mailboxes.each.len() {
+        if next < self.site.mailboxes.each.len() {
             next
         } else {
             0
@@ -103,9 +97,9 @@ impl<'a> Acceptor<'a> {
     // Tells the loops that no more clients come, and whether they are to let theirs go.
     fn close(&self) {
         if self.stop.is_asked() {
-            self.mailboxes.stop();
+            self.site.mailboxes.stop();
         } else {
-            self.mailboxes.close();
+            self.site.mailboxes.close();
         }
     }
 

@@ -1,6 +1,6 @@
 //! One client of a loop: its stream, its connection, and when it was last heard of.
 ghost use Rattle.std.specs.Prelude.{◌≡◌, Some};
-ghost use Rattle.peer_fill.specs.Seats.{conn_parts};
+ghost use Rattle.peer_loop.specs.Parts.{KeepsParts};
 
 use crate::facts::Facts;
 use crate::limits::{ASKS_OF_ROUND, Limits, MAX_SKIPPED, MAX_UNCOUNTED, ROUNDS_OF_TURN};
@@ -73,7 +73,7 @@ fn would_block(error: &io::Error) -> bool {
 
 impl<'a, S: Source, F: Facts<S>> Client<'a, S, F> {
     ghost use Rattle.std.specs.Prelude.{◌≡◌, Some};
-    ghost use Rattle.peer_fill.specs.Seats.{conn_parts};
+    ghost use Rattle.peer_loop.specs.Parts.{KeepsParts};
 
     /// A client of whom nothing was reported.
     pub fn new(stream: TcpStream, exchange: Exchange<'a, S>, now: Duration) -> Client<'a, S, F>
@@ -213,7 +213,7 @@ impl<'a, S: Source, F: Facts<S>> Client<'a, S, F> {
         occupancy: &Occupancy,
     ) -> Asked
         ensures pool { seat.new.pool.now ≡ seat.old.pool.now }
-        ensures parts { conn_parts seat.new.seat ≡ conn_parts seat.old.seat }
+        ensures parts { KeepsParts seat.old.seats seat.new.seats }
     {
         for _ in 0..ASKS_OF_ROUND {
             if occupancy.holds_too_much() && !self.holds_nothing() {
@@ -252,7 +252,7 @@ impl<'a, S: Source, F: Facts<S>> Client<'a, S, F> {
         occupancy: &Occupancy,
     ) -> Option<Stand>
         ensures pool { seat.new.pool.now ≡ seat.old.pool.now }
-        ensures parts { conn_parts seat.new.seat ≡ conn_parts seat.old.seat }
+        ensures parts { KeepsParts seat.old.seats seat.new.seats }
     {
         self.receive(seat.buffer.as_mut_slice(), now);
         let asked = self.serve(rt, seat, occupancy);
@@ -297,7 +297,7 @@ impl<'a, S: Source, F: Facts<S>> Client<'a, S, F> {
         occupancy: &Occupancy,
     ) -> Stand
         ensures pool { seat.new.pool.now ≡ seat.old.pool.now }
-        ensures parts { conn_parts seat.new.seat ≡ conn_parts seat.old.seat }
+        ensures parts { KeepsParts seat.old.seats seat.new.seats }
     {
         if self.lingers {
             return self.skip();

@@ -2,17 +2,16 @@
 
 use crate::client::{Client, Stand};
 use crate::facts::Facts;
-use crate::limits::{LOOKS, Limits, MAX_ARRIVED};
-use crate::mailbox::{Mailbox, SLOTS_OF_WORD, WOKEN, WORDS, slot_of};
-use crate::occupancy::Occupancy;
+use crate::limits::{LOOKS, MAX_ARRIVED};
+use crate::mailbox::{SLOTS_OF_WORD, WOKEN, WORDS, slot_of};
 use crate::seat::LoopSeat;
+use crate::site::LoopSite;
 use crate::wait_lists::WaitLists;
 use mio::event::Event;
 use mio::net::TcpStream;
 use mio::{Events, Poll, Registry, Token};
 use peer_conn::Exchange;
 use peer_source::Source;
-use peer_stats::Counters;
 use slab::Slab;
 use std::alloc::{AllocError, Global};
 use std::collections::VecDeque;
@@ -22,17 +21,6 @@ use std::sync::ledger::Ledger;
 use std::thread;
 use std::thread::Threads;
 use std::time::{Clock, Duration, Instant};
-
-/// What a loop shares with other threads.
-#[derive(Clone, Copy)]
-pub struct Shared<'a> {
-    pub mailbox: &'a Mailbox,
-    pub occupancy: &'a Occupancy,
-    pub limits: &'a Limits,
-    pub counters: &'a Counters,
-    /// The number of the loop, by which it publishes what it counts.
-    pub number: usize,
-}
 
 /// What a loop waits by.
 #[derive(Drop)]
@@ -45,7 +33,7 @@ pub struct Waits {
 #[derive(Drop)]
 pub struct EventLoop<'a, S: Source, F: Facts<S>> {
     alloc: Global,
-    shared: Shared<'a>,
+    shared: LoopSite<'a>,
     clients: Slab<Client<'a, S, F>>,
     // Those that are to have a turn, each once.
     ready: VecDeque<usize>,
@@ -65,10 +53,10 @@ pub struct EventLoop<'a, S: Source, F: Facts<S>> {
 
 impl<'a, S: Source, F: Facts<S>> EventLoop<'a, S, F> {
     ghost use Rattle.std.specs.Prelude.{◌≡◌, Some};
-    ghost use Rattle.peer_fill.specs.Seats.{conn_parts};
+    ghost use Rattle.peer_loop.specs.Parts.{KeepsParts};
 
     /// A loop without clients.
-    pub fn new(alloc: Global, shared: Shared<'a>) -> EventLoop<'a, S, F> {
+    pub fn new(alloc: Global, shared: LoopSite<'a>) -> EventLoop<'a, S, F> {
         EventLoop {
             alloc,
             shared,
@@ -117,7 +105,7 @@ impl<'a, S: Source, F: Facts<S>> EventLoop<'a, S, F> {
                 return;
             };
             if self.stopped || !self.add(registry, stream, seat.exchange(self.alloc)) {
-                self.shared.occupancy.leave();
+                self.shared.site.occupancy.leave();
             }
         }
     }
@@ -126,8 +114,8 @@ impl<'a, S: Source, F: Facts<S>> EventLoop<'a, S, F> {
     fn forget(&mut self, key: usize) {
         self.unlist(key);
         if let Some(mut client) = self.clients.try_remove(key) {
-            client.let_go(self.shared.occupancy);
-            self.shared.occupancy.leave();
+            client.let_go(self.shared.site.occupancy);
+            self.shared.site.occupancy.leave();
         }
     }
 
@@ -192,7 +180,7 @@ impl<'a, S: Source, F: Facts<S>> EventLoop<'a, S, F> {
     // Has those their turn that waited for room, where no job is left by now: also since another client's ask pushed it.
     fn push_left<L: Ledger, H: Wait>(&mut self, rt: &H, seat: &mut LoopSeat<'a, S, L, F>)
         ensures pool { seat.new.pool.now ≡ seat.old.pool.now }
-        ensures parts { conn_parts seat.new.seat ≡ conn_parts seat.old.seat }
+        ensures parts { KeepsParts seat.old.seats seat.new.seats }
     {
         if self.for_room.is_empty() && !seat.has_left() {
             return;
@@ -219,14 +207,14 @@ impl<'a, S: Source, F: Facts<S>> EventLoop<'a, S, F> {
     // Gives a client its turn.
     fn turn<L: Ledger, H: Wait>(&mut self, rt: &H, seat: &mut LoopSeat<'a, S, L, F>, key: usize)
         ensures pool { seat.new.pool.now ≡ seat.old.pool.now }
-        ensures parts { conn_parts seat.new.seat ≡ conn_parts seat.old.seat }
+        ensures parts { KeepsParts seat.old.seats seat.new.seats }
     {
         let Some(client) = self.clients.get_mut(key) else {
             return;
         };
         client.is_ready = false;
-        let stand = client.turn(rt, seat, self.now, self.shared.occupancy);
-        client.count_held(self.shared.occupancy);
+        let stand = client.turn(rt, seat, self.now, self.shared.site.occupancy);
+        client.count_held(self.shared.site.occupancy);
         match stand {
             Stand::Idle => self.unlist(key),
             Stand::Awaits(number) => self.list(key, number),
@@ -242,7 +230,7 @@ impl<'a, S: Source, F: Facts<S>> EventLoop<'a, S, F> {
     // Gives each of those their turn that are to have one by now.
     fn serve_ready<L: Ledger, H: Wait>(&mut self, rt: &H, seat: &mut LoopSeat<'a, S, L, F>)
         ensures pool { seat.new.pool.now ≡ seat.old.pool.now }
-        ensures parts { conn_parts seat.new.seat ≡ conn_parts seat.old.seat }
+        ensures parts { KeepsParts seat.old.seats seat.new.seats }
     {
         for _ in 0..self.ready.len() {
             let Some(key) = self.ready.pop_front() else {
@@ -275,10 +263,10 @@ impl<'a, S: Source, F: Facts<S>> EventLoop<'a, S, F> {
 
     // Lets those go that were silent, or took nothing, for too long.
     fn sweep(&mut self) {
-        let full = self.shared.occupancy.is_full();
+        let full = self.shared.site.occupancy.is_full();
         for key in 0..self.clients.capacity() {
             let overdue = match self.clients.get(key) {
-                Some(client) => client.is_overdue(self.now, self.shared.limits, full),
+                Some(client) => client.is_overdue(self.now, self.shared.site.limits, full),
                 None => false,
             };
             if overdue {
@@ -314,6 +302,7 @@ impl<'a, S: Source, F: Facts<S>> EventLoop<'a, S, F> {
     fn publish<L: Ledger>(&self, seat: &LoopSeat<'a, S, L, F>) {
         let counts = seat.counts(self.clients.len());
         self.shared
+            .site
             .counters
             .of_loop(self.shared.number)
             .publish(counts);
@@ -324,6 +313,7 @@ impl<'a, S: Source, F: Facts<S>> EventLoop<'a, S, F> {
         if self.weighed != self.swept || self.clients.is_empty() {
             self.weighed = self.swept;
             self.shared
+                .site
                 .counters
                 .publish_cache_bytes(seat.cached_bytes(rt));
         }
@@ -335,20 +325,49 @@ impl<'a, S: Source, F: Facts<S>> EventLoop<'a, S, F> {
             return;
         };
         self.now = now;
-        if now.saturating_sub(self.swept) >= self.shared.limits.tick {
+        if now.saturating_sub(self.swept) >= self.shared.site.limits.tick {
             self.swept = now;
             self.sweep();
         }
     }
 
+    // Gives those their turn whom fills and room concern, and all others that are to have one.
+    fn serve_told<L: Ledger, H: Wait>(&mut self, rt: &H, seat: &mut LoopSeat<'a, S, L, F>)
+        ensures pool { seat.new.pool.now ≡ seat.old.pool.now }
+        ensures parts { KeepsParts seat.old.seats seat.new.seats }
+    {
+        for word in 0..WORDS {
+            self.take_told(word);
+        }
+        self.push_left(rt, seat);
+        self.serve_ready(rt, seat);
+    }
+
+    // Has the jobs filled that were pushed. Where the loop fills them, those have their turn who waited for them.
+    fn fill_jobs<L: Ledger, H: Wait>(&mut self, rt: &H, seat: &mut LoopSeat<'a, S, L, F>)
+        ensures pool { seat.new.pool.now ≡ seat.old.pool.now }
+        ensures parts { KeepsParts seat.old.seats seat.new.seats }
+    {
+        if !seat.has_jobs() {
+            return;
+        }
+        seat.fill_jobs(rt, self.alloc);
+        if seat.fills() {
+            self.serve_told(rt, seat);
+        }
+    }
+
     // Whether there is something to do by now.
-    fn is_awake(&self) -> bool {
-        !self.ready.is_empty() || self.shared.mailbox.is_told()
+    fn is_awake<L: Ledger>(&self, seat: &LoopSeat<'a, S, L, F>) -> bool {
+        !self.ready.is_empty() || self.shared.mailbox.is_told() || seat.has_jobs()
     }
 
     // Whether nothing is left to do, and nothing comes any more.
     fn is_done<L: Ledger>(&self, seat: &LoopSeat<'a, S, L, F>) -> bool {
-        self.shared.mailbox.is_over() && self.clients.is_empty() && !seat.has_left()
+        self.shared.mailbox.is_over()
+            && self.clients.is_empty()
+            && !seat.has_left()
+            && !seat.has_jobs()
     }
 
     // How long the loop may wait for events: not at all where there is something to do, and a tick where clients are to be
@@ -359,23 +378,23 @@ impl<'a, S: Source, F: Facts<S>> EventLoop<'a, S, F> {
         seat: &mut LoopSeat<'a, S, L, F>,
     ) -> Option<Duration>
         ensures pool { seat.new.pool.now ≡ seat.old.pool.now }
-        ensures parts { conn_parts seat.new.seat ≡ conn_parts seat.old.seat }
+        ensures parts { KeepsParts seat.old.seats seat.new.seats }
     {
         let looks = if self.waiting.is_empty() { 1 } else { LOOKS };
         for _ in 0..looks {
-            if self.is_awake() {
+            if self.is_awake(seat) {
                 return Some(Duration::ZERO);
             }
             spin_loop();
         }
         self.shared.mailbox.fall_asleep();
         self.push_left(rt, seat);
-        if self.is_awake() || self.is_done(seat) {
+        if self.is_awake(seat) || self.is_done(seat) {
             Some(Duration::ZERO)
         } else if self.clients.is_empty() {
             None
         } else {
-            Some(self.shared.limits.tick)
+            Some(self.shared.site.limits.tick)
         }
     }
 
@@ -389,7 +408,7 @@ impl<'a, S: Source, F: Facts<S>> EventLoop<'a, S, F> {
         let waited = waits.poll.poll(&mut waits.events, time);
         self.shared.mailbox.stay_awake();
         if waited.is_err() {
-            thread::sleep(rt, self.shared.limits.pause);
+            thread::sleep(rt, self.shared.site.limits.pause);
             return;
         }
         for event in waits.events.iter() {
@@ -408,18 +427,15 @@ impl<'a, S: Source, F: Facts<S>> EventLoop<'a, S, F> {
         begun: Option<Instant>,
     )
         ensures pool { seat.new.pool.now ≡ seat.old.pool.now }
-        ensures parts { conn_parts seat.new.seat ≡ conn_parts seat.old.seat }
+        ensures parts { KeepsParts seat.old.seats seat.new.seats }
     {
         let time = self.time_to_wait(rt, seat);
         self.wait(rt, time, waits);
         self.stop_clients();
         self.take_streams(rt, waits.poll.registry(), seat);
         self.tell_time(rt, begun);
-        for word in 0..WORDS {
-            self.take_told(word);
-        }
-        self.push_left(rt, seat);
-        self.serve_ready(rt, seat);
+        self.serve_told(rt, seat);
+        self.fill_jobs(rt, seat);
         self.publish(seat);
         self.publish_caches(rt, seat);
     }
@@ -432,7 +448,7 @@ impl<'a, S: Source, F: Facts<S>> EventLoop<'a, S, F> {
         waits: &mut Waits,
     )
         ensures pool { seat.new.pool.now ≡ seat.old.pool.now }
-        ensures parts { conn_parts seat.new.seat ≡ conn_parts seat.old.seat }
+        ensures parts { KeepsParts seat.old.seats seat.new.seats }
     {
         let begun = Instant::now(rt).ok();
         for _ in rt.forever() {

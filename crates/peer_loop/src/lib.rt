@@ -7,20 +7,27 @@
 #![tactic(auto)]
 
 mod acceptor;
+mod bells;
 mod client;
 mod event_loop;
 mod facts;
+mod fill_gate;
+mod filler;
+mod fillers;
+mod filling;
 mod limits;
+mod loop_seats;
 mod mailbox;
 mod mailboxes;
 mod occupancy;
 mod seat;
 mod server;
+mod site;
 mod stop;
 mod threads;
 mod wait_lists;
-mod worker_gate;
 
+pub use fillers::Fillers;
 pub use limits::Limits;
-pub use server::{ServerFault, Settings, serve_loops};
+pub use server::{ServerFault, Settings, serve_fetching, serve_loops};
 pub use stop::Stop;

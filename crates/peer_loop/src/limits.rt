@@ -66,3 +66,6 @@ pub const MAX_READ: usize = 16_384;
 /// How many bytes a client may hold that are not counted among what all of them hold: those of its replies and of the values
 /// of its tickets.
 pub const MAX_UNCOUNTED: usize = 65_536;
+
+/// How many jobs a loop fills before its clients have their turn again.
+pub const JOBS_OF_TURN: usize = 64;

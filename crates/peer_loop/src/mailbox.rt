@@ -3,17 +3,18 @@
 //! A flight has one of `SLOTS` slots, by its number. The loop lists each client that waits for a fill at the slot of its
 //! flight. Why no wake-up is lost:
 //!
-//! 1. The loop sets the slot's bit in `wanted`, and looks at the fill behind that. A worker sets the fill, and takes the
-//!    bit out of `wanted` behind that. Both steps change one word, so one comes first. Where the loop's does, the worker
-//!    finds the bit. Where the worker's does, the loop's reads what it wrote, and so its look finds the fill.
-//! 2. A worker that finds the bit sets it in `told`, and looks at `asleep` behind that. The loop sets `asleep`, and looks
-//!    at all of `told` behind that, whatever it wanted. So either the loop finds the bit and does not sleep, or the worker
-//!    finds that it is asleep and wakes it.
+//! 1. The loop sets the slot's bit in `wanted`, and looks at the fill behind that. Who fills sets the fill, and takes the
+//!    bit out of `wanted` behind that. Both steps change one word, so one comes first. Where the loop's does, who fills
+//!    finds the bit. Where the other's does, the loop's reads what it wrote, and so its look finds the fill.
+//! 2. Who finds the bit sets it in `told`, and looks at `asleep` behind that. The loop sets `asleep`, and looks at all of
+//!    `told` behind that, whatever it wanted. So either the loop finds the bit and does not sleep, or who fills finds that
+//!    it is asleep and wakes it.
 //! 3. The loop takes the bits out of `told` before it gives the clients at these slots their turn, and one that still
 //!    waits begins again at 1. A bit that is set behind the taking stays, and the next look of 2 finds it.
 //!
 //! The same two steps hold for room in the queue of jobs (`wants_room` in the place of the bit, the try to push a job in
-//! the place of the look). Streams and the end are told by a wake-up each time. All orders are SeqCst.
+//! the place of the look, the taking of a job in the place of the fill). Streams and the end are told by a wake-up each
+//! time. A loop that fills jobs itself tells itself in the same way, awake. All orders are SeqCst.
 
 use crate::limits::MAX_ARRIVED;
 use crossbeam_queue::ArrayQueue;
@@ -104,17 +105,27 @@ impl Mailbox {
         self.wants_room.store(true, SeqCst);
     }
 
-    /// A worker has taken a job, and set a fill of the slot.
+    // Wakes the loop where it sleeps.
+    fn rouse(&self) {
+        if self.asleep.load(SeqCst) && self.asleep.swap(false, SeqCst) {
+            self.wake();
+        }
+    }
+
+    /// A job was taken off the queue.
+    pub fn tell_room(&self) {
+        if self.wants_room.load(SeqCst) && self.wants_room.swap(false, SeqCst) {
+            self.rouse();
+        }
+    }
+
+    /// A fill of the slot was set.
     pub fn tell(&self, slot: usize) {
         let word = slot / 64 % WORDS;
         let bit = bit_of(slot);
-        let wanted = self.wanted[word].fetch_and(!bit, SeqCst) & bit != 0;
-        if wanted {
+        if self.wanted[word].fetch_and(!bit, SeqCst) & bit != 0 {
             self.told[word].fetch_or(bit, SeqCst);
-        }
-        let room = self.wants_room.load(SeqCst) && self.wants_room.swap(false, SeqCst);
-        if (wanted || room) && self.asleep.load(SeqCst) && self.asleep.swap(false, SeqCst) {
-            self.wake();
+            self.rouse();
         }
     }
 

@@ -1,9 +1,6 @@
-//! The mailboxes of all loops, and what workers tell them.
+//! The mailboxes of all loops, and what those who fill tell them.
 
-use crate::mailbox::{Mailbox, slot_of};
-use peer_fill::Gate;
-use peer_source::GroupId;
-use std::sync::Wait;
+use crate::mailbox::Mailbox;
 
 /// A mailbox for each loop.
 #[derive(Drop)]
@@ -25,13 +22,16 @@ impl Mailboxes {
             mailbox.stop();
         }
     }
-}
 
-impl Gate for Mailboxes {
-    fn before_call<R: Wait>(&self, _rt: &R, _group: GroupId, _key: &[u8]) {}
+    /// A job was taken off the queue.
+    pub fn tell_room(&self) {
+        for mailbox in &self.each {
+            mailbox.tell_room();
+        }
+    }
 
-    fn after_put<R: Wait>(&self, _rt: &R, number: u64, _group: GroupId, _key: &[u8]) {
-        let slot = slot_of(number);
+    /// A fill of the slot was set.
+    pub fn tell(&self, slot: usize) {
         for mailbox in &self.each {
             mailbox.tell(slot);
         }

@@ -1,10 +1,15 @@
-//! The seat of a loop, beside the pool that it is of and the room for what is read.
+//! The seats of a loop, beside the pool that they are of and the room for what is read.
 ghost use Rattle.std.specs.Prelude.{◌≡◌, Some};
-ghost use Rattle.peer_fill.specs.Pools.{source_of, IsConnSeatOf};
+ghost use Rattle.std.proofs.Props.{props};
+ghost use Rattle.peer_fill.specs.Pools.{source_of};
+ghost use Rattle.peer_loop.specs.Parts.{AreOf};
 
 use crate::facts::Facts;
+use crate::filling::{Filling, work};
+use crate::limits::JOBS_OF_TURN;
+use crate::loop_seats::LoopSeats;
 use peer_conn::{Exchange, Rest};
-use peer_fill::{ConnSeat, Pool};
+use peer_fill::Pool;
 use peer_source::Source;
 use peer_stats::LoopCounts;
 use std::alloc::Global;
@@ -12,15 +17,17 @@ use std::marker::PhantomData;
 use std::sync::Wait;
 use std::sync::ledger::Ledger;
 
-/// A seat of a pool. All connections of a loop ask by it.
+/// The seats of a loop. All of its connections ask by the one.
 #[derive(Drop)]
 pub struct LoopSeat<'a, S: Source, L: Ledger, F: Facts<S>> {
     pub pool: &'a Pool<S, L>,
-    pub seat: ConnSeat<S, L>,
+    pub seats: LoopSeats<S, L>,
     /// Where streams are read into.
     pub buffer: Vec<u8>,
+    /// By whom the jobs are filled that its connections push.
+    pub filling: Filling<'a>,
     pub of: PhantomData<F>,
-    ghost of_pool: { IsConnSeatOf pool.now seat },
+    ghost of_pool: { AreOf pool.now seats } by { Prim.hlevel props },
     ghost source: { F.source ≡ Some (source_of pool.now) },
 }
 
@@ -56,7 +63,7 @@ impl Asked {
 
 impl<'a, S: Source, L: Ledger, F: Facts<S>> LoopSeat<'a, S, L, F> {
     ghost use Rattle.std.specs.Prelude.{◌≡◌, Some};
-    ghost use Rattle.peer_fill.specs.Seats.{conn_parts};
+    ghost use Rattle.peer_loop.specs.Parts.{KeepsParts};
 
     /// A connection that asks the pool.
     pub fn exchange(&self, alloc: Global) -> Exchange<'a, S>
@@ -70,12 +77,15 @@ impl<'a, S: Source, L: Ledger, F: Facts<S>> LoopSeat<'a, S, L, F> {
         requires { F.source ≡ Some exchange.old.names }
         ensures names { exchange.new.names ≡ exchange.old.names }
         ensures pool { self.new.pool.now ≡ self.old.pool.now }
-        ensures parts { conn_parts self.new.seat ≡ conn_parts self.old.seat }
+        ensures parts { KeepsParts self.old.seats self.new.seats }
     {
-        let Ok(rest) = exchange.ask_held(rt, self.pool, &mut self.seat) else {
+        let Ok(rest) = exchange.ask_held(rt, self.pool, &mut self.seats.conn) else {
             return Asked::Done;
         };
-        if exchange.answer_ready(self.pool, &mut self.seat).is_err() {
+        if exchange
+            .answer_ready(self.pool, &mut self.seats.conn)
+            .is_err()
+        {
             return Asked::Done;
         }
         Asked::of(rest, exchange.awaits().is_some())
@@ -86,9 +96,9 @@ impl<'a, S: Source, L: Ledger, F: Facts<S>> LoopSeat<'a, S, L, F> {
         requires { F.source ≡ Some exchange.old.names }
         ensures names { exchange.new.names ≡ exchange.old.names }
         ensures pool { self.new.pool.now ≡ self.old.pool.now }
-        ensures parts { conn_parts self.new.seat ≡ conn_parts self.old.seat }
+        ensures parts { KeepsParts self.old.seats self.new.seats }
     {
-        let _ = exchange.answer_ready(self.pool, &mut self.seat);
+        let _ = exchange.answer_ready(self.pool, &mut self.seats.conn);
         if exchange.rest().output {
             Asked::Unsent
         } else {
@@ -96,14 +106,47 @@ impl<'a, S: Source, L: Ledger, F: Facts<S>> LoopSeat<'a, S, L, F> {
         }
     }
 
+    // How many jobs its connections have pushed.
+    fn pushed(&self) -> u64 {
+        let left = u64::from(self.has_left());
+        self.seats.conn.led().wrapping_sub(left)
+    }
+
+    /// Whether jobs are there of which those were not told who fill them, or which the loop is to fill itself.
+    pub fn has_jobs(&self) -> bool {
+        self.filling.has_more || self.filling.told != self.pushed()
+    }
+
+    /// Whether it fills jobs itself.
+    pub fn fills(&self) -> bool {
+        self.seats.fill.is_some()
+    }
+
+    /// Has the jobs filled that its connections pushed: fills some, where the loop fills, and else wakes those who fetch.
+    pub fn fill_jobs<H: Wait>(&mut self, rt: &H, alloc: Global)
+        ensures pool { self.new.pool.now ≡ self.old.pool.now }
+        ensures parts { KeepsParts self.old.seats self.new.seats }
+    {
+        let pushed = self.pushed();
+        self.filling.tell(pushed);
+        let done = work(
+            rt,
+            alloc,
+            self.pool,
+            &mut self.seats.fill,
+            &self.filling.gate,
+        );
+        self.filling.has_more = done == JOBS_OF_TURN;
+    }
+
     /// What it has counted, where the loop has so many connections.
     pub fn counts(&self, connections: usize) -> LoopCounts {
         LoopCounts {
-            asked: self.seat.asked(),
-            hits: self.seat.hits(),
-            led: self.seat.led(),
-            joined: self.seat.joined(),
-            strangers: self.seat.strangers(),
+            asked: self.seats.conn.asked(),
+            hits: self.seats.conn.hits(),
+            led: self.seats.conn.led(),
+            joined: self.seats.conn.joined(),
+            strangers: self.seats.conn.strangers(),
             connections: connections as u64,
         }
     }
@@ -115,14 +158,14 @@ impl<'a, S: Source, L: Ledger, F: Facts<S>> LoopSeat<'a, S, L, F> {
 
     /// Whether a job is left, for which the queue of jobs had no room.
     pub fn has_left(&self) -> bool {
-        self.seat.has_left()
+        self.seats.conn.has_left()
     }
 
     /// Tries again to push the job that is left, and says whether none is left.
     pub fn put_left<H: Wait>(&mut self, rt: &H) -> bool
         ensures pool { self.new.pool.now ≡ self.old.pool.now }
-        ensures parts { conn_parts self.new.seat ≡ conn_parts self.old.seat }
+        ensures parts { KeepsParts self.old.seats self.new.seats }
     {
-        self.pool.put_left(rt, &mut self.seat)
+        self.pool.put_left(rt, &mut self.seats.conn)
     }
 }

@@ -20,3 +20,5 @@ mod servers;
 mod serving;
 #[cfg(test)]
 mod stopping;
+#[cfg(test)]
+mod working;

@@ -1,7 +1,7 @@
 //! Servers on event loops in threads of their own, beside their clients.
 
 use peer_fill::Report;
-use peer_loop::{Limits, Settings, Stop, serve_loops};
+use peer_loop::{Fillers, Limits, Settings, Stop, serve_loops};
 use peer_source::Source;
 use peer_stats::Counters;
 use std::hash::RandomState;
@@ -53,7 +53,7 @@ pub fn settings_of<'a>(
     limits: Limits,
 ) -> io::Result<Settings<'a>> {
     Ok(Settings {
-        workers: 1,
+        fillers: Fillers::Threads(1),
         loops,
         connections,
         memory: 1_048_576,

@@ -7,7 +7,7 @@ use crate::clients::{
 use crate::loop_servers::{Outside, beside, patient, settings_of};
 use crate::servers::has_asked;
 use peer_fill::OpenFault;
-use peer_loop::{Limits, ServerFault, Settings, serve_loops};
+use peer_loop::{Fillers, Limits, ServerFault, Settings, serve_loops};
 use peer_source::{DemoSource, Source};
 use std::alloc::Global;
 use std::hint::spin_loop;
@@ -392,12 +392,12 @@ fn is_refused<
         + Sync
         + RandomSource
         + Net<Listener = TcpListener, Stream = TcpStream>,
->(rt: &H, source: S, workers: usize, loops: usize, fault: OpenFault) -> Result<bool, Fail> {
+>(rt: &H, source: S, fillers: Fillers, loops: usize, fault: OpenFault) -> Result<bool, Fail> {
     let (listener, _) = listen(rt)?;
     let outside = Outside::new();
     let settings = settings_of(rt, &outside, loops, 1, 1, patient())?;
     let settings = Settings {
-        workers,
+        fillers,
         ..settings
     };
     let answered = serve_loops(rt, rt.alloc(), source, listener, &settings);
@@ -409,14 +409,16 @@ fn is_refused<
 
 #[test]
 fn loops_refuse_each_number(rt: HostRuntime) -> Result<(), Fail> {
-    for (workers, loops, fault) in [
-        (0, 1, OpenFault::Workers),
-        (17, 1, OpenFault::Workers),
-        (1, 0, OpenFault::Conns),
-        (1, 17, OpenFault::Conns),
+    for (fillers, loops, fault) in [
+        (Fillers::Threads(0), 1, OpenFault::Workers),
+        (Fillers::Threads(17), 1, OpenFault::Workers),
+        (Fillers::Threads(1), 0, OpenFault::Conns),
+        (Fillers::Threads(1), 17, OpenFault::Conns),
+        (Fillers::Loops, 0, OpenFault::Workers),
+        (Fillers::Loops, 17, OpenFault::Workers),
     ] {
-        let refused = is_refused(&rt, DemoSource, workers, loops, fault)?;
-        assert!(rt; refused, "at {workers} {loops}");
+        let refused = is_refused(&rt, DemoSource, fillers, loops, fault)?;
+        assert!(rt; refused, "at {fillers:?} {loops}");
     }
     Ok(())
 }

@@ -1,10 +1,8 @@
-use Rattle.std.proofs.Common.{◌≡◌, All, refl, subst, arith}
-use Rattle.std.specs.Prelude.{IfSome}
+use Rattle.std.proofs.Common.{◌≡◌, arith}
 use Rattle.std.proofs.lemmas.Grind.{common_steps}
-use Rattle.peer_fill.specs.Pools.{IsConnSeatOf, IsFillSeatOf}
-use Rattle.peer_fill.specs.Seats.{fill_parts, HaveAllConns}
+use Rattle.peer_fill.specs.Seats.{fill_parts}
 use Rattle.peer_fill.proofs.Moving.{moves, all_push}
-use Rattle.peer_loop.proofs.threads.fn.use_seats.scope.Goals as goal
+use Rattle.peer_loop.proofs.threads.fn.use_threads.scope.Goals as goal
 
 pub loop-seat-preserved : goal.loop-seat-preserved
 loop-seat-preserved g c =
@@ -20,7 +18,7 @@ loop-seat-preserved g c =
       fills = taken.rest;
       working = all_push (λ h. h.promise.pool.now ≡ pool) _ _ _ pushed.items before.working at;
       parts = moves fill_parts (λ h. fill_parts h.promise.seat.value) c.loop-seat.fills.items c.pop_fill.new.seats.items
-          c.loop-seat.working.items c.push_reserved.new.self.items handle (fill_parts seat) 16 taken.parts pushed.items same before.parts;
+          c.loop-seat.working.items c.push_reserved.new.self.items handle (fill_parts seat) _ taken.parts pushed.items same before.parts;
       room = omega (arith, before.room, taken.fewer, pushed.len, pushed.capacity);
-      room_back = omega (arith, before.room_back, taken.fewer, pushed.len);
+      room_back = omega (arith, before.room_back, taken.fewer, taken.capacity, pushed.len);
     }

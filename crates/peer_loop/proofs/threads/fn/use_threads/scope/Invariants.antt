@@ -1,15 +1,16 @@
 use Rattle.std.specs.Prelude.{◌≡◌, ◌+◌, ◌≤◌, All, sum_by, vec_len, vec_capacity}
 use Rattle.peer_fill.specs.Pools.{IsFillSeatOf}
 use Rattle.peer_fill.specs.Seats.{fill_parts}
-use Rattle.peer_loop.proofs.threads.fn.use_seats.scope.Given as goal
+use Rattle.peer_fill.specs.Keeping.{handed_fills}
+use Rattle.peer_loop.proofs.threads.fn.use_threads.scope.Given as goal
 
 abbrev pub invariant-loop-seat : goal.invariant-loop-seat
 invariant-loop-seat g l = record {
   fills : All (IsFillSeatOf l.pool) l.fills.items;
   working : All (λ h. h.promise.pool.now ≡ l.pool) l.working.items;
-  parts : sum_by fill_parts l.fills.items + sum_by (λ h. fill_parts h.promise.seat.value) l.working.items ≡ 16;
+  parts : sum_by fill_parts l.fills.items + handed_fills l.working.items ≡ sum_by fill_parts l.initial.fills.items;
   room : vec_len l.fills + vec_len l.working ≤ vec_capacity l.working;
-  room_back : vec_len l.fills + vec_len l.working ≤ vec_capacity l.worked;
+  room_back : vec_len l.fills + vec_len l.working ≤ vec_capacity l.fills;
 }
 
 abbrev pub decreases-loop-seat : goal.decreases-loop-seat

@@ -1,0 +1,66 @@
+//! What a thread does that fills: it fetches, or it calls the source.
+ghost use Rattle.std.specs.Prelude.{◌≡◌, IfSome, Some};
+ghost use Rattle.peer_fill.specs.Pools.{source_of, IsFillSeatOf};
+ghost use Rattle.peer_fill.specs.Seats.{fill_parts};
+ghost use Rattle.peer_fetch.specs.Threads.{Allows};
+
+use crate::bells::Bells;
+use crate::fill_gate::FillGate;
+use peer_fetch::{FetchBell, FetchParts, FetchPlan, FetchThread};
+use peer_fill::{FillSeat, Pool};
+use peer_source::Source;
+use std::alloc::Global;
+use std::net::{Net, TcpListener, TcpStream};
+use std::sync::Wait;
+use std::sync::ledger::Ledger;
+use std::time::Clock;
+
+/// A thread that fetches, and its bell.
+#[derive(Drop)]
+pub struct Fetcher<'a> {
+    pub thread: FetchThread<'a>,
+    pub bell: &'a FetchBell,
+}
+
+/// The next thread that fetches, where there is a plan.
+pub fn next_fetcher<'a>(
+    alloc: Global,
+    plan: Option<FetchPlan<'a>>,
+    parts: &mut Vec<FetchParts>,
+    bells: &'a Bells,
+) -> Option<Fetcher<'a>>
+    ensures { IfSome result (λ fetcher. plan.entry ≡ Some fetcher.thread.plan) }
+{
+    let plan = plan?;
+    let own = parts.pop()?;
+    let bell = bells.each.get(parts.len())?;
+    Some(Fetcher {
+        thread: FetchThread::new(alloc, own, plan),
+        bell,
+    })
+}
+
+/// Fills jobs until the pool and the bell were stopped and there is none: by fetches, where it is given what that needs, and
+/// else by calls of the source.
+pub fn run_filler<
+    S: Source,
+    L: Ledger,
+    H: Net<Listener = TcpListener, Stream = TcpStream> + Clock + Wait,
+>(
+    rt: &H,
+    alloc: Global,
+    pool: &Pool<S, L>,
+    seat: FillSeat<S, L>,
+    fetcher: Option<Fetcher<'_>>,
+    gate: &FillGate<'_>,
+) -> FillSeat<S, L>
+    requires seat { IsFillSeatOf pool.now seat }
+    requires allows { IfSome fetcher (λ f. Allows (S.answers (source_of pool.now)) f.thread.plan) }
+    ensures seat { IsFillSeatOf pool.now result }
+    ensures parts { fill_parts result ≡ fill_parts seat }
+{
+    match fetcher {
+        Some(Fetcher { thread, bell }) => thread.run(rt, pool, seat, bell, gate),
+        None => pool.run_worker(rt, alloc, seat, gate),
+    }
+}
