@@ -3,10 +3,15 @@ use Rattle.std.specs.Prelude.{◌≡◌, ℕ, ◌+◌, ◌-◌, ◌<◌, ◌≤�
 use Rattle.std.proofs.Common.{inl, inr, arith, refl}
 use Rattle.std.proofs.lemmas.Bool.{cases_lt}
 use Rattle.peer_source.specs.Answers.{Answer, Failed, IsWithinLimit}
+use Rattle.peer_origin.specs.Origins.{IsOriginAnswer}
 
 -- what the first answers for its groups, and the second for those behind them
 abbrev pub AnswersEither : ℕ → (ℕ → List ℕ → Answer → Type 0) → (ℕ → List ℕ → Answer → Type 0) → ℕ → List ℕ → Answer → Type 0
 AnswersEither count first second g k a = (g < count → first g k a) × (count ≤ g → second (g - count) k a)
+
+-- what a source answers in which so many origins stand between a first that has so many groups and a second
+abbrev pub AnswersOrigins : ℕ → ℕ → (ℕ → List ℕ → Answer → Type 0) → (ℕ → List ℕ → Answer → Type 0) → ℕ → List ℕ → Answer → Type 0
+AnswersOrigins count origins first second = AnswersEither (count + origins) (AnswersEither count first (λ g k a. IsOriginAnswer a)) second
 
 -- what either allows, for some group
 abbrev pub AllowsEither : (ℕ → List ℕ → Answer → Type 0) → (ℕ → List ℕ → Answer → Type 0) → ℕ → List ℕ → Answer → Type 0

@@ -12,6 +12,12 @@ use thiserror::Error;
 /// The most workers, and the most loops.
 pub const MAX_THREADS: u64 = 16;
 
+/// The most threads that fetch values of services.
+pub const MAX_FETCHERS: u64 = 4;
+
+/// The most values of services that one of them has under way.
+pub const MAX_UNDER_WAY: u64 = 1024;
+
 /// The most connections.
 pub const MAX_CONNECTIONS: u64 = 65_536;
 
@@ -21,8 +27,8 @@ pub const MAX_TIMEOUT: u64 = 3600;
 /// Why a word cannot be used.
 #[derive(Clone, Copy, Debug, PartialEq, Eq, Error)]
 pub enum WordFault {
-    #[error("a number from 1 to {0} is needed")]
-    Number(u64),
+    #[error("a number from {0} to {1} is needed")]
+    Number(u64, u64),
     #[error("a number of bytes is needed, or of KiB, MiB or GiB, such as 64MiB")]
     Size,
     #[error("an address and a port are needed, such as 127.0.0.1:8001")]
@@ -92,10 +98,24 @@ fn with_settings<'a>(alloc: Global, command: Command<'a>) -> Result<Command<'a>,
     command
         .arg(flag(
             alloc,
+            "fetchers",
+            "N",
+            "1",
+            "Threads that fetch values of services, 1 to 4",
+        ))?
+        .arg(flag(
+            alloc,
+            "under-way",
+            "N",
+            "256",
+            "Values of services that each of them has under way, 1 to 1024",
+        ))?
+        .arg(flag(
+            alloc,
             "workers",
             "N",
-            "16",
-            "Threads that call origins, 1 to 16",
+            "0",
+            "Threads that look up a table or the groups of --demo, 0 to 16; with 0 the loops do that",
         ))?
         .arg(flag(
             alloc,
@@ -191,6 +211,8 @@ pub struct Options<'w> {
     pub listen: &'w str,
     pub demo: bool,
     pub table: Option<&'w str>,
+    pub fetchers: usize,
+    pub under_way: usize,
     pub workers: usize,
     pub loops: usize,
     pub connections: usize,
@@ -207,15 +229,16 @@ fn number<'w>(
     matches: &ArgMatches<'w>,
     flag: &'w str,
     name: &str,
+    least: u64,
     most: u64,
 ) -> Result<u64, BadWord<'w>> {
     let word = matches.get_str(name).unwrap_or("");
-    match number_of(word, most) {
+    match number_of(word, least, most) {
         Some(number) => Ok(number),
         None => Err(BadWord {
             flag,
             word,
-            fault: WordFault::Number(most),
+            fault: WordFault::Number(least, most),
         }),
     }
 }
@@ -256,7 +279,7 @@ fn listen<'w>(matches: &ArgMatches<'w>) -> Result<&'w str, BadWord<'w>> {
 
 // The address of the page that a word says, if it says one.
 fn page_address<'w>(word: &'w str) -> Option<PageAddress<'w>> {
-    if let Some(port) = number_of(word, 65_535) {
+    if let Some(port) = number_of(word, 1, 65_535) {
         Some(PageAddress::Loopback(port as u16))
     } else if is_address(word) {
         Some(PageAddress::At(word))
@@ -287,12 +310,20 @@ impl<'w> Options<'w> {
             listen: listen(matches)?,
             demo: matches.get_flag("demo"),
             table: matches.get_str("table"),
-            workers: number(matches, "--workers", "workers", MAX_THREADS)? as usize,
-            loops: number(matches, "--loops", "loops", MAX_THREADS)? as usize,
-            connections: number(matches, "--connections", "connections", MAX_CONNECTIONS)? as usize,
+            fetchers: number(matches, "--fetchers", "fetchers", 1, MAX_FETCHERS)? as usize,
+            under_way: number(matches, "--under-way", "under-way", 1, MAX_UNDER_WAY)? as usize,
+            workers: number(matches, "--workers", "workers", 0, MAX_THREADS)? as usize,
+            loops: number(matches, "--loops", "loops", 1, MAX_THREADS)? as usize,
+            connections: number(
+                matches,
+                "--connections",
+                "connections",
+                1,
+                MAX_CONNECTIONS,
+            )? as usize,
             cache_bytes: size(matches, "--cache", "cache")?,
             memory: size(matches, "--memory", "memory")? as usize,
-            timeout: Duration::from_secs(number(matches, "--timeout", "timeout", MAX_TIMEOUT)?),
+            timeout: Duration::from_secs(number(matches, "--timeout", "timeout", 1, MAX_TIMEOUT)?),
             connection_for_each: matches.get_flag("connection-for-each"),
             stats: stats(matches)?,
             until_eof: matches.get_flag("until-eof"),

@@ -1,5 +1,5 @@
 //! Two sources as one.
-ghost use Rattle.std.specs.Prelude.{◌+◌, ◌^◌, ◌<◌};
+ghost use Rattle.std.specs.Prelude.{◌≡◌, ◌+◌, ◌^◌, ◌<◌};
 ghost use Rattle.peer_front.specs.Besides.{AllowsEither, AnswersEither, number_either};
 ghost use Rattle.peer_front.specs.Besides.{either_answered, either_limited, either_numbered, either_within};
 
@@ -21,6 +21,20 @@ impl<A: Source, B: Source> Beside<A, B> {
     pub fn new(first: A, second: B) -> Option<Beside<A, B>> {
         let _count = first.group_count().checked_add(second.group_count())?;
         Some(Beside { first, second })
+    }
+
+    /// The first of them.
+    pub fn first(&self) -> &A
+        ensures { result.now ≡ self.now.first }
+    {
+        &self.first
+    }
+
+    /// The second of them.
+    pub fn second(&self) -> &B
+        ensures { result.now ≡ self.now.second }
+    {
+        &self.second
     }
 }
 

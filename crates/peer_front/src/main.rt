@@ -8,10 +8,12 @@
 mod args;
 mod beside;
 mod exit;
+mod fetched;
 mod groups;
 mod maybe;
 mod page;
 mod running;
+mod said;
 mod serve;
 mod size;
 mod table;

@@ -1,15 +1,42 @@
 //! The server, and the threads beside it.
+ghost use Rattle.std.specs.Prelude.{IfSome};
+ghost use Rattle.peer_fetch.specs.Threads.{Allows};
 
 use crate::page::Page;
 use crate::troubles::Watch;
+use peer_fetch::FetchPlan;
 use peer_fill::Report;
-use peer_loop::{ServerFault, Settings, serve_loops};
+use peer_loop::{ServerFault, Settings, serve_fetching, serve_loops};
 use peer_source::Source;
 use std::net::{Net, TcpListener, TcpStream};
 use std::sync::Wait;
 use std::thread;
 use std::thread::Threads;
 use std::time::Clock;
+
+// Serves, by fetches where there is a plan.
+fn serve_planned<
+    S: Source,
+    H: AllocGlobal
+        + Net<Listener = TcpListener, Stream = TcpStream>
+        + Threads
+        + Wait
+        + Clock
+        + Sync,
+>(
+    rt: &H,
+    source: S,
+    listener: TcpListener,
+    settings: &Settings<'_>,
+    plan: Option<FetchPlan<'_>>,
+) -> Result<Report, ServerFault>
+    requires { IfSome plan (Allows (S.answers source)) }
+{
+    match plan {
+        Some(plan) => serve_fetching(rt, rt.alloc(), source, listener, settings, plan),
+        None => serve_loops(rt, rt.alloc(), source, listener, settings),
+    }
+}
 
 // Serves while the page is served, where one is asked for, and ends that behind it.
 fn serve_paged<
@@ -25,25 +52,35 @@ fn serve_paged<
     source: S,
     listener: TcpListener,
     settings: &Settings<'_>,
+    plan: Option<FetchPlan<'_>>,
     page: Option<Page>,
-) -> Result<Report, ServerFault> {
+) -> Result<Report, ServerFault>
+    requires { IfSome plan (Allows (S.answers source)) }
+{
     let Some(Page { server, end }) = page else {
-        return serve_loops(rt, rt.alloc(), source, listener, settings);
+        return serve_planned(rt, source, listener, settings, plan);
     };
     let end = &end;
-    thread::scope(thread::scope_env(), rt, move |scope| {
-        let serve = move || server.run(rt, settings.counters, end);
-        let Ok(paging) = scope.spawn(serve) else {
-            return Err(ServerFault::Refused);
-        };
-        let report = serve_loops(rt, rt.alloc(), source, listener, settings);
-        end.end();
-        paging.join(rt);
-        report
-    })
+    thread::scope(
+        thread::scope_env(),
+        rt,
+        move |scope| -> Result<Report, ServerFault>
+            requires { IfSome plan (Allows (S.answers source)) }
+        {
+            let serve = move || server.run(rt, settings.counters, end);
+            let Ok(paging) = scope.spawn(serve) else {
+                return Err(ServerFault::Refused);
+            };
+            let report = serve_planned(rt, source, listener, settings, plan);
+            end.end();
+            paging.join(rt);
+            report
+        },
+    )
 }
 
-/// Serves while troubles are told and the page is served, and ends both behind it.
+/// Serves while troubles are told and the page is served, where one is asked for, and ends both behind it. Where there is a
+/// plan, threads fetch by it.
 pub fn serve_watched<
     S: Source,
     H: AllocGlobal
@@ -58,18 +95,28 @@ pub fn serve_watched<
     source: S,
     listener: TcpListener,
     settings: &Settings<'_>,
+    plan: Option<FetchPlan<'_>>,
     page: Option<Page>,
-) -> Result<Report, ServerFault> {
+) -> Result<Report, ServerFault>
+    requires { IfSome plan (Allows (S.answers source)) }
+{
     let watch = Watch::new();
     let watch = &watch;
-    thread::scope(thread::scope_env(), rt, move |scope| {
-        let tell = move || watch.tell(rt, settings.counters);
-        let Ok(telling) = scope.spawn(tell) else {
-            return Err(ServerFault::Refused);
-        };
-        let report = serve_paged(rt, source, listener, settings, page);
-        watch.end();
-        telling.join(rt);
-        report
-    })
+    let counters = settings.counters;
+    thread::scope(
+        thread::scope_env(),
+        rt,
+        move |scope| -> Result<Report, ServerFault>
+            requires { IfSome plan (Allows (S.answers source)) }
+        {
+            let tell = move || watch.tell(rt, counters);
+            let Ok(telling) = scope.spawn(tell) else {
+                return Err(ServerFault::Refused);
+            };
+            let report = serve_paged(rt, source, listener, settings, plan, page);
+            watch.end();
+            telling.join(rt);
+            report
+        },
+    )
 }

@@ -1,17 +1,22 @@
-//! The serving, and what the program says of it.
+//! The serving: what is served, how, and how it ends.
+ghost use Rattle.std.specs.Prelude.{IfSome};
+ghost use Rattle.peer_fetch.specs.Threads.{Allows};
 
 use crate::args::Options;
 use crate::beside::Beside;
 use crate::exit::{BAD_WORD, CANNOT_BIND, DONE, Exit, NO_OUTPUT, NO_SEED, OUT_OF_MEMORY};
+use crate::fetched::{fetch_settings, fetched_of};
 use crate::groups::{FrontSource, first_in, origins_of};
 use crate::maybe::Maybe;
 use crate::page::page_of;
 use crate::running::serve_watched;
+use crate::said::{Filling, say_listening, say_serving, say_totals};
 use crate::table::read_table;
 use crate::until_eof::stop_of;
+use peer_fetch::FetchPlan;
 use peer_fill::Report;
-use peer_loop::{Limits, Settings, Stop};
-use peer_origin::{FetchSettings, Origin, OriginSource};
+use peer_loop::{Fillers, Limits, ServerFault, Settings, Stop};
+use peer_origin::{Origin, OriginSource};
 use peer_source::{DemoSource, Source};
 use peer_stats::{Counters, FailureSlots};
 use peer_table::TableSource;
@@ -19,8 +24,7 @@ use std::alloc::Global;
 use std::fmt::Display;
 use std::fs::Files;
 use std::hash::RandomState;
-use std::io;
-use std::io::{Read, Write};
+use std::io::Read;
 use std::net::{Net, TcpListener, TcpStream};
 use std::random::RandomSource;
 use std::sync::Wait;
@@ -96,12 +100,7 @@ fn join<'a, H: Net<Listener = TcpListener, Stream = TcpStream> + Clock + Wait + 
     table: Option<TableSource>,
     origins: Vec<Origin>,
 ) -> Option<FrontSource<'a, H>> {
-    let settings = FetchSettings {
-        value: options.timeout,
-        connection_for_each: options.connection_for_each,
-        ..FetchSettings::usual()
-    };
-    let origins = OriginSource::new(rt, failures, origins, settings);
+    let origins = OriginSource::new(rt, failures, origins, fetch_settings(options));
     let behind = Beside::new(Maybe { source: table }, origins)?;
     let demo = if options.demo { Some(DemoSource) } else { None };
     Beside::new(behind, Maybe { source: demo })
@@ -148,15 +147,37 @@ fn source_of<
     }
 }
 
+// Who fills what is asked for.
+fn filling_of(options: &Options<'_>, has_services: bool) -> Filling {
+    if has_services {
+        Filling::Fetchers
+    } else if options.workers > 0 {
+        Filling::Workers
+    } else {
+        Filling::Loops
+    }
+}
+
+// What a server has from outside.
+#[derive(Clone, Copy)]
+struct Outside<'a> {
+    counters: &'a Counters,
+    stop: &'a Stop,
+}
+
 // How it is served.
 fn settings_of<'a>(
     options: &Options<'_>,
+    filling: Filling,
     seed: RandomState,
-    counters: &'a Counters,
-    stop: &'a Stop,
+    outside: Outside<'a>,
 ) -> Settings<'a> {
     Settings {
-        workers: options.workers,
+        fillers: match filling {
+            Filling::Fetchers => Fillers::Threads(options.fetchers),
+            Filling::Workers => Fillers::Threads(options.workers),
+            Filling::Loops => Fillers::Loops,
+        },
         loops: options.loops,
         connections: options.connections,
         memory: options.memory,
@@ -164,9 +185,76 @@ fn settings_of<'a>(
         cache_bytes: options.cache_bytes,
         seed,
         limits: Limits::usual(),
-        counters,
-        stop,
+        counters: outside.counters,
+        stop: outside.stop,
     }
+}
+
+// A listener at the address to serve.
+fn bind<H: AllocGlobal + Eprint + Net<Listener = TcpListener, Stream = TcpStream>>(
+    rt: &H,
+    options: &Options<'_>,
+) -> Result<TcpListener, Exit> {
+    match TcpListener::bind(rt, options.listen) {
+        Ok(listener) => Ok(listener),
+        Err(error) => {
+            let _ = eprintln!(rt; "peer_front: cannot serve {}: {error}", options.listen);
+            Err(CANNOT_BIND)
+        }
+    }
+}
+
+// How the program ends behind its server, and says so.
+fn end_of<H: AllocGlobal + Print + Eprint>(rt: &H, served: &Result<Report, ServerFault>) -> Exit {
+    match served {
+        Ok(report) => match say_totals(rt, report) {
+            Ok(()) => DONE,
+            Err(_) => NO_OUTPUT,
+        },
+        Err(fault) => refuse(rt, fault, OUT_OF_MEMORY),
+    }
+}
+
+// Serves this source, or says why not.
+fn serve_source<
+    S: Source,
+    H: AllocGlobal
+        + Print
+        + Eprint
+        + Net<Listener = TcpListener, Stream = TcpStream>
+        + RandomSource
+        + Threads
+        + Wait
+        + Clock
+        + Sync,
+>(
+    rt: &H,
+    options: &Options<'_>,
+    source: S,
+    plan: Option<FetchPlan<'_>>,
+    outside: Outside<'_>,
+) -> Exit
+    requires { IfSome plan (Allows (S.answers source)) }
+{
+    let Ok(seed) = RandomState::new(rt) else {
+        return refuse(rt, &"no random seed", NO_SEED);
+    };
+    let listener = match bind(rt, options) {
+        Ok(listener) => listener,
+        Err(exit) => return exit,
+    };
+    let page = match page_of(rt, options, seed) {
+        Ok(page) => page,
+        Err(exit) => return exit,
+    };
+    let filling = filling_of(options, plan.is_some());
+    say_serving(rt, source.group_count(), &listener, options, filling);
+    if say_listening(rt).is_err() {
+        return NO_OUTPUT;
+    }
+    let settings = settings_of(options, filling, seed, outside);
+    let served = serve_watched(rt, source, listener, &settings, plan, page);
+    end_of(rt, &served)
 }
 
 /// Serves what is asked for, or says why not.
@@ -184,75 +272,29 @@ pub fn serve<
         + Clock
         + Sync,
 >(rt: &H, options: &Options<'_>, words: &[&str]) -> Exit {
+    if options.workers > 0 && !words.is_empty() {
+        return refuse(
+            rt,
+            &"--workers is for a table and --demo alone: where a service is named, --fetchers says how many threads there are",
+            BAD_WORD,
+        );
+    }
     let counters = Counters::new();
     let source = match source_of(rt, counters.failures(), options, words) {
         Ok(source) => source,
         Err(exit) => return exit,
     };
-    let Ok(seed) = RandomState::new(rt) else {
-        return refuse(rt, &"no random seed", NO_SEED);
-    };
-    let listener = match TcpListener::bind(rt, options.listen) {
-        Ok(listener) => listener,
-        Err(error) => {
-            let _ = eprintln!(rt; "peer_front: cannot serve {}: {error}", options.listen);
-            return CANNOT_BIND;
-        }
-    };
-    let page = match page_of(rt, options, seed) {
-        Ok(page) => page,
-        Err(exit) => return exit,
-    };
-    say_serving(rt, source.group_count(), &listener, options);
-    if say_listening(rt).is_err() {
-        return NO_OUTPUT;
-    }
-    let Ok(stop) = stop_of(rt, options) else {
+    let (Some(fetched), Ok(stop)) = (fetched_of(rt.alloc(), &source), stop_of(rt, options)) else {
         return refuse(rt, &"out of memory, threads or descriptors", OUT_OF_MEMORY);
     };
-    let settings = settings_of(options, seed, &counters, &stop);
-    match serve_watched(rt, source, listener, &settings, page) {
-        Ok(report) => match say_totals(rt, &report) {
-            Ok(()) => DONE,
-            Err(_) => NO_OUTPUT,
-        },
-        Err(fault) => refuse(rt, &fault, OUT_OF_MEMORY),
-    }
-}
-
-// Says on standard error what is served and where.
-fn say_serving<H: AllocGlobal + Eprint>(
-    rt: &H,
-    groups: usize,
-    listener: &TcpListener,
-    options: &Options<'_>,
-) {
-    let _ = match listener.local_addr() {
-        Ok(address) => eprintln!(rt;
-            "peer_front: serves {groups} groups at {address}, {} connections at most, on {} loops and {} workers",
-            options.connections, options.loops, options.workers
-        ),
-        Err(_) => eprintln!(rt; "peer_front: serves {groups} groups at {}", options.listen),
+    let plan = if words.is_empty() {
+        None
+    } else {
+        Some(fetched.plan(options, counters.failures()))
     };
-}
-
-// Says that connections can come.
-fn say_listening<H: AllocGlobal + Print>(rt: &H) -> io::Result<()> {
-    println!(rt; "listening")?;
-    io::writer(rt).flush()
-}
-
-// Says what the pool counted.
-fn say_totals<H: AllocGlobal + Print>(rt: &H, report: &Report) -> io::Result<()> {
-    println!(rt;
-        "asked {} hits {} led {} joined {} calls {} rehits {} left {}",
-        report.asked,
-        report.hits,
-        report.led,
-        report.joined,
-        report.calls,
-        report.rehits,
-        report.left
-    )?;
-    io::writer(rt).flush()
+    let outside = Outside {
+        counters: &counters,
+        stop: &stop,
+    };
+    serve_source(rt, options, source, plan, outside)
 }

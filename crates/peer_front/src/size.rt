@@ -19,12 +19,12 @@ pub fn bytes_of(text: &str) -> Option<u64> {
     digits(text)
 }
 
-/// The number from 1 to `most` that digits alone write.
-pub fn number_of(text: &str, most: u64) -> Option<u64>
-    ensures { IfSome result (λ n. (1 ≤ n) × (n ≤ most)) }
+/// The number from `least` to `most` that digits alone write.
+pub fn number_of(text: &str, least: u64, most: u64) -> Option<u64>
+    ensures { IfSome result (λ n. (least ≤ n) × (n ≤ most)) }
 {
     match digits(text) {
-        Some(number) if 0 < number && number <= most => Some(number),
+        Some(number) if least <= number && number <= most => Some(number),
         _ => None,
     }
 }

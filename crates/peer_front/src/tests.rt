@@ -25,15 +25,28 @@ fn numbers_are_within_their_bounds(rt: HostRuntime) -> Result<(), Fail> {
     let mut right = true;
     for (flag, value, text) in [
         ("--workers", "16", ""),
-        (
-            "--workers",
-            "0",
-            "--workers 0: a number from 1 to 16 is needed",
-        ),
+        ("--workers", "0", ""),
         (
             "--workers",
             "17",
-            "--workers 17: a number from 1 to 16 is needed",
+            "--workers 17: a number from 0 to 16 is needed",
+        ),
+        ("--fetchers", "4", ""),
+        (
+            "--fetchers",
+            "0",
+            "--fetchers 0: a number from 1 to 4 is needed",
+        ),
+        (
+            "--fetchers",
+            "5",
+            "--fetchers 5: a number from 1 to 4 is needed",
+        ),
+        ("--under-way", "1024", ""),
+        (
+            "--under-way",
+            "1025",
+            "--under-way 1025: a number from 1 to 1024 is needed",
         ),
         (
             "--loops",
