@@ -7,6 +7,7 @@
 Its last line is `rows N failures 0`; where a row fails, so does the program.
 """
 import os
+import re
 import socket
 import subprocess
 import sys
@@ -38,6 +39,10 @@ LARGE = table(b"x" * 16777217)
 ECHO = table(b"echo\tk\tv\n")
 URL = "http://127.0.0.1:1/"
 THREADS = "a number from 1 to 16 is needed"
+WORKERS = "a number from 0 to 16 is needed"
+FETCHERS = "a number from 1 to 4 is needed"
+UNDER_WAY = "a number from 1 to 1024 is needed"
+NO_WORKERS = "--workers is for a table and --demo alone: where a service is named, --fetchers says how many threads there are"
 SIZE = "a number of bytes is needed, or of KiB, MiB or GiB, such as 64MiB"
 PAGE = "a port, or an address and a port, is needed, such as 9100 or 127.0.0.1:9100"
 
@@ -51,8 +56,20 @@ ROWS = [
      "peer_front: --listen 127.0.0.1: an address and a port are needed, such as 127.0.0.1:8001\n"),
     (["--listen", TAKEN, "--demo"], 2, f"peer_front: cannot serve {TAKEN}: "),
     (HERE + ["--demo", "--nothing"], 1, "--nothing"),
-    (HERE + ["--demo", "--workers", "0"], 1, f"peer_front: --workers 0: {THREADS}\n"),
-    (HERE + ["--demo", "--workers", "17"], 1, f"peer_front: --workers 17: {THREADS}\n"),
+    (HERE + ["--demo", "--workers", "17"], 1, f"peer_front: --workers 17: {WORKERS}\n"),
+    (HERE + ["--demo", "--workers", "-1"], 1, "-1"),
+    (HERE + ["--demo", "--workers", "x"], 1, f"peer_front: --workers x: {WORKERS}\n"),
+    (HERE + ["--workers", "3", "g=" + URL], 1, f"peer_front: {NO_WORKERS}\n"),
+    (HERE + ["--demo", "--workers", "1", "g=" + URL], 1, f"peer_front: {NO_WORKERS}\n"),
+    (HERE + ["g=" + URL, "--fetchers", "0"], 1, f"peer_front: --fetchers 0: {FETCHERS}\n"),
+    (HERE + ["g=" + URL, "--fetchers", "5"], 1, f"peer_front: --fetchers 5: {FETCHERS}\n"),
+    (HERE + ["g=" + URL, "--fetchers", "x"], 1, f"peer_front: --fetchers x: {FETCHERS}\n"),
+    (HERE + ["--demo", "--fetchers", "5"], 1, f"peer_front: --fetchers 5: {FETCHERS}\n"),
+    (HERE + ["g=" + URL, "--fetchers"], 1, "--fetchers"),
+    (HERE + ["g=" + URL, "--under-way", "0"], 1, f"peer_front: --under-way 0: {UNDER_WAY}\n"),
+    (HERE + ["g=" + URL, "--under-way", "1025"], 1, f"peer_front: --under-way 1025: {UNDER_WAY}\n"),
+    (HERE + ["g=" + URL, "--under-way", "x"], 1, f"peer_front: --under-way x: {UNDER_WAY}\n"),
+    (HERE + ["g=" + URL, "--under-way"], 1, "--under-way"),
     (HERE + ["--demo", "--loops", "x"], 1, f"peer_front: --loops x: {THREADS}\n"),
     (HERE + ["--demo", "--loops", "17"], 1, f"peer_front: --loops 17: {THREADS}\n"),
     (HERE + ["--demo", "--connections", "0"], 1, "peer_front: --connections 0: a number from 1 to 65536 is needed\n"),
@@ -89,18 +106,52 @@ ROWS = [
     (HERE + ["--table", LARGE], 2, "table too large\n"),
 ]
 
+# the words, and all that standard error holds where the program serves and is ended at once
+STARTS = [
+    (["--demo"], "3 groups at ADDR, 10000 connections at most, on 2 loops"),
+    (["--table", GOOD, "--workers", "0"], "1 groups at ADDR, 10000 connections at most, on 2 loops"),
+    (["--demo", "--fetchers", "4", "--under-way", "1"], "3 groups at ADDR, 10000 connections at most, on 2 loops"),
+    (["--demo", "--workers", "1", "--loops", "1"], "3 groups at ADDR, 10000 connections at most, on 1 loops and 1 workers"),
+    (["--table", GOOD, "--workers", "16", "--loops", "16"], "1 groups at ADDR, 10000 connections at most, on 16 loops and 16 workers"),
+    (["g=" + URL],
+     "1 groups at ADDR, 10000 connections at most, on 2 loops, and fetches on 1 threads, 256 values under way on each"),
+    (["g=" + URL, "--workers", "0", "--fetchers", "4", "--under-way", "1024", "--connections", "7"],
+     "1 groups at ADDR, 7 connections at most, on 2 loops, and fetches on 4 threads, 1024 values under way on each"),
+    (["--table", GOOD, "--demo", "g=" + URL, "--fetchers", "2", "--under-way", "1"],
+     "5 groups at ADDR, 10000 connections at most, on 2 loops, and fetches on 2 threads, 1 values under way on each"),
+]
+
+# other words that are taken: the program says that it listens
+TAKEN_WORDS = [
+    ["--demo", "--workers", "1", "--loops", "1", "--connections", "1", "--cache", "0", "--memory", "1KiB"],
+    ["--table", GOOD, "--timeout", "1"],
+    ["a=" + URL, "--connection-for-each"],
+    ["--table", GOOD, "--demo", "a=" + URL],
+    ["--demo", "--stats", "127.0.0.1:0"],
+]
+
+
+def ended_at_once(words):
+    """The status and standard error of a program that has no input."""
+    done = subprocess.run([PROGRAM] + words, stdin=subprocess.DEVNULL, stdout=subprocess.PIPE, stderr=subprocess.PIPE, timeout=60, check=False)
+    return done.returncode, done.stderr.decode()
+
+
 failures = 0
 for words, status, text in ROWS:
-    done = subprocess.run([PROGRAM] + words, stdin=subprocess.DEVNULL, capture_output=True, timeout=60)
-    told = done.stderr.decode()
-    if done.returncode != status or text not in told:
+    ended, told = ended_at_once(words)
+    if ended != status or text not in told:
         failures += 1
-        print("words", words[:6], "status", done.returncode, "wanted", status, "told", repr(told), "wanted", repr(text))
+        print("words", words[:6], "status", ended, "wanted", status, "told", repr(told), "wanted", repr(text))
 
-# Each flag with a good value is taken: the program says that it listens.
-for words in [["--demo", "--workers", "1", "--loops", "1", "--connections", "1", "--cache", "0", "--memory", "1KiB"],
-              ["--table", GOOD, "--timeout", "1"], ["a=" + URL, "--connection-for-each"], ["--table", GOOD, "--demo", "a=" + URL],
-              ["--demo", "--stats", "127.0.0.1:0"]]:
+for words, text in STARTS:
+    ended, told = ended_at_once(HERE + ["--until-eof"] + words)
+    told = re.sub(r"127\.0\.0\.1:[1-9]\d*", "ADDR", told)
+    if ended != 0 or told != f"peer_front: serves {text}\n":
+        failures += 1
+        print("words", words, "status", ended, "told", repr(told), "wanted", repr(text))
+
+for words in TAKEN_WORDS:
     run = subprocess.Popen([PROGRAM] + HERE + words, stdout=subprocess.PIPE)
     line = run.stdout.readline()
     run.kill()
@@ -111,5 +162,5 @@ for words in [["--demo", "--workers", "1", "--loops", "1", "--connections", "1",
 
 for name in (GOOD, BAD, TWICE, LARGE, ECHO):
     os.unlink(name)
-print("rows", len(ROWS) + 5, "failures", failures)
+print("rows", len(ROWS) + len(STARTS) + len(TAKEN_WORDS), "failures", failures)
 sys.exit(1 if failures else 0)
