@@ -5,19 +5,27 @@
     apt-get install gcc
     python3 bench/compare.py [--rounds 7] [--seconds 0.3] BEFORE AFTER ..
 
-Each load runs against each build in turn, so many rounds. For each load the first build's rate is printed, as the median of the
-rounds, and for each other build the medians of the ratios of rate and of processor time a request to the first one's in the same
-round. Every reply is checked. c is the number of connections, d how many requests each has in flight.
+A build is a path, and may have flags behind it: "crates/peer_front/out/peer_front --workers 1". Where the name is not `peer_front`
+it is a `peer_serve`. Each load runs against each build in turn, so many rounds. For each load the first build's rate is printed,
+as the median of the rounds, and for each other build the medians of the ratios of rate and of processor time a request to the
+first one's in the same round. Every reply is checked. c is the number of connections, d how many requests each has in flight.
 """
 import argparse
 import os
 import signal
 import statistics
 
-from net import built, program, ratios, run, started
+from net import WORDS, built, program, ratios, run, started
 
 GRID = [(1, 1), (4, 1), (4, 16), (16, 16), (1, 64), (16, 64)]
 LOADS = [("echo", key, c, d) for key in ("hot:k", "unique") for c, d in GRID]
+
+
+def command(build):
+    """The words that start a build on the source for demonstrations."""
+    path, *flags = build.split()
+    words = WORDS.get(os.path.basename(path), WORDS["peer_serve"])
+    return [program(path), *words, *flags]
 
 
 def main():
@@ -29,8 +37,8 @@ def main():
     load = built("load", ["gcc", "-O2", "-o", "{out}/load", "load.c", "-lpthread"], ".")
     servers = []
     try:
-        for path in given.builds:
-            servers.append(started([program(path), "{addr}", "2", "16", "1000000"]))
+        for build in given.builds:
+            servers.append(started(command(build)))
         results = {cell: [[] for _ in servers] for cell in LOADS}
         for _ in range(given.rounds):
             for cell in LOADS:
@@ -39,7 +47,7 @@ def main():
     finally:
         for _, process in servers:
             process.send_signal(signal.SIGKILL)
-    names = [os.path.basename(path) for path in given.builds]
+    names = [" ".join([os.path.basename(path), *flags]) for path, *flags in map(str.split, given.builds)]
     print("| load | " + f"{names[0]}: req/s | " + " | ".join(f"{name}: rate, processor time" for name in names[1:]) + " |")
     print("|---" * (1 + len(names)) + "|")
     for cell, (first, *others) in results.items():

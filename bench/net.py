@@ -37,11 +37,19 @@ REFERENCE = "go"
 WORDS = {"peer_front": ["--listen", "{addr}", "--demo"], "peer_serve": ["{addr}", "2", "16", "1000000"]}
 
 
-def built(path, command, folder, **more):
-    """Builds a program, where it is not there yet, and gives its path."""
-    path = os.path.join(OUT, path)
+def is_new(path, folder):
+    """Whether a program is there, and no file of this folder is younger."""
     if not os.path.exists(path):
-        subprocess.run([word.format(out=OUT) for word in command], cwd=os.path.join(HERE, "net", folder), check=True, env={**os.environ, **more})
+        return False
+    with os.scandir(folder) as files:
+        return all(file.stat().st_mtime <= os.path.getmtime(path) for file in files if file.is_file())
+
+
+def built(path, command, folder, **more):
+    """Builds a program, where it is not there yet or older than its sources, and gives its path."""
+    path, folder = os.path.join(OUT, path), os.path.join(HERE, "net", folder)
+    if not is_new(path, folder):
+        subprocess.run([word.format(out=OUT) for word in command], cwd=folder, check=True, env={**os.environ, **more})
     return path
 
 
@@ -94,9 +102,12 @@ def run(load, name, address, process, cell, seconds):
     if name in ("ours", "ceiling"):
         command.append("-e")
     try:
-        line = subprocess.run(command, capture_output=True, text=True, timeout=seconds + 15).stdout.strip()
+        done = subprocess.run(command, capture_output=True, text=True, timeout=seconds + 15)
     except subprocess.TimeoutExpired:
+        print(f"net.py: {name}: the load did not end", file=sys.stderr)
         return None
+    print(done.stderr, end="", file=sys.stderr)
+    line = done.stdout.strip()
     numbers = [float(x) for x in line.split(",")] if line else [0.0] * 10
     return numbers if numbers[0] and not numbers[9] else None
 

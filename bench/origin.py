@@ -3,48 +3,94 @@
 
     (cd crates/peer_front && rt run -- --version)      # builds the server
     apt-get install gcc golang-go golang-github-golang-groupcache-dev
-    python3 bench/origin.py [--rounds 5] [--seconds 2] [--connections 256] [SERVER]
+    python3 bench/origin.py [--rounds 5] [--seconds 2] [--connections 256] [--flags "--fetchers 2 --under-way 512"] [SERVER]
 
-The service answers at once, or 5 or 50 ms later. Each key is asked once, one at a time on each connection; every reply is
-checked byte by byte. The servers take turns in each round, so that only ratios of one round count: each line has the medians
-over the rounds, of the rates and of their ratio, with the least and the largest. The last row asks for one key.
+The service is a program in Go that parses next to nothing. It answers at once, or 5 or 50 ms later. Each key is asked once,
+one at a time on each connection; every reply is checked byte by byte. The server runs twice, with its defaults and with the
+flags given. The servers take turns in each round, and so does the service without a server, so that only ratios of one round
+count. Each cell has the median over the rounds of the rate, and of its ratio to Go's with the least and the largest, and the
+medians of the ratios of the server's processor time for a value and of the latency of the slowest in a hundred. Below the table
+stand the rows that the service may bound: alone it is less than 1.5 times as quick there as the quickest server, for want of a
+processor and not because it waits. The row with 1,000 clients has more of them than values may be under way by default; the last
+row asks for one key. It wants `ulimit -n` of 4,096.
 """
 import argparse
+import os
 import signal
 import statistics
 import sys
 
 import net
 
-WAITS = [("0", "unique"), ("5", "unique"), ("50", "unique"), ("50", "hot:k")]
+OURS = "ours"
+MANY = 1000
 
 
 def built_go(name):
     return net.built(name, ["go", "build", "-o", "{out}/" + name, "."], name, GO111MODULE="off", GOPATH="/usr/share/gocode")
 
 
-def commands(server, origin, wait):
-    """The two servers in front of the service, that waits so many milliseconds."""
-    word = f"echo=http://{origin}/{wait}/"
-    return {"go": [built_go("go_cache"), "-addr", "{addr}", word], "ours": [server, "--listen", "{addr}", word]}
+def cells(connections):
+    """How many milliseconds a value takes, which keys are asked for, and by how many clients."""
+    each = [(wait, "unique", connections) for wait in (0, 5, 50)]
+    return [*each, (50, "unique", MANY), (50, "hot:k", connections)]
 
 
-def rounds_of(load, server, origin, cell, given):
-    """The rates of the two servers, round by round. A wrong reply ends it."""
-    wait, key = cell
-    servers = {name: net.started(command) for name, command in commands(server, origin, wait).items()}
-    rates = {name: [] for name in servers}
+def commands(server, flags, origin):
+    """The servers in front of the service."""
+    word = f"echo=http://{origin}/"
+    ours = [server, "--listen", "{addr}", word]
+    return {net.REFERENCE: [built_go("go_cache"), "-addr", "{addr}", word], OURS: ours, f"{OURS} {flags}": [*ours, *flags.split()]}
+
+
+def rounds_of(load, servers, cell, given):
+    """What each server did, round by round. A wrong reply ends it."""
+    wait, key, connections = cell
+    results = {name: [] for name in servers}
+    for _ in range(given.rounds):
+        for name, (address, process) in servers.items():
+            kind = OURS if name.startswith(OURS) else name
+            got = net.run(load, kind, address, process, ("echo", key, connections, 1), given.seconds)
+            if got is None:
+                sys.exit(f"origin.py: {name} gave a wrong reply or none, {wait} ms, {key}, {connections} clients")
+            results[name].append(got)
+    return results
+
+
+def measured(load, server, cell, given):
+    """What each server did in front of a service of its own."""
+    servers = {}
+    origin, service = net.started([built_go("go_origin"), "-addr", "{addr}", "-wait", str(cell[0])])
     try:
-        for _ in range(given.rounds):
-            for name, (address, process) in servers.items():
-                got = net.run(load, "go", address, process, ("echo", key, given.connections, 1), given.seconds)
-                if got is None:
-                    sys.exit(f"origin.py: {name} gave a wrong reply or none, {wait} ms, {key}")
-                rates[name].append(got[0])
+        for name, command in commands(server, given.flags, origin).items():
+            servers[name] = net.started(command)
+        if cell[1] == "unique":
+            servers["service"] = origin, service
+        return rounds_of(load, servers, cell, given)
     finally:
-        for _, process in servers.values():
+        for _, process in [*servers.values(), (origin, service)]:
             process.send_signal(signal.SIGKILL)
-    return rates
+
+
+def rate(results, name):
+    return statistics.median(got[0] for got in results[name])
+
+
+def shown(results, name):
+    rates, cpu, slowest = (net.ratios(results[name], results[net.REFERENCE], at) for at in (0, 4, 2))
+    spread = f"{statistics.median(rates):.2f} ({min(rates):.2f}-{max(rates):.2f})"
+    return f"{rate(results, name):,.0f}, {spread} cpu {statistics.median(cpu):.2f} p99 {statistics.median(slowest):.2f}"
+
+
+def bounded_by_service(results, cell):
+    """Whether the service, and not that each client waits for it, may keep the quickest server from being quicker."""
+    wait, _, connections = cell
+    if "service" not in results:
+        return False
+    alone = rate(results, "service")
+    quickest = max(rate(results, name) for name in results if name != "service")
+    waits_only = wait and alone > 0.75 * connections * 1000 / wait
+    return alone < 1.5 * quickest and not waits_only
 
 
 def main():
@@ -53,20 +99,25 @@ def main():
     parser.add_argument("--rounds", type=int, default=5)
     parser.add_argument("--seconds", type=float, default=2)
     parser.add_argument("--connections", type=int, default=256)
+    parser.add_argument("--flags", default="--fetchers 2 --under-way 512")
     given = parser.parse_args()
     server = net.program(given.server)
     load, _ = net.peers()
-    origin, service = net.started([built_go("go_origin"), "-addr", "{addr}"])
-    print("| service | keys | go: values/s | ours: values/s | ours / go |\n|---|---|---|---|---|")
-    try:
-        for cell in WAITS:
-            rates = rounds_of(load, server, origin, cell, given)
-            each = [a / b for a, b in zip(rates["ours"], rates["go"])]
-            shown = " | ".join(f"{statistics.median(rates[name]):,.0f}" for name in ("go", "ours"))
-            keys = "one" if cell[1] == "hot:k" else "each once"
-            print(f"| {cell[0]} ms | {keys} | {shown} | {statistics.median(each):.2f} ({min(each):.2f}-{max(each):.2f}) |", flush=True)
-    finally:
-        service.send_signal(signal.SIGKILL)
+    print("load average before: %.2f %.2f %.2f" % os.getloadavg())
+    print(f"| service | keys | clients | go: values/s | ours: values/s, / go | ours `{given.flags}`: values/s, / go | service alone: values/s |")
+    print("|---|---|---|---|---|---|---|")
+    bounded = []
+    for cell in cells(given.connections):
+        wait, key, connections = cell
+        results = measured(load, server, cell, given)
+        ours = " | ".join(shown(results, name) for name in results if name.startswith(OURS))
+        alone = f"{rate(results, 'service'):,.0f}" if "service" in results else "-"
+        keys = "one" if key == "hot:k" else "each once"
+        print(f"| {wait} ms | {keys} | {connections} | {rate(results, net.REFERENCE):,.0f} | {ours} | {alone} |", flush=True)
+        if bounded_by_service(results, cell):
+            bounded.append(f"{wait} ms, {connections} clients")
+    print("rows that the service may bound:", "; ".join(bounded) or "none")
+    print("load average after: %.2f %.2f %.2f" % os.getloadavg())
 
 
 if __name__ == "__main__":

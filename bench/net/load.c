@@ -252,6 +252,7 @@ static void *run(void *arg) {
         struct epoll_event ev = {.events = EPOLLIN, .data.ptr = c};
         epoll_ctl(ep, EPOLL_CTL_ADD, c->fd, &ev);
         top_up(c); flush_out(ep, c);
+        if (o.conns > 64 && n % 4 == 0) usleep(1000); // a backlog of 128 is not to overflow while the server has no processor
     }
     int open = n; uint64_t grace = 0;
     struct epoll_event evs[256];
