@@ -148,8 +148,17 @@ fn serve_held<
     Some(report.is_some() && asked == Some(true))
 }
 
-// What a server has seen of its clients, and the origin of its requests.
-fn see<
+// What a server has from outside.
+#[derive(Drop)]
+struct Outside {
+    counters: Counters,
+    stop: Stop,
+    told: Told,
+}
+
+// Serves in front of a prepared origin, and says whether each client got its value.
+fn serve_prepared<
+    'x,
     H: AllocGlobal
         + Threads
         + Net<Listener = TcpListener, Stream = TcpStream>
@@ -157,19 +166,18 @@ fn see<
         + Wait
         + RandomSource
         + Sync,
->(rt: &H) -> Option<(bool, [usize; 2])> {
+>(rt: &'x H, outside: &'x Outside) -> Option<bool> {
     let Prepared { listener, origins } = prepare(rt, rt.alloc())?;
-    let seed = RandomState::new(rt).ok()?;
-    let (counters, stop, told) = (Counters::new(), Stop::new(), Told::new());
-    let source = OriginSource::new(rt, counters.failures(), origins, patient().fetch);
+    let source = OriginSource::new(rt, outside.counters.failures(), origins, patient().fetch);
     let places = source.places(rt.alloc()).ok()?;
+    let fetched = Counters::new();
     let plan = FetchPlan {
         places: Places {
             first: 0,
             each: places.as_slice(),
         },
         settings: patient(),
-        failures: counters.failures(),
+        failures: fetched.failures(),
     };
     let settings = Settings {
         fillers: Fillers::Threads(1),
@@ -178,17 +186,26 @@ fn see<
         memory: 1_048_576,
         accepts: None,
         cache_bytes: 0,
-        seed,
+        seed: RandomState::new(rt).ok()?,
         limits: limits(),
-        counters: &counters,
-        stop: &stop,
+        counters: &outside.counters,
+        stop: &outside.stop,
     };
-    let right = serve_held(rt, source, listener, &told, &settings, plan)?;
-    Some((right, [told.requests.load(SeqCst), told.open.load(SeqCst)]))
+    serve_held(rt, source, listener, &outside.told, &settings, plan)
 }
 
 #[test]
 fn a_server_has_forty_values_under_way(rt: HostRuntime) -> Result<(), Fail> {
-    assert_eq!(rt; see(&rt), Some((true, [40, 40])));
+    let outside = Outside {
+        counters: Counters::new(),
+        stop: Stop::new(),
+        told: Told::new(),
+    };
+    assert_eq!(rt; serve_prepared(&rt, &outside), Some(true));
+    let told = &outside.told;
+    assert_eq!(rt;
+        [told.requests.load(SeqCst), told.open.load(SeqCst)],
+        [40; 2]
+    );
     Ok(())
 }
