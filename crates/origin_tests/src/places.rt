@@ -2,9 +2,10 @@
 use peer_origin::{Place, PlaceFault};
 use std::alloc::Global;
 use std::net::{Net, TcpListener, TcpStream};
+use std::sync::Wait;
 
 // Whether a URL has this host field and this prefix, and one address.
-fn is_place<H: Net<Listener = TcpListener, Stream = TcpStream>>(
+fn is_place<H: Net<Listener = TcpListener, Stream = TcpStream> + Wait>(
     rt: &H,
     alloc: Global,
     url: &str,
@@ -15,7 +16,7 @@ fn is_place<H: Net<Listener = TcpListener, Stream = TcpStream>>(
         Ok(place) => {
             place.host.as_slice() == host
                 && place.prefix.as_slice() == prefix
-                && place.addresses.len() == 1
+                && place.addresses.len(rt) == 1
         }
         Err(_) => false,
     }

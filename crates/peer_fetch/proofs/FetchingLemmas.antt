@@ -9,7 +9,7 @@ use Rattle.peer_http.specs.Receivings.{IsStanding}
 use Rattle.peer_origin.specs.declared.exchange.Failure.{Failure}
 use Rattle.peer_origin.specs.declared.fault.FetchFault.{FetchFault}
 use Rattle.peer_origin.specs.Fetches.{Use, IsTry, IsFoundBy, Tries, once, twice}
-use Rattle.peer_fetch.specs.Fetchings.{GoesOnAnew, IsFetched, IsFoundIn, first_uses, use_by, uses_by}
+use Rattle.peer_fetch.specs.Fetchings.{GoesOnAnew, IsFoundIn, first_uses, use_by, uses_by}
 use Rattle.peer_fetch.specs.declared.fetching.Answer.{Answer}
 use Rattle.peer_fetch.specs.declared.fetching.Silence.{Silence}
 
@@ -73,19 +73,3 @@ anew request sent came ended first came' silent none blank =
     (subst (λ x. GoesOnAnew request (uses_by request sent [] ended x) (uses_by request 0 came' false (Some s))) (sym none)
     (subst (λ x. GoesOnAnew request (uses_by request sent [] ended None) (uses_by request 0 x false (Some s))) (sym blank)
     (use_by request sent [] ended, refl, refl, refl)))
-
--- what was found in a fetch was fetched by its request
-module _ (request : List ℕ) (sent : ℕ) (came : List ℕ) (ended : Bool) (first : Option Silence) where
-  fetched : (got : Result (Vec ℕ Global) FetchFault) → IfOk got (λ v. ∥ IsFoundIn request sent came ended first v ∥₁) → IfOk got (λ v. ∥ IsFetched request v ∥₁)
-  fetched (Ok v) h = ∥∥₁_map h (λ f. record { uses = uses_by request sent came ended first; fetches = f })
-  fetched (Err f) h = tt
-
-  pub fetched_at_end : (r : Result Answer Failure) → IfOk r (λ a. IfOk a.value (λ v. ∥ IsFoundIn request sent came ended first v ∥₁)) → IfOk r (λ a. IfOk a.value (λ v. ∥ IsFetched request v ∥₁))
-  fetched_at_end (Ok a) h = fetched a.value h
-  fetched_at_end (Err f) h = tt
-
-  pub fetched_on : (r : Result (Option Answer) Failure) → IfOk r (λ given. IfSome given (λ a. IfOk a.value (λ v. ∥ IsFoundIn request sent came ended first v ∥₁)))
-      → IfOk r (λ given. IfSome given (λ a. IfOk a.value (λ v. ∥ IsFetched request v ∥₁)))
-  fetched_on (Ok (Some a)) h = fetched a.value h
-  fetched_on (Ok None) h = tt
-  fetched_on (Err f) h = tt

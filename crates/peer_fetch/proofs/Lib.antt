@@ -1,3 +1,2 @@
-mod DoneLemmas
 mod FetchingLemmas
 mod ThreadLemmas

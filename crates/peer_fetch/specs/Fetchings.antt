@@ -30,11 +30,6 @@ IsFoundIn request sent came ended first value = Fetches (Some []) request [] (us
 abbrev pub GoesOnAnew : List ℕ → List Use → List Use → Type 0
 GoesOnAnew request us us' = (u : Use) × (us ≡ u ∷ []) × (u.came ≡ Some []) × (us' ≡ use_by request 0 [] false ∷ us)
 
--- the value was found by this request
-pub record IsFetched (request : List ℕ) (value : Vec ℕ Global) : Type 0 where
-  pub uses : List Use
-  pub fetches : Fetches (Some []) request [] uses (Ok value)
-
 -- the request for a key at a place
 abbrev pub request_at : Place → List ℕ → List ℕ
 request_at place key = request_for place.host.items (target_of place.prefix.items key)

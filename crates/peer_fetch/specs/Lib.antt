@@ -1,3 +1,4 @@
 pub mod Fetchings
 pub mod Places
 pub mod Threads
+pub mod Values

@@ -9,18 +9,19 @@ use mio::event::Event;
 use mio::net::TcpStream;
 use mio::{Interest, Registry, Token};
 use peer_fill::TakenJob;
-use peer_origin::{Failure, FetchFault};
+use peer_origin::{Addresses, Failure, FetchFault};
 use peer_source::Source;
 use slab::Slab;
 use std::alloc::{AllocError, Global};
 use std::collections::VecDeque;
-use std::net::{Net, SocketAddr};
+use std::net::Net;
+use std::sync::Wait;
 use std::time::Duration;
 
 // How many bytes a read may give.
 const ROOM: usize = 65_536;
 
-/// Where one is, and how one registers.
+/// The runtime, and where streams are registered for events.
 #[derive(Drop)]
 pub struct Ground<'r, H> {
     pub rt: &'r H,
@@ -77,14 +78,15 @@ fn earlier(one: Option<Duration>, other: Option<Duration>) -> Option<Duration> {
 }
 
 // A stream that begins to connect to one of these addresses, and which is to be tried behind it.
-fn open<H: Net>(
+fn open<H: Net + Wait>(
     ground: &Ground<'_, H>,
-    addresses: &[SocketAddr],
+    addresses: &Addresses,
     from: usize,
     token: Token,
 ) -> Option<(TcpStream, usize)> {
-    for number in from..addresses.len() {
-        let Ok(mut stream) = TcpStream::connect(ground.rt, addresses[number]) else {
+    for number in from..addresses.len(ground.rt) {
+        let address = addresses.get(ground.rt, number)?;
+        let Ok(mut stream) = TcpStream::connect(ground.rt, address) else {
             continue;
         };
         let interest = Interest::READABLE | Interest::WRITABLE;
@@ -174,7 +176,7 @@ impl<'a, S: Source> Fetcher<'a, S> {
     }
 
     // Begins to connect to an origin, for a value. A value that cannot be fetched is given back.
-    fn connect<H: Net>(
+    fn connect<H: Net + Wait>(
         &mut self,
         ground: &Ground<'_, H>,
         under: UnderWay<'a, S>,
@@ -215,7 +217,7 @@ impl<'a, S: Source> Fetcher<'a, S> {
     }
 
     // Asks for a value on a connection that is kept, or a new one.
-    fn start<H: Net>(
+    fn start<H: Net + Wait>(
         &mut self,
         ground: &Ground<'_, H>,
         under: UnderWay<'a, S>,
@@ -242,7 +244,7 @@ impl<'a, S: Source> Fetcher<'a, S> {
     }
 
     /// Fetches the value of a job from the place of its group. A job whose value cannot be fetched is given back.
-    pub fn begin<H: Net>(
+    pub fn begin<H: Net + Wait>(
         &mut self,
         ground: &Ground<'_, H>,
         at: Numbered<'a>,
@@ -279,7 +281,7 @@ impl<'a, S: Source> Fetcher<'a, S> {
     }
 
     // Tries the next address of an origin.
-    fn connect_next<H: Net>(
+    fn connect_next<H: Net + Wait>(
         &mut self,
         ground: &Ground<'_, H>,
         key: usize,
@@ -292,7 +294,7 @@ impl<'a, S: Source> Fetcher<'a, S> {
     }
 
     // A connection ended before the value was there. A request on one that was kept is made once more, on a new one.
-    fn cut<H: Net>(
+    fn cut<H: Net + Wait>(
         &mut self,
         ground: &Ground<'_, H>,
         key: usize,
@@ -316,7 +318,11 @@ impl<'a, S: Source> Fetcher<'a, S> {
     }
 
     /// Gives a connection its turn. A value that is done is given back.
-    pub fn turn<H: Net>(&mut self, ground: &Ground<'_, H>, key: usize) -> Option<Done<'a, S>> {
+    pub fn turn<H: Net + Wait>(
+        &mut self,
+        ground: &Ground<'_, H>,
+        key: usize,
+    ) -> Option<Done<'a, S>> {
         let Some(link) = self.links.get_mut(key) else {
             return None;
         };

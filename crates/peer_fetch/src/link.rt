@@ -1,7 +1,7 @@
 //! A connection to an origin, and the value that is under way on it.
 ghost use Rattle.std.specs.Prelude.{◌≤◌, length, IfOk};
 ghost use Rattle.peer_view.specs.Sinks.{MAX_VALUE};
-ghost use Rattle.peer_fetch.specs.Fetchings.{IsFetched};
+ghost use Rattle.peer_fetch.specs.Values.{IsFoundBy};
 
 use crate::done::Done;
 use crate::fetching::Answer;
@@ -55,8 +55,8 @@ struct Signs {
 pub struct Link<'a, S: Source> {
     stream: TcpStream,
     under: Option<UnderWay<'a, S>>,
-    // When it is given up, where it is not reached by then.
-    connecting: Option<Duration>,
+    // When the address is given up. None once it is connected.
+    connect_due: Option<Duration>,
     signs: Signs,
     /// The number of its origin.
     pub origin: usize,
@@ -78,15 +78,23 @@ fn was_interrupted(error: &io::Error) -> bool {
     error.kind() == ErrorKind::Interrupted
 }
 
-// Whether a stream that began to connect is connected. None where it is not yet.
-fn is_connected(stream: &TcpStream) -> Option<bool> {
+// How far a stream is that began to connect.
+#[derive(Clone, Copy)]
+enum Connecting {
+    Connected,
+    Waits,
+    Failed,
+}
+
+// How far a stream is that began to connect.
+fn progress_of(stream: &TcpStream) -> Connecting {
     let Ok(None) = stream.take_error() else {
-        return Some(false);
+        return Connecting::Failed;
     };
     match stream.peer_addr() {
-        Ok(_) => Some(true),
-        Err(error) if error.kind() == ErrorKind::NotConnected => None,
-        Err(_) => Some(false),
+        Ok(_) => Connecting::Connected,
+        Err(error) if error.kind() == ErrorKind::NotConnected => Connecting::Waits,
+        Err(_) => Connecting::Failed,
     }
 }
 
@@ -111,7 +119,7 @@ fn send<S: Source>(stream: &mut TcpStream, under: &mut UnderWay<'_, S>) -> Optio
 fn end<S: Source>(under: &mut UnderWay<'_, S>) -> Result<Answer, Halt>
     requires { length under.old.fetching.request.items ≤ under.old.fetching.sent }
     ensures within { IfOk result (λ a. IfOk a.value (λ v. length v.items ≤ MAX_VALUE)) }
-    ensures found { IfOk result (λ a. IfOk a.value (λ v. ∥ IsFetched under.new.fetching.request.items v ∥₁)) }
+    ensures found { IfOk result (λ a. IfOk a.value (IsFoundBy under.new.fetching)) }
 {
     match under.end() {
         Ok(answer) => Ok(answer),
@@ -127,7 +135,7 @@ fn receive<S: Source>(
     signs: &mut Signs,
 ) -> Result<Answer, Halt>
     ensures within { IfOk result (λ a. IfOk a.value (λ v. length v.items ≤ MAX_VALUE)) }
-    ensures found { IfOk result (λ a. IfOk a.value (λ v. ∥ IsFetched under.new.fetching.request.items v ∥₁)) }
+    ensures found { IfOk result (λ a. IfOk a.value (IsFoundBy under.new.fetching)) }
 {
     for _ in 0..ROUNDS {
         if !signs.readable || !under.is_sent() {
@@ -164,7 +172,7 @@ impl<'a, S: Source> Link<'a, S> {
         Link {
             stream,
             under: Some(under),
-            connecting: Some(due),
+            connect_due: Some(due),
             signs: Signs {
                 readable: false,
                 read_closed: false,
@@ -211,7 +219,7 @@ impl<'a, S: Source> Link<'a, S> {
         let Some(under) = &self.under else {
             return None;
         };
-        match self.connecting {
+        match self.connect_due {
             Some(due) if due < under.due() => Some(due),
             _ => Some(under.due()),
         }
@@ -243,20 +251,21 @@ impl<'a, S: Source> Link<'a, S> {
         }
     }
 
-    // Looks whether the stream is connected: none where it is.
-    fn connect(&mut self, now: Duration) -> Option<bool> {
-        let Some(due) = self.connecting else {
-            return None;
+    // How far the stream is. An address that is not reached by its time has failed.
+    fn connect(&mut self, now: Duration) -> Connecting {
+        let Some(due) = self.connect_due else {
+            return Connecting::Connected;
         };
-        match is_connected(&self.stream) {
-            Some(true) => {
-                self.connecting = None;
+        let progress = progress_of(&self.stream);
+        match progress {
+            Connecting::Connected => {
+                self.connect_due = None;
                 let _ = self.stream.set_nodelay(true);
-                None
             }
-            Some(false) => Some(false),
-            None => Some(now < due),
+            Connecting::Waits if now >= due => return Connecting::Failed,
+            _ => {}
         }
+        progress
     }
 
     /// Goes on with the value that is under way.
@@ -273,12 +282,12 @@ impl<'a, S: Source> Link<'a, S> {
             return Turn::Done(under.done(Err(FetchFault::Late)), false);
         }
         match self.connect(now) {
-            None => self.exchange(under, buffer),
-            Some(true) => {
+            Connecting::Connected => self.exchange(under, buffer),
+            Connecting::Waits => {
                 self.put(under);
                 Turn::Waits
             }
-            Some(false) => Turn::Unconnected(under),
+            Connecting::Failed => Turn::Unconnected(under),
         }
     }
 }

@@ -22,6 +22,9 @@ use std::time::{Clock, Duration, Instant};
 // How many events one wait gives.
 const MAX_EVENTS: usize = 1024;
 
+// How many jobs are taken in one turn.
+const JOBS_OF_TURN: usize = 1024;
+
 /// What the system and memory give a thread that fetches, before it is one.
 #[derive(Drop)]
 pub struct FetchParts {
@@ -38,7 +41,7 @@ pub struct FetchThread<'a> {
     plan: FetchPlan<'a>,
 }
 
-// A thread that fetches.
+// A thread that fetches, while it runs.
 #[derive(Drop)]
 struct Running<'a, S: Source> {
     poll: Poll,
@@ -56,7 +59,8 @@ struct Desk<'p, 'a, S: Source, L: Ledger, G> {
     plan: FetchPlan<'a>,
 }
 
-// Fills the flight of a job: with this outcome, where its group has a place, and else by a call of the source.
+// Fills the flight of a job: with this outcome, where its group has a place. No job of another group comes here, and one
+// that did would be filled by a call of the source.
 fn fill<'a, S: Source, L: Ledger, G: Gate, H: Wait>(
     rt: &H,
     desk: &Desk<'_, 'a, S, L, G>,
@@ -122,7 +126,7 @@ fn take_job<'a, S: Source, L: Ledger, G: Gate, H: Net + Wait>(
     true
 }
 
-// Takes jobs while there is room for their values. Whether there was one.
+// Takes jobs while there is room for their values, so many at most. Whether there was one.
 fn take_jobs<'a, S: Source, L: Ledger, G: Gate, H: Net + Wait>(
     ground: &Ground<'_, H>,
     desk: &Desk<'_, 'a, S, L, G>,
@@ -134,7 +138,7 @@ fn take_jobs<'a, S: Source, L: Ledger, G: Gate, H: Net + Wait>(
     ensures { IsLaterSeat desk.now.pool.now seat.old seat.new }
 {
     let mut took = false;
-    for _ in 0..MAX_EVENTS {
+    for _ in 0..JOBS_OF_TURN {
         if !fetcher.has_room() || !take_job(ground, desk, seat, fetcher) {
             return took;
         }
@@ -188,7 +192,8 @@ fn time_to_wait<'a, S: Source, L: Ledger, G: Gate, H: Net + Wait>(
     fetcher.time_left()
 }
 
-// Whether all is done: no more jobs are pushed, there is none, and no value is under way.
+// Takes jobs, and gives those that are ready their turn. Whether all is done: no more jobs are pushed, there is none, and
+// no value is under way.
 fn work_on<'a, S: Source, L: Ledger, G: Gate, H: Net + Wait>(
     ground: &Ground<'_, H>,
     desk: &Desk<'_, 'a, S, L, G>,

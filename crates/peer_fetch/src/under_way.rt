@@ -1,9 +1,10 @@
 //! A value under way: a job, the place of its origin, and the fetch.
 ghost use Rattle.std.specs.Prelude.{◌≡◌, ◌+◌, ◌≤◌, length, IfOk, IfSome, IsTrue};
 ghost use Rattle.peer_view.specs.Sinks.{MAX_VALUE};
-ghost use Rattle.peer_fetch.specs.Fetchings.{IsFetched, request_at};
+ghost use Rattle.peer_fetch.specs.Fetchings.{request_at};
+ghost use Rattle.peer_fetch.specs.Values.{IsFoundBy};
 
-use crate::done::Done;
+use crate::done::{Done, Fetched};
 use crate::fetching::{Answer, Fetching};
 use peer_fill::TakenJob;
 use peer_origin::{Failure, FetchFault, Place, request};
@@ -112,8 +113,7 @@ impl<'a, S: Source> UnderWay<'a, S> {
     pub fn receive(&mut self, bytes: &[u8]) -> Result<Option<Answer>, Failure>
         requires { length self.old.fetching.request.items ≤ self.old.fetching.sent }
         ensures within { IfOk result (λ given. IfSome given (λ a. IfOk a.value (λ v. length v.items ≤ MAX_VALUE))) }
-        ensures found { IfOk result (λ given. IfSome given (λ a. IfOk a.value (λ v.
-            ∥ IsFetched self.new.fetching.request.items v ∥₁))) }
+        ensures found { IfOk result (λ given. IfSome given (λ a. IfOk a.value (IsFoundBy self.new.fetching))) }
     {
         self.fetching.receive(bytes)
     }
@@ -122,8 +122,7 @@ impl<'a, S: Source> UnderWay<'a, S> {
     pub fn end(&mut self) -> Result<Answer, Failure>
         requires { length self.old.fetching.request.items ≤ self.old.fetching.sent }
         ensures within { IfOk result (λ a. IfOk a.value (λ v. length v.items ≤ MAX_VALUE)) }
-        ensures found { IfOk result (λ a. IfOk a.value (λ v.
-            ∥ IsFetched self.new.fetching.request.items v ∥₁)) }
+        ensures found { IfOk result (λ a. IfOk a.value (IsFoundBy self.new.fetching)) }
     {
         self.fetching.end()
     }
@@ -136,9 +135,18 @@ impl<'a, S: Source> UnderWay<'a, S> {
     /// The job, with what was fetched for it.
     pub fn done(self, got: Result<Vec<u8>, FetchFault>) -> Done<'a, S>
         requires within { IfOk got (λ v. length v.items ≤ MAX_VALUE) }
-        requires found { IfOk got (λ v. ∥ IsFetched self.fetching.request.items v ∥₁) }
+        requires found { IfOk got (IsFoundBy self.fetching) }
     {
-        let UnderWay { place, job, .. } = self;
+        let UnderWay {
+            place,
+            job,
+            fetching,
+            ..
+        } = self;
+        let got = match got {
+            Ok(value) => Ok(Fetched::new(value, fetching)),
+            Err(fault) => Err(fault),
+        };
         Done { place, job, got }
     }
 }

@@ -7,6 +7,7 @@
 //! `FetchFault`.
 #![tactic(auto)]
 
+mod addresses;
 mod connections;
 mod deadline;
 mod exchange;
@@ -20,6 +21,7 @@ mod source;
 mod stream;
 mod target;
 
+pub use addresses::Addresses;
 pub use connections::{Connection, Connections};
 pub use exchange::{Failure, failure_of, fetch, request};
 pub use fault::{FetchFault, get_fault};

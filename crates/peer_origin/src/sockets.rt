@@ -2,6 +2,7 @@
 ghost use Rattle.std.specs.Prelude.{◌≡◌, ℕ, ◌-◌, ◌^◌, ◌<◌, ◌∷◌, length, None, IfSome};
 ghost use Rattle.peer_origin.specs.Fetches.{untold, untold_uses};
 
+use crate::addresses::Addresses;
 use crate::connections::{Connection, Connections};
 use crate::deadline::Deadline;
 use crate::fault::FetchFault;
@@ -10,7 +11,7 @@ use crate::settings::FetchSettings;
 use crate::stream::{StreamReader, StreamWriter};
 use std::alloc::Global;
 use std::io::ErrorKind;
-use std::net::{Net, SocketAddr, TcpListener, TcpStream};
+use std::net::{Net, TcpListener, TcpStream};
 use std::sync::{Arc, Wait};
 use std::time::{Clock, Duration};
 
@@ -29,18 +30,21 @@ pub fn is_quiet(stream: &TcpStream) -> bool {
 }
 
 // A connection to the first address that answers, each within its time and all by the deadline.
-fn connect<H: Net<Listener = TcpListener, Stream = TcpStream> + Clock>(
+fn connect<H: Net<Listener = TcpListener, Stream = TcpStream> + Clock + Wait>(
     rt: &H,
-    addresses: &[SocketAddr],
+    addresses: &Addresses,
     within: Duration,
     deadline: &Deadline<'_, H>,
 ) -> Result<TcpStream, FetchFault> {
-    for address in addresses {
+    for number in 0..addresses.len(rt) {
+        let Some(address) = addresses.get(rt, number) else {
+            break;
+        };
         let Some(left) = deadline.left() else {
             return Err(FetchFault::Late);
         };
         let wait = if left < within { left } else { within };
-        if let Ok(stream) = TcpStream::connect_timeout(rt, address, wait) {
+        if let Ok(stream) = TcpStream::connect_timeout(rt, &address, wait) {
             let _ = stream.set_nodelay(true);
             return Ok(stream);
         }

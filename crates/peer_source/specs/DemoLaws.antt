@@ -1,8 +1,8 @@
 -- The law of the source for demonstrations: what it finds is within the limit.
-use Rattle.std.proofs.Common.{◌≡◌, ℕ, ◌+◌, ◌-◌, ◌*◌, ◌^◌, ◌<◌, ◌≤◌, Bool, true, false, List, [], ◌∷◌, length, Option}
+use Rattle.std.proofs.Common.{◌≡◌, ℕ, ◌+◌, ◌-◌, ◌*◌, ◌^◌, ◌<◌, ◌≤◌, Bool, true, false, List, [], ◌∷◌, length}
 use Rattle.std.proofs.Common.{Some, None, sym, ap, ◌∙◌, subst, refl, arith, lit<}
 use Rattle.std.proofs.Math.Nat.{mul-le-mul, mul-le-mul_right, mul_assoc, pow-le-pow_right}
-use Rattle.std.specs.Prelude.{nat_le, leb, nat_lt, cond, codes, decimal, ◌==◌, ◌&&◌, replicate}
+use Rattle.std.specs.Prelude.{nat_le, nat_lt, cond, codes, decimal, ◌==◌, ◌&&◌, replicate}
 use Rattle.std.proofs.lemmas.Bool.{and_parts, leb-true}
 use Rattle.std.proofs.lemmas.Option.{none-some, same_Some}
 use Rattle.std.proofs.lemmas.Fmt.{length-decimal-le}
@@ -10,9 +10,9 @@ use Rattle.std.proofs.lemmas.Grind.{common_steps}
 use Rattle.std.specs.List.{list_all}
 use Rattle.std.specs.Char.{is_ascii_digit}
 use Rattle.peer_view.specs.Sinks.{MAX_VALUE}
-use Rattle.peer_source.specs.Answers.{Answer, Found, Failed, IsWithinLimit, found_within, too_long_text}
+use Rattle.peer_source.specs.Answers.{Answer, Found, Failed, IsWithinLimit, found_within}
 use Rattle.peer_source.specs.Limits.{found_is_within}
-use Rattle.peer_source.specs.Demo.{DemoAnswers, demo_answer, echo_answer, square_answer, fill_answer, number_after, number_in}
+use Rattle.peer_source.specs.Demo.{DemoAnswers, square_answer, fill_answer, number_after, number_in}
 
 abbrev IsShort : Answer → Type 0
 IsShort a = IsWithinLimit (Some a)

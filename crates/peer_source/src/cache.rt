@@ -13,6 +13,7 @@ use crate::entries::{
 };
 use crate::fill::{Fill, Outcome};
 use crate::group::GroupId;
+use crate::kept::Kept;
 use crate::source::Source;
 use peer_view::ByteView;
 use std::alloc::{AllocError, Global};
@@ -26,6 +27,7 @@ const MAX_ENTRIES: usize = 4096;
 /// The values found last for the keys of a group. The bytes of an entry are those of its key and of its value.
 #[derive(Drop)]
 pub struct MainCache<S: Source> {
+    alloc: Global,
     group: GroupId,
     limit: u64,
     bytes: u64,
@@ -43,6 +45,16 @@ impl<S: Source> Model for MainCache<S> {
     ghost invariant = { λ c. Keeps S.allowed c.group.number c.limit c.bytes c.entries };
 }
 
+// A view of this key: it is shared where the view that is kept with the value is of these bytes, as it always is.
+fn key_of(alloc: Global, kept: &Kept, key: &[u8]) -> Result<ByteView, AllocError>
+    ensures { IfOk result (λ view. view ≡ key.now) }
+{
+    match kept.key_of(key) {
+        Some(view) => view.share(),
+        None => ByteView::copy_of(alloc, key),
+    }
+}
+
 impl<S: Source> MainCache<S> {
     /// A cache for a group without an entry. It keeps at most so many bytes, and at 0 nothing. The seed is for the map
     /// of its keys, which peers choose.
@@ -56,6 +68,7 @@ impl<S: Source> MainCache<S> {
     {
         let most = NonZeroUsize::new(MAX_ENTRIES).unwrap();
         Ok(MainCache {
+            alloc,
             group,
             limit,
             bytes: 0,
@@ -65,7 +78,7 @@ impl<S: Source> MainCache<S> {
     }
 
     /// The fill of the entry with this key, which comes to the front. It shares the key and the value.
-    pub fn get(&mut self, key: &ByteView) -> Result<Option<Fill<S>>, AllocError>
+    pub fn get(&mut self, key: &[u8]) -> Result<Option<Fill<S>>, AllocError>
         ensures fill { IfOk result (λ fill. fill ≡ fill_of key.now self.old) }
         ensures front { OnOk result (self.new ≡ brought_to_front key.now self.old) }
         ensures err { OnErr result (self.new ≡ self.old) }
@@ -76,7 +89,8 @@ impl<S: Source> MainCache<S> {
             return Ok(None);
         };
         let in_front = found.in_front;
-        let fill = Fill::of_value(self.group, key.share()?, found.value.share()?);
+        let own_key = key_of(self.alloc, found.kept, key)?;
+        let fill = Fill::of_value(self.group, own_key, found.kept.value().share()?);
         bring_to_front(&mut self.entries, key, in_front);
         Ok(Some(fill))
     }
@@ -121,7 +135,7 @@ impl<S: Source> MainCache<S> {
             &mut self.entries,
             bytes,
             key.share()?,
-            value.share()?,
+            Kept::of(key, value)?,
             evicted,
         )?;
         self.bytes = evict(&mut self.entries, others, room, evicted) + (self.limit - room);

@@ -7,6 +7,8 @@ ghost use Rattle.std.specs.NonZero.{non_zero_usize_get};
 ghost use Rattle.lru.specs.LruCache.{lru_cache, promoted};
 ghost use Rattle.peer_source.specs.Caches.{IsFirst, bytes_of, bytes_in, fitting, without};
 
+use crate::kept::Kept;
+use crate::lent_key::LentKey;
 use lru::LruCache;
 use peer_view::ByteView;
 use std::alloc::{AllocError, Global};
@@ -14,7 +16,7 @@ use std::hash::RandomState;
 use std::num::NonZeroUsize;
 
 // The entries of a cache, the most recently used first.
-pub(crate) type Entries = LruCache<ByteView, ByteView, RandomState>;
+pub(crate) type Entries = LruCache<ByteView, Kept, RandomState>;
 
 // No entries, and room for none yet. The seed is that of the map.
 pub(crate) fn no_entries(
@@ -32,38 +34,38 @@ pub(crate) fn no_entries(
 // What a look-up found: a value, and whether its entry is the first.
 #[derive(Clone, Copy)]
 pub(crate) struct Found<'a> {
-    pub(crate) value: &'a ByteView,
+    pub(crate) kept: &'a Kept,
     pub(crate) in_front: bool,
 }
 
 // The value of the entry with this key. That of the first entry is found without a hash.
-pub(crate) fn look_up<'a>(entries: &'a Entries, key: &ByteView) -> Option<Found<'a>>
+pub(crate) fn look_up<'a>(entries: &'a Entries, key: &[u8]) -> Option<Found<'a>>
     ensures none { IfNone result (lookup (bytes_eq key.now) entries.now.entries ≡ None) }
-    ensures value { IfSome result (λ found. Some found.value.now ≡ lookup (bytes_eq key.now) entries.now.entries) }
+    ensures value { IfSome result (λ found. Some found.kept.now ≡ lookup (bytes_eq key.now) entries.now.entries) }
     ensures front { IfSome result (λ found. IsTrue found.in_front → IsFirst key.now entries.now.entries) }
 {
-    if let Some((first, value)) = entries.peek_mru() {
-        if first == key {
+    if let Some((first, kept)) = entries.peek_mru() {
+        if first.as_slice() == key {
             return Some(Found {
-                value,
+                kept,
                 in_front: true,
             });
         }
     }
-    let value = entries.peek(key)?;
+    let kept = entries.peek(LentKey::of(key))?;
     Some(Found {
-        value,
+        kept,
         in_front: false,
     })
 }
 
 // Brings the entry with this key to the front, where it is not there already.
-pub(crate) fn bring_to_front(entries: &mut Entries, key: &ByteView, in_front: bool)
+pub(crate) fn bring_to_front(entries: &mut Entries, key: &[u8], in_front: bool)
     requires { IsTrue in_front → IsFirst key.now entries.old.entries }
     ensures { entries.new ≡ lru_cache (promoted (bytes_eq key.now) entries.old.entries) entries.old.cap }
 {
     if !in_front {
-        let _there = entries.promote(key);
+        let _there = entries.promote(LentKey::of(key));
     }
 }
 
@@ -78,22 +80,22 @@ pub(crate) fn room_beside(limit: u64, key: &ByteView, value: &ByteView) -> Optio
 }
 
 /// Entries that left a cache, as many as there is room for. One addition evicts at most 4,096.
-pub type Evicted = Vec<(ByteView, ByteView)>;
+pub type Evicted = Vec<(ByteView, Kept)>;
 
 // Keeps an entry that left the cache, where there is room for it.
-fn set_aside(entry: (ByteView, ByteView), evicted: &mut Evicted) {
+fn set_aside(entry: (ByteView, Kept), evicted: &mut Evicted) {
     if evicted.len() < evicted.capacity() {
         let _ = evicted.push(entry);
     }
 }
 
 // The bytes without those of an entry.
-fn bytes_without(bytes: u64, entry: (ByteView, ByteView), evicted: &mut Evicted) -> u64
+fn bytes_without(bytes: u64, entry: (ByteView, Kept), evicted: &mut Evicted) -> u64
     requires { bytes_of entry ≤ bytes }
     ensures { result + bytes_of entry ≡ bytes }
 {
-    let (key, value) = &entry;
-    let rest = bytes - key.len() as u64 - value.len() as u64;
+    let (key, kept) = &entry;
+    let rest = bytes - key.len() as u64 - kept.value().len() as u64;
     set_aside(entry, evicted);
     rest
 }
@@ -103,7 +105,7 @@ pub(crate) fn put_in_front(
     entries: &mut Entries,
     bytes: u64,
     key: ByteView,
-    value: ByteView,
+    value: Kept,
     evicted: &mut Evicted,
 ) -> Result<u64, AllocError>
     requires bytes { bytes ≡ bytes_in entries.old.entries }

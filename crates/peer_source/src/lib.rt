@@ -12,6 +12,8 @@ mod entries;
 mod fill;
 mod functional;
 mod group;
+mod kept;
+mod lent_key;
 mod names;
 mod source;
 
@@ -21,5 +23,6 @@ pub use entries::Evicted;
 pub use fill::{Fill, Outcome};
 pub use functional::FunctionalSource;
 pub use group::GroupId;
+pub use kept::Kept;
 pub use names::Names;
 pub use source::{GetFault, Source};

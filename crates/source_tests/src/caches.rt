@@ -1,6 +1,6 @@
 //! Caches: what stays and what goes, and a list that does the same.
 use crate::fills::{ECHO, FILL, SQUARE, fill, has_found};
-use crate::inputs::{next, view_of};
+use crate::inputs::next;
 use peer_source::{DemoSource, Fill, GroupId, MainCache};
 use peer_view::ByteView;
 use std::alloc::Global;
@@ -50,14 +50,14 @@ fn adds_letters(alloc: Global, cache: &mut MainCache<DemoSource>, letters: &'sta
 
 // Whether a get finds this value for the key.
 fn finds(cache: &mut MainCache<DemoSource>, key: &'static [u8], value: &[u8]) -> bool {
-    match cache.get(&view_of(key)) {
+    match cache.get(key) {
         Ok(Some(fill)) => fill.key().eq_bytes(key) && has_found(&fill, value),
         _ => false,
     }
 }
 
 // Whether the key is not there.
-fn lacks(cache: &mut MainCache<DemoSource>, key: &ByteView) -> bool {
+fn lacks(cache: &mut MainCache<DemoSource>, key: &[u8]) -> bool {
     match cache.get(key) {
         Ok(None) => true,
         _ => false,
@@ -74,7 +74,7 @@ fn the_last_used_stay(rt: HostRuntime) -> Result<(), Fail> {
     let mut cache = cache_of(rt.alloc(), ECHO, 4)?;
     assert!(rt; adds_letters(rt.alloc(), &mut cache, b"abc"));
     assert!(rt; has(&cache, 2, 4));
-    assert!(rt; lacks(&mut cache, &view_of(b"a")));
+    assert!(rt; lacks(&mut cache, b"a"));
     assert!(rt; finds(&mut cache, b"b", b"b"));
     Ok(())
 }
@@ -85,7 +85,7 @@ fn a_get_changes_which_one_goes(rt: HostRuntime) -> Result<(), Fail> {
     assert!(rt; adds_letters(rt.alloc(), &mut cache, b"ab"));
     assert!(rt; finds(&mut cache, b"a", b"a"));
     assert!(rt; adds_letters(rt.alloc(), &mut cache, b"c"));
-    assert!(rt; lacks(&mut cache, &view_of(b"b")));
+    assert!(rt; lacks(&mut cache, b"b"));
     assert!(rt; finds(&mut cache, b"a", b"a"));
     Ok(())
 }
@@ -105,7 +105,7 @@ fn an_entry_over_the_limit_leaves_none(rt: HostRuntime) -> Result<(), Fail> {
     assert!(rt; adds_letters(rt.alloc(), &mut cache, b"ab"));
     assert!(rt; adds(rt.alloc(), &mut cache, ECHO, b"abc"));
     assert!(rt; has(&cache, 0, 0));
-    assert!(rt; lacks(&mut cache, &view_of(b"abc")));
+    assert!(rt; lacks(&mut cache, b"abc"));
     Ok(())
 }
 
@@ -145,7 +145,7 @@ fn a_key_is_counted_once(rt: HostRuntime) -> Result<(), Fail> {
     assert!(rt; adds_letters(rt.alloc(), &mut cache, b"aba"));
     assert!(rt; has(&cache, 2, 4));
     assert!(rt; adds_letters(rt.alloc(), &mut cache, b"c"));
-    assert!(rt; lacks(&mut cache, &view_of(b"b")));
+    assert!(rt; lacks(&mut cache, b"b"));
     Ok(())
 }
 
@@ -198,13 +198,11 @@ fn adds_digit(
 
 // Whether the cache finds the digit where the list has it.
 fn gets_digit(
-    alloc: Global,
     cache: &mut MainCache<DemoSource>,
     digits: &mut Vec<u8>,
     digit: u8,
 ) -> Result<bool, Fail> {
-    let key = ByteView::copy_of(alloc, &[b'0'.wrapping_add(digit)])?;
-    let is_missing = lacks(cache, &key);
+    let is_missing = lacks(cache, &[b'0'.wrapping_add(digit)]);
     let was_there = take_out(digits, digit);
     if was_there {
         digits.insert(0, digit)?;
@@ -223,7 +221,7 @@ fn agree_for(alloc: Global, steps: u32) -> Result<bool, Fail> {
         let agree = if (drawn >> 27) % 2 == 0 {
             adds_digit(alloc, &mut cache, &mut digits, digit)?
         } else {
-            gets_digit(alloc, &mut cache, &mut digits, digit)?
+            gets_digit(&mut cache, &mut digits, digit)?
         };
         if !agree {
             return Ok(false);

@@ -1,4 +1,4 @@
-use Rattle.std.proofs.Common.{sym, ap, rules}
+use Rattle.std.proofs.Common.{sym, ap}
 use Rattle.lru.specs.LruCache.{lru_cache}
 use Rattle.peer_source.proofs.EntryLemmas.{first_promoted}
 use Rattle.peer_source.proofs.entries.bring_to_front.Goals as goal

@@ -8,7 +8,7 @@ invariant_of-self-2 g c =
     let kept = c.self.inside in
     let key = c.args.key.now in
     let value = c.args.value.now in
-    let first = rw (c.in_ok-share.ensures, c.in_ok-share-2.ensures) at c.in_ok-others.ensures.front in
+    let first = rw (c.in_ok-share.ensures, c.in_ok-of.ensures) at c.in_ok-others.ensures.front in
     let answer =
     subst (λ n. IsAnswer g.S.Source.allowed n (key, value)) (sym (ap (λ (x : Cache). x.group) c.self.view_is)) c.requires.answer in
     let on : 0 < kept.limit = omega (arith, ap (λ (x : Cache). x.limit) c.self.view_is, c.requires.on) in
@@ -21,7 +21,7 @@ returns-clause-ok g c =
     let kept = c.self.inside in
     let key = c.args.key.now in
     let value = c.args.value.now in
-    let first = rw (c.in_ok-share.ensures, c.in_ok-share-2.ensures) at c.in_ok-others.ensures.front in
+    let first = rw (c.in_ok-share.ensures, c.in_ok-of.ensures) at c.in_ok-others.ensures.front in
     rw (← c.self.view_is)
     (cache_of-put kept.entries c.put_in_front-2.new.entries c.evict.new.entries key value kept.limit c.in-Some.room c.evict.result
     c.self.invariant.room first c.evict.ensures.entries c.evict.ensures.others c.in-Some.ensures.room kept.group.number)

@@ -1,0 +1,102 @@
+#!/usr/bin/env python3
+"""A service whose name gets another address while the built peer_front serves it.
+
+    (cd crates/peer_front && rt run -- --version)     # builds it
+    python3 bench/names.py [crates/peer_front/out/peer_front]
+
+The program runs in a mount namespace of its own, in which /etc/hosts is a file that this script writes; that takes root.
+The name stands first for a service that answers `one`, then for one that answers `two`, then for none, and each key is
+asked once. Its last line is `checks N failures 0`; where one fails, so does the program.
+"""
+import http.client
+import http.server
+import os
+import subprocess
+import sys
+import tempfile
+import threading
+import time
+
+PROGRAM = os.path.abspath(sys.argv[1] if len(sys.argv) > 1 else "crates/peer_front/out/peer_front")
+NAME = "service.test"
+PORT = 9473
+PATIENCE = 20  # seconds for a name that has moved: it is looked up every 5
+
+
+def service(address, text):
+    class Answers(http.server.BaseHTTPRequestHandler):
+        protocol_version = "HTTP/1.0"  # each value on a connection of its own
+
+        def do_GET(self):
+            self.send_response(200)
+            self.send_header("Content-Length", str(len(text)))
+            self.end_headers()
+            self.wfile.write(text)
+
+        def log_message(self, *_):
+            pass
+
+    server = http.server.ThreadingHTTPServer((address, PORT), Answers)
+    threading.Thread(target=server.serve_forever, daemon=True).start()
+
+
+class Front:
+    """The program, before which /etc/hosts is a file of its own."""
+
+    def __init__(self, hosts):
+        script = f"mount --bind {hosts} /etc/hosts && exec {PROGRAM} --listen 127.0.0.1:9474 g=http://{NAME}:{PORT}/"
+        self.process = subprocess.Popen(["unshare", "--mount", "sh", "-c", script], stdout=subprocess.PIPE, text=True)
+        if self.process.stdout.readline() != "listening\n":
+            sys.exit("names.py: the program does not serve")
+        self.asked = 0
+
+    def ask(self):
+        """The body of a key that nobody asked for yet."""
+        self.asked += 1
+        connection = http.client.HTTPConnection("127.0.0.1", 9474, timeout=15)
+        connection.request("GET", f"/_groupcache/g/{self.asked}")
+        return connection.getresponse().read()
+
+    def gives_soon(self, text):
+        """Whether a new key has this value before long."""
+        until = time.monotonic() + PATIENCE
+        while time.monotonic() < until:
+            if self.ask().endswith(text):
+                return True
+            time.sleep(0.2)
+        return False
+
+
+def main():
+    service("127.0.0.2", b"one")
+    service("127.0.0.3", b"two")
+    failures = 0
+    with tempfile.NamedTemporaryFile("w") as hosts:
+
+        def stands_for(address):
+            hosts.seek(0)
+            hosts.truncate()
+            hosts.write(f"{address} {NAME}\n" if address else "127.0.0.1 localhost\n")
+            hosts.flush()
+
+        stands_for("127.0.0.2")
+        front = Front(hosts.name)
+        try:
+            checks = [("the first address", front.gives_soon(b"one"))]
+            stands_for("127.0.0.3")
+            checks.append(("the second address", front.gives_soon(b"two")))
+            checks.append(("the first no more", not front.ask().endswith(b"one")))
+            stands_for(None)
+            time.sleep(PATIENCE / 2)
+            checks.append(("the last address, where nothing is found", front.ask().endswith(b"two")))
+        finally:
+            front.process.kill()
+    for what, right in checks:
+        failures += not right
+        if not right:
+            print(f"not so: {what}")
+    print(f"checks {len(checks)} failures {failures}")
+    sys.exit(1 if failures else 0)
+
+
+main()

@@ -1,0 +1,117 @@
+//! The addresses of an origin's host. Those of a name are looked up again while others connect to what was found last.
+
+use crate::place::PlaceFault;
+use peer_wait::lock;
+use std::alloc::Global;
+use std::net::{IpAddr, Net, SocketAddr, TcpListener, TcpStream, ToSocketAddrs};
+use std::sync::{Mutex, Wait};
+use url::Host;
+
+// A name, and the port at its addresses.
+#[derive(Drop)]
+struct Name {
+    host: String,
+    port: u16,
+}
+
+/// The addresses of a host that were found last: at least one.
+#[derive(Drop)]
+pub struct Addresses {
+    // None where the host is an address.
+    name: Option<Name>,
+    found: Mutex<Vec<SocketAddr>>,
+}
+
+impl Name {
+    // Its addresses now, at least one.
+    fn look_up<H: Net<Listener = TcpListener, Stream = TcpStream>>(
+        &self,
+        rt: &H,
+        alloc: Global,
+    ) -> Result<Vec<SocketAddr>, PlaceFault> {
+        let mut addresses = Vec::new(alloc);
+        let found = (self.host.as_str(), self.port)
+            .to_socket_addrs(rt)
+            .map_err(|_| PlaceFault::Host)?;
+        for address in found {
+            addresses.push(address).map_err(|_| PlaceFault::Memory)?;
+        }
+        if addresses.is_empty() {
+            return Err(PlaceFault::Host);
+        }
+        Ok(addresses)
+    }
+}
+
+impl Addresses {
+    // One address, which no name stands for.
+    fn of_address(alloc: Global, ip: IpAddr, port: u16) -> Result<Addresses, PlaceFault> {
+        let mut addresses = Vec::new(alloc);
+        addresses
+            .push(SocketAddr::new(ip, port))
+            .map_err(|_| PlaceFault::Memory)?;
+        Ok(Addresses {
+            name: None,
+            found: Mutex::new(addresses),
+        })
+    }
+
+    // The addresses of a name, which is looked up.
+    fn of_name<H: Net<Listener = TcpListener, Stream = TcpStream>>(
+        rt: &H,
+        alloc: Global,
+        host: &str,
+        port: u16,
+    ) -> Result<Addresses, PlaceFault> {
+        let host = host.to_string(alloc).map_err(|_| PlaceFault::Memory)?;
+        let name = Name { host, port };
+        let found = name.look_up(rt, alloc)?;
+        Ok(Addresses {
+            name: Some(name),
+            found: Mutex::new(found),
+        })
+    }
+
+    /// The addresses of a host. A name is looked up.
+    pub(crate) fn of<H: Net<Listener = TcpListener, Stream = TcpStream>>(
+        rt: &H,
+        alloc: Global,
+        host: Host<&str>,
+        port: u16,
+    ) -> Result<Addresses, PlaceFault> {
+        match host {
+            Host::Ipv4(ip) => Addresses::of_address(alloc, IpAddr::V4(ip), port),
+            Host::Ipv6(ip) => Addresses::of_address(alloc, IpAddr::V6(ip), port),
+            Host::Domain(name) => Addresses::of_name(rt, alloc, name, port),
+        }
+    }
+
+    /// Whether they are those of a name, which may get others.
+    pub fn has_name(&self) -> bool {
+        self.name.is_some()
+    }
+
+    /// How many there are.
+    pub fn len<H: Wait>(&self, rt: &H) -> usize {
+        lock(rt, &self.found).len()
+    }
+
+    /// The address with this number, from 0, in the order in which they are tried.
+    pub fn get<H: Wait>(&self, rt: &H, number: usize) -> Option<SocketAddr> {
+        lock(rt, &self.found).get(number).copied()
+    }
+
+    /// Looks the name up again. Where nothing is found, or memory is refused, the addresses stay.
+    pub fn look_up_again<H: Net<Listener = TcpListener, Stream = TcpStream> + Wait>(
+        &self,
+        rt: &H,
+        alloc: Global,
+    ) {
+        let Some(name) = &self.name else {
+            return;
+        };
+        if let Ok(found) = name.look_up(rt, alloc) {
+            *lock(rt, &self.found) = found;
+        }
+    }
+}
