@@ -1,16 +1,17 @@
 #!/usr/bin/env python3
-"""Instructions a request of the built peer_serve, counted by callgrind: they do not change with what else the machine does.
+"""Instructions a request of the built programs, counted by callgrind: they do not change with what else the machine does.
 
     (cd crates/peer_serve && rt run < stdin > /dev/null)    # builds it
     (cd crates/exchange_rate && rt run < stdin)             # builds the program of one exchange
+    (cd crates/peer_front && rt run -- --version)           # builds the server on event loops
     apt-get install valgrind
     python3 bench/instructions.py [--parts] [--only ROWS] [crates/peer_serve/out/peer_serve]
 
 Serial: so many requests on standard input, one thread, no cache. Over a connection: the server with one worker, a client that
-has 16 requests in flight. An exchange: a connection as a state over memory, as the loops of peer_front have one for each client,
+has 16 requests in flight. A loop: peer_front with one loop and the same client; its counters are published in each turn. An exchange: a connection as a state over memory, as the loops of peer_front have one for each client,
 in one thread that fills the jobs too; a thousand bytes come in each turn. Each row runs 1,000 requests and 9,000; what the 9,000
 took more, over 8,000, is the number for one. Over a connection the threads wait for one another, so the median of three runs is
-given with the least and the largest. --only serial, connection or exchange prints those rows alone. With --parts it prints in
+given with the least and the largest. --only serial, connection, loop or exchange prints those rows alone. With --parts it prints in
 place of that what share of a run's instructions which part of the program takes, by the names of functions; what a compiler wrote
 into another function counts as that one's.
 """
@@ -100,9 +101,23 @@ def replies(client, number):
             sys.exit("instructions.py: the connection ended early")
 
 
+def looped(made, number):
+    port = free_port()
+    words = ["--listen", f"127.0.0.1:{port}", "--demo", "--loops", "1", "--until-eof"]
+    server = counted(words, options.front, stdin=subprocess.PIPE, stdout=subprocess.PIPE)
+    ask_all(server, port, made, number)
+    return total(server)
+
+
 def connected(made, number):
     port = free_port()
     server = counted([f"127.0.0.1:{port}", "1", "1", "1"], stdout=subprocess.PIPE)
+    ask_all(server, port, made, number)
+    return total(server)
+
+
+def ask_all(server, port, made, number):
+    """Asks a server that says that it listens, 16 requests at a time."""
     server.stdout.readline()
     with socket.create_connection(("127.0.0.1", port)) as client, client.makefile("rb") as text:
         client.setsockopt(socket.IPPROTO_TCP, socket.TCP_NODELAY, 1)
@@ -110,7 +125,6 @@ def connected(made, number):
             batch = range(i, min(i + 16, number))
             client.sendall(b"".join(made(j) for j in batch))
             replies(text, len(batch))
-    return total(server)
 
 
 def each(run, made):
@@ -148,6 +162,9 @@ def print_counts():
     for name, made in CONNECTED if options.only in (None, "connection") else []:
         counts = [each(connected, made) for _ in range(3)]
         print(f"| over a connection, {name} | {statistics.median(counts):,.0f} ({min(counts):,.0f} to {max(counts):,.0f}) |")
+    for name, made in CONNECTED if options.only in (None, "loop") else []:
+        counts = [each(looped, made) for _ in range(3)]
+        print(f"| a loop, {name} | {statistics.median(counts):,.0f} ({min(counts):,.0f} to {max(counts):,.0f}) |")
     for name, made in EXCHANGE if options.only in (None, "exchange") else []:
         print(f"| an exchange, {name} | {each(exchange, made):,.0f} |")
 
@@ -155,13 +172,13 @@ def print_counts():
 parser = argparse.ArgumentParser()
 parser.add_argument("program", nargs="?", default="crates/peer_serve/out/peer_serve")
 parser.add_argument("--exchange", default="crates/exchange_rate/out/exchange_rate")
-parser.add_argument("--only", choices=["serial", "connection", "exchange"])
+parser.add_argument("--front", default="crates/peer_front/out/peer_front")
+parser.add_argument("--only", choices=["serial", "connection", "loop", "exchange"])
 parser.add_argument("--parts", action="store_true")
 options = parser.parse_args()
 options.out = "/dev/null"
-needed = [options.exchange] if options.only == "exchange" else [options.program]
-if not options.only and not options.parts:
-    needed.append(options.exchange)
+programs = {"serial": options.program, "connection": options.program, "loop": options.front, "exchange": options.exchange}
+needed = [programs[options.only]] if options.only else [options.program] if options.parts else list(programs.values())
 for program in needed:
     if not os.path.exists(program):
         sys.exit(f"instructions.py: no program {program}: run `rt run < stdin` in its crate first")

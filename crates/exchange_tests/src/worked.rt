@@ -9,12 +9,8 @@ use std::marker::Brand;
 use std::sync::Wait;
 use std::sync::ledger::{Blank, Ledger};
 use std::test::Fail;
-use stream_model::{ASK_K, FOUND_K, FOUND_K_LAST, joined, repeated};
+use stream_model::{ASK_K, ASK_K_LAST, FOUND_K, FOUND_K_LAST, joined, repeated};
 use test_support::open_pool;
-
-// The last request of a connection.
-const ASK_K_LAST: &[u8] =
-    b"GET /_groupcache/echo/k HTTP/1.1\r\nHost: h\r\nConnection: close\r\n\r\n";
 
 // A request for a value of 500 bytes, one for a value of 1,000,000, and one for a value of 10,000 with what stands before
 // that in the reply.

@@ -9,12 +9,12 @@ use Rattle.peer_conn.specs.Tickets.{asks_in_body, asks_in, wish_by, wishes_by}
 use Rattle.peer_conn.specs.Answering.{IsMadeGood}
 use Rattle.peer_conn.specs.AnsweringReady.{MadeGood, AnswersTicket, AnswersReady}
 use Rattle.peer_conn.specs.Asking.{CountsAsks, AddsTicket, AddsTickets, IsJudgedThrough}
-use Rattle.peer_conn.specs.Replies.{join}
-use Rattle.peer_conn.specs.Windows.{window_after, window_behind}
+use Rattle.peer_outbox.specs.Joins.{join}
+use Rattle.peer_outbox.specs.Windows.{window_after, window_behind}
 use Rattle.peer_conn.specs.ExchangeStates.{unsent}
 use Rattle.peer_conn.specs.declared.exchange_state.ExchangeState.{ExchangeState}
 use Rattle.peer_conn.proofs.ExchangeLemmas.{went_well}
-use Rattle.peer_conn.proofs.SendLemmas.{join-append}
+use Rattle.peer_outbox.proofs.JoinLemmas.{join-append}
 use Rattle.peer_conn.proofs.WriterSideLemmas.{wishes-append}
 
 asks_in-append : (ws vs : List Wish) → asks_in (ws ++ vs) ≡ asks_in ws + asks_in vs

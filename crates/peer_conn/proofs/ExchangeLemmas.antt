@@ -1,22 +1,23 @@
 -- Laws of what holds of a connection at every moment.
-use Rattle.std.proofs.Common.{◌≡◌, ◌∙◌, ℕ, ◌+◌, ◌<◌, ◌≤◌, true, false, Bool, List, [], ◌∷◌, ◌++◌, length, drop, get_or, refl, sym, ap, subst, arith, append_assoc, append-nil, length-append, Option, Result, Ok, ◌&&◌, not, ◌==◌, deque_len}
+use Rattle.std.proofs.Common.{◌≡◌, ◌∙◌, inl, inr, ℕ, ◌+◌, ◌<◌, ◌≤◌, true, false, Bool, List, [], ◌∷◌, ◌++◌, length, drop, get_or, refl, sym, ap, subst, arith, append_assoc, append-nil, length-append, Option, Result, Ok, ◌&&◌, not, ◌==◌, deque_len}
 use borrow.Author.Tests.{eqb-true}
 use Rattle.peer_source.specs.Answers.{Answer}
 use Rattle.peer_reply.specs.declared.wish.Wish.{Wish}
 use Rattle.peer_lane.specs.declared.ticket.Ticket.{Ticket}
-use Rattle.peer_conn.specs.Replies.{IsReply, Replies, join}
+use Rattle.peer_conn.specs.Replies.{IsReply, Replies}
+use Rattle.peer_outbox.specs.Joins.{join}
 use Rattle.peer_conn.specs.Tickets.{wish_by, wishes_by}
 use Rattle.peer_conn.specs.Answering.{IsReplyPut}
 use Rattle.peer_conn.specs.Intakes.{is_judging, Judged, JudgesOne, KeepsJudged}
-use Rattle.peer_conn.specs.ExchangeStates.{is_over, unsent, AreFew, Upholds, Keeps, AreSent}
+use Rattle.peer_conn.specs.ExchangeStates.{is_over, unsent, AreFew, Upholds, Keeps, AreSent, HoldsLittle}
 use Rattle.peer_conn.specs.declared.exchange_state.ExchangeState.{ExchangeState}
-use Rattle.peer_conn.specs.declared.window.TheConstants.{MAX_WAITING, MAX_UNSENT}
-use Rattle.peer_conn.proofs.AnswerLemmas.{IsReplyOf, replies_to, replies}
+use Rattle.peer_conn.proofs.AnswerLemmas.{IsReplyOf, replies}
 use Rattle.peer_conn.proofs.WishLemmas.{first_of}
 use Rattle.peer_conn.proofs.WholeLemmas.{begins_with_first_law}
 use Rattle.peer_conn.proofs.HeadlineLemmas.{whole, replies_of}
 use Rattle.peer_conn.proofs.IntakeLemmas.{judged_first}
-use Rattle.peer_conn.proofs.SendLemmas.{join-append, Replies-append}
+use Rattle.peer_conn.proofs.SendLemmas.{Replies-append}
+use Rattle.peer_outbox.proofs.JoinLemmas.{join-append}
 use Rattle.peer_conn.proofs.WriterSideLemmas.{wishes-append}
 
 -- one wish more behind those that wait
@@ -83,6 +84,27 @@ module _ {S : Type 0} (numbers : List ℕ → Option ℕ) (answers : ℕ → Lis
         front = sym (append_assoc sent (unsent e) (join behind.0)) ∙ ap (λ v. v ++ join behind.0) h.put ∙ join-append h.replies behind.0;
       }
 
+module _ {S : Type 0} (numbers : List ℕ → Option ℕ) (answers : ℕ → List ℕ → Answer → Type 0) (e : ExchangeState S) (came sent : List ℕ) where
+  -- what holds at every moment says that it holds little
+  pub holds_little : length e.intake.held ≤ 16384 → Upholds numbers answers came sent [] e → HoldsLittle numbers answers came sent e
+  holds_little held h = record {
+    held = held;
+    waiting = h.waiting;
+    wishes = h.answered;
+    are =
+        let waits = wishes_by e.waiting.items ++ [] in
+        first_of numbers h.answered waits 0 came (judged_first numbers e.intake.stage came (h.answered ++ waits) e.intake.count e.intake.held h.judged.judged);
+    replies = h.replies;
+    each = h.each;
+    put = h.put;
+    unsent = h.unsent;
+  }
+
+-- fewer bytes of the same replies
+pub still_few : (replies : List (List ℕ)) (bytes less : List ℕ) → length less ≤ length bytes → AreFew replies bytes → AreFew replies less
+still_few replies bytes less le (inl few) = inl (omega (arith, le, few))
+still_few replies bytes less le (inr (first, last, is, few)) = inr (first, last, is, omega (arith, le, few))
+
 module _ {S : Type 0} {numbers : List ℕ → Option ℕ} {answers : ℕ → List ℕ → Answer → Type 0} where
   pub keeps_none : (e : ExchangeState S) → Keeps numbers answers e e
   keeps_none e = record { keeps = λ came sent h. h }
@@ -100,7 +122,7 @@ first_item [] x lt e = absurd (omega (arith, lt))
 first_item (y ∷ ys) x lt e = ap (λ v. v ∷ ys) (sym e)
 
 -- as many tickets wait
-same_few : {S : Type 0} (a b : ExchangeState S) → b.waiting.items ≡ a.waiting.items → deque_len a.waiting ≤ MAX_WAITING → deque_len b.waiting ≤ MAX_WAITING
+same_few : {S : Type 0} (a b : ExchangeState S) → b.waiting.items ≡ a.waiting.items → deque_len a.waiting ≤ 64 → deque_len b.waiting ≤ 64
 same_few a b same few = omega (arith, a.waiting.ok.0, b.waiting.ok.0, ap length same, few)
 
 module _ {S : Type 0} {numbers : List ℕ → Option ℕ} {answers : ℕ → List ℕ → Answer → Type 0} {a b : ExchangeState S} {came sent : List ℕ} where
@@ -115,7 +137,7 @@ module _ {S : Type 0} {numbers : List ℕ → Option ℕ} {answers : ℕ → Lis
     each = h.each;
     put = ap (λ v. sent ++ v) out ∙ h.put;
     waiting = same_few a b waiting h.waiting;
-    unsent = subst (AreFew answers MAX_UNSENT) (sym out) h.unsent;
+    unsent = subst (AreFew h.replies) (sym out) h.unsent;
   }
 
   -- one wish more was judged ..
@@ -130,7 +152,7 @@ module _ {S : Type 0} {numbers : List ℕ → Option ℕ} {answers : ℕ → Lis
         each = h.each;
         put = ap (λ v. sent ++ v) out ∙ h.put;
         waiting = same_few a b waiting h.waiting;
-        unsent = subst (AreFew answers MAX_UNSENT) (sym out) h.unsent;
+        unsent = subst (AreFew h.replies) (sym out) h.unsent;
       }
 
   -- .. or none
@@ -144,11 +166,11 @@ module _ {S : Type 0} {numbers : List ℕ → Option ℕ} {answers : ℕ → Lis
         each = h.each;
         put = ap (λ v. sent ++ v) out ∙ h.put;
         waiting = same_few a b waiting h.waiting;
-        unsent = subst (AreFew answers MAX_UNSENT) (sym out) h.unsent;
+        unsent = subst (AreFew h.replies) (sym out) h.unsent;
       }
 
   -- the ticket of the last wish waits
-  pub wait_one : (t : Ticket S) (w : Wish) → b.intake ≡ a.intake → b.waiting.items ≡ a.waiting.items ++ t ∷ [] → deque_len b.waiting ≡ deque_len a.waiting + 1 → deque_len a.waiting < MAX_WAITING → wish_by t ≡ w → unsent b ≡ unsent a → Upholds numbers answers came sent (w ∷ []) a → Upholds numbers answers came sent [] b
+  pub wait_one : (t : Ticket S) (w : Wish) → b.intake ≡ a.intake → b.waiting.items ≡ a.waiting.items ++ t ∷ [] → deque_len b.waiting ≡ deque_len a.waiting + 1 → deque_len a.waiting < 64 → wish_by t ≡ w → unsent b ≡ unsent a → Upholds numbers answers came sent (w ∷ []) a → Upholds numbers answers came sent [] b
   wait_one t w intake put len few is out h =
       let P : List Wish → Type 0 = λ ws. Judged numbers came ws b.intake in
       record {
@@ -158,11 +180,11 @@ module _ {S : Type 0} {numbers : List ℕ → Option ℕ} {answers : ℕ → Lis
         each = h.each;
         put = ap (λ v. sent ++ v) out ∙ h.put;
         waiting = omega (arith, len, few);
-        unsent = subst (AreFew answers MAX_UNSENT) (sym out) h.unsent;
+        unsent = subst (AreFew h.replies) (sym out) h.unsent;
       }
 
   -- the first ticket was answered
-  pub answer_one : (t : Ticket S) → b.intake ≡ a.intake → a.waiting.items ≡ t ∷ b.waiting.items → deque_len a.waiting ≡ deque_len b.waiting + 1 → length (unsent a) < MAX_UNSENT → IsReplyPut answers (wish_by t) (unsent a) (unsent b) → Upholds numbers answers came sent [] a → Upholds numbers answers came sent [] b
+  pub answer_one : (t : Ticket S) → b.intake ≡ a.intake → a.waiting.items ≡ t ∷ b.waiting.items → deque_len a.waiting ≡ deque_len b.waiting + 1 → length (unsent a) < 65536 → IsReplyPut answers (wish_by t) (unsent a) (unsent b) → Upholds numbers answers came sent [] a → Upholds numbers answers came sent [] b
   answer_one t intake first len small put h =
       let P : List Wish → Type 0 = λ ws. Judged numbers came ws b.intake in
       record {
@@ -172,14 +194,13 @@ module _ {S : Type 0} {numbers : List ℕ → Option ℕ} {answers : ℕ → Lis
         each = one_reply answers h.answered h.replies (wish_by t) put.reply put.replies h.each;
         put = one_put sent (unsent a) (unsent b) put.reply h.replies put.put h.put;
         waiting = omega (arith, len, h.waiting);
-        unsent = record { wish = wish_by t; reply = put.reply; replies = put.replies; few = omega (arith, ap length put.put, length-append (unsent a) put.reply, small) };
+        unsent = inr (h.replies, put.reply, refl, omega (arith, ap length put.put, length-append (unsent a) put.reply, small));
       }
 
 -- it holds under each relation of answers that has the same replies
 pub upholds_under : {S : Type 0} {e : ExchangeState S} {numbers : List ℕ → Option ℕ} {came sent : List ℕ} {more : List Wish} (A B : ℕ → List ℕ → Answer → Type 0)
     → ((closing bare : Bool) (g : ℕ) (k r : List ℕ) → IsReplyOf A closing bare g k r → IsReplyOf B closing bare g k r) → Upholds numbers A came sent more e → Upholds numbers B came sent more e
 upholds_under A B carries h =
-    let few = h.unsent in
     record {
       answered = h.answered;
       judged = h.judged;
@@ -187,5 +208,5 @@ upholds_under A B carries h =
       each = replies A B carries h.answered h.replies h.each;
       put = h.put;
       waiting = h.waiting;
-      unsent = record { wish = few.wish; reply = few.reply; replies = replies_to A B carries few.wish.closing few.wish.bare few.wish.body few.reply few.replies; few = few.few };
+      unsent = h.unsent;
     }

@@ -14,7 +14,8 @@ use Rattle.peer_reply.specs.declared.wish.WishBody.{WishBody}
 use Rattle.peer_reply.specs.declared.wish.WishBody.TheVariants as body
 use Rattle.peer_flight.specs.Events.{REPLIES}
 use Rattle.peer_conn.specs.Wishes.{fault_wish, head_wish, closes_after, AreFirst}
-use Rattle.peer_conn.specs.Replies.{IsReply, RepliesTo, Replies, AreReplies, AreFrontOfReplies, join}
+use Rattle.peer_conn.specs.Replies.{IsReply, RepliesTo, Replies, AreReplies, AreFrontOfReplies}
+use Rattle.peer_outbox.specs.Joins.{join}
 use Rattle.peer_conn.specs.Laws.{IsWhole}
 use Rattle.peer_conn.specs.Nexts.{IsNextWish, AsksOpen}
 use Rattle.std.specs.Io.KnownBytes.{Appends}
@@ -24,7 +25,8 @@ use Rattle.peer_conn.specs.Ends.{Reading, Writing, EndsAs, Serves}
 use Rattle.peer_conn.specs.declared.end.End.{End}
 use Rattle.peer_conn.specs.declared.end.End.TheVariants as end
 use Rattle.peer_conn.proofs.WishLemmas.{fault_next, head_next, next_closes, next_stays, next_block, Open-none, Open-one, Open-append, Closed-one, Closed-append}
-use Rattle.peer_conn.proofs.SendLemmas.{join-append, Replies-append}
+use Rattle.peer_conn.proofs.SendLemmas.{Replies-append}
+use Rattle.peer_outbox.proofs.JoinLemmas.{join-append}
 use Rattle.peer_conn.proofs.WholeLemmas.{begins_with_first_law}
 
 module _ (numbers : List ℕ → Option ℕ) where

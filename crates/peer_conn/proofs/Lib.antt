@@ -7,7 +7,6 @@ pub mod HeadlineLemmas
 pub mod HoldingLemmas
 pub mod IntakeLemmas
 pub mod KnownLemmas
-pub mod OutboxLemmas
 pub mod ReaderSideLemmas
 pub mod RequestLemmas
 pub mod ResponseLemmas

@@ -4,7 +4,9 @@ use Rattle.peer_source.specs.Answers.{Answer}
 use Rattle.peer_view.specs.Moves.{Moves}
 use Rattle.peer_view.proofs.MovingLemmas.{Moves-along, Moves-more, Moves-none, Moves-trans}
 use Rattle.peer_reply.specs.declared.wish.Wish.{Wish}
-use Rattle.peer_conn.specs.Replies.{Replies, IsReply, join}
+use Rattle.peer_conn.specs.Replies.{Replies, IsReply}
+use Rattle.peer_outbox.specs.Joins.{join}
+use Rattle.peer_outbox.proofs.JoinLemmas.{join-append}
 use Rattle.peer_conn.specs.Sending.{Sending, Sent, Broke, Answered}
 use Rattle.peer_conn.specs.WriterStates.{Still, IsOfFirst, RepliesFrom, FlushesFrom}
 use Rattle.peer_conn.specs.declared.end.WriterState.{WriterState}
@@ -13,10 +15,6 @@ use Rattle.peer_conn.specs.declared.end.WriterState.TheVariants.{Active, Memory,
 -- a writer and what is buffered for it, before and after
 abbrev pub sending_by : ℕ → ℕ → Option (List ℕ) → Option (List ℕ) → List ℕ → List ℕ → Sending
 sending_by f f' a a' x x' = record { failures = f; failures' = f'; taken = a; taken' = a'; buffered = x; buffered' = x' }
-
-pub join-append : (rs ss : List (List ℕ)) → join rs ++ join ss ≡ join (rs ++ ss)
-join-append [] ss = refl
-join-append (r ∷ rs) ss = append_assoc r (join rs) (join ss) ∙ ap (λ v. r ++ v) (join-append rs ss)
 
 -- bytes behind buffered ones, and then more
 pub Moves-then : (a b c : Option (List ℕ)) {w : List ℕ} (x p q y z : List ℕ) → p ++ q ≡ w → Moves a b (x ++ p) y → Moves b c (y ++ q) z → Moves a c (x ++ w) z

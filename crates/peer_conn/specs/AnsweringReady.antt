@@ -5,8 +5,8 @@ use Rattle.peer_fill.specs.declared.counts.AskCounts.{AskCounts}
 use Rattle.peer_lane.specs.declared.ticket.Ticket.{Ticket}
 use Rattle.peer_conn.specs.Answering.{IsMadeGood, waits_on_flight}
 use Rattle.peer_conn.specs.Intakes.{IsGivenUpFor}
-use Rattle.peer_conn.specs.Replies.{join}
-use Rattle.peer_conn.specs.Windows.{window_after, window_behind}
+use Rattle.peer_outbox.specs.Joins.{join}
+use Rattle.peer_outbox.specs.Windows.{window_after, window_behind}
 use Rattle.peer_conn.specs.ExchangeStates.{has_much_output, unsent}
 use Rattle.peer_conn.specs.declared.exchange_state.ExchangeState.{ExchangeState}
 use Rattle.peer_conn.specs.declared.intake.GivenUp.{GivenUp}

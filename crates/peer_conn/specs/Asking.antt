@@ -1,7 +1,7 @@
 -- What an exchange asked: the tickets that came to wait, and what the seat counted.
 use Rattle.std.specs.Prelude.{◌≡◌, ℕ, ◌+◌, Bool, true, false, List, [], ◌∷◌, ◌++◌, Option, Some, None, IsSome, ◌⊎◌, Result, Ok, Err, OnOk}
 use Rattle.std.specs.VecDeque.{deque_len}
-use Rattle.peer_head.specs.Blocks.{IsUnfinished}
+use Rattle.peer_head.specs.Blocks.{IsFrontLength, IsUnfinished}
 use Rattle.peer_flight.specs.declared.table.AskFault.{AskFault}
 use Rattle.peer_flight.specs.declared.table.AskFault.TheVariants as ask
 use Rattle.peer_fill.specs.declared.counts.AskCounts.{AskCounts}
@@ -12,6 +12,9 @@ use Rattle.peer_conn.specs.Intakes.{IsGivenUpFor, is_open, is_judging, is_given_
 use Rattle.peer_source.specs.Answers.{Answer}
 use Rattle.peer_reply.specs.declared.wish.Wish.{Wish}
 use Rattle.peer_conn.specs.Nexts.{IsNextWish}
+use Rattle.peer_conn.specs.Wishes.{closes_after}
+use Rattle.peer_conn.specs.declared.asking.Asked.{Asked}
+use Rattle.peer_conn.specs.declared.asking.Asked.TheVariants as asked
 use Rattle.peer_conn.specs.ExchangeStates.{is_full, Keeps}
 use Rattle.peer_conn.specs.declared.exchange_state.ExchangeState.{ExchangeState}
 use Rattle.peer_conn.specs.declared.intake.GivenUp.{GivenUp}
@@ -34,6 +37,26 @@ CountsWish body old new (Ok None) = CountsAsks 0 old new
 CountsWish body old new (Err fault) = CountsAsks 0 old new
 
 module _ {S : Type 0} where
+  -- the ticket of the next wish of the bytes held, which is counted, and the length of its block; or why there is none
+  abbrev pub AsksHeld : {J : Type 0} → (List ℕ → Option ℕ) → List ℕ → AskCounts → AskCounts → Option J → Asked S → Type 0
+  AsksHeld numbers held asks asks' left (asked.Ticket t len) = IsNextWish numbers held (wish_by t) × IsFrontLength held len
+      × CountsAsks (asks_in_body (wish_by t).body) asks asks'
+  AsksHeld numbers held asks asks' left asked.Need = IsUnfinished held × CountsAsks 0 asks asks'
+  AsksHeld numbers held asks asks' left asked.NotNow = IsSome left × CountsAsks 0 asks asks'
+  AsksHeld numbers held asks asks' left (asked.Refused why) = CountsAsks 0 asks asks'
+
+  -- the ticket whose reply closes also where it is the last that a connection gets
+  abbrev pub closed_by : ℕ → Ticket S → Ticket S
+  closed_by count t = record t { closing = closes_after count t.closing }
+
+  -- this ticket waits behind the others
+  pub record Enqueues (ticket : Ticket S) (old new : ExchangeState S) : Type 0 where
+    pub put : new.waiting.items ≡ old.waiting.items ++ closed_by old.intake.count ticket ∷ []
+    pub len : deque_len new.waiting ≡ deque_len old.waiting + 1
+    pub goes_on : is_given_up new.intake.stage ≡ is_given_up old.intake.stage
+    pub waits_for_job : new.waits_for_job ≡ old.waits_for_job
+    pub window : new.window.tickets ≡ old.window.tickets
+
   -- where what is held is judged yet, and it may ask, the next request waits since a job is left with the seat, or the
   -- client's end did not come and what is held is unfinished
   abbrev pub IsJudgedThrough : {J : Type 0} → ExchangeState S → Option J → Type 0

@@ -1,22 +1,21 @@
 -- What holds of a connection at every moment, of the bytes that came and those that were sent.
-use Rattle.std.specs.Prelude.{◌≡◌, ℕ, ◌+◌, ◌-◌, ◌≤◌, Bool, ◌&&◌, ◌||◌, not, ◌==◌, leb, List, [], ◌++◌, length, Option}
+use Rattle.std.specs.Prelude.{◌≡◌, ◌⊎◌, ℕ, ◌+◌, ◌-◌, ◌<◌, ◌≤◌, Bool, ◌&&◌, ◌||◌, not, ◌==◌, leb, List, [], ◌∷◌, ◌++◌, length, Option}
 use Rattle.std.specs.VecDeque.{deque_len}
 use Rattle.peer_source.specs.Answers.{Answer}
 use Rattle.peer_head.specs.Blocks.{LIMIT}
 use Rattle.peer_reply.specs.declared.wish.Wish.{Wish}
-use Rattle.peer_conn.specs.Replies.{IsReply, Replies, join}
+use Rattle.peer_conn.specs.Wishes.{AreFirst}
+use Rattle.peer_conn.specs.Replies.{Replies}
+use Rattle.peer_outbox.specs.Joins.{join}
 use Rattle.peer_conn.specs.Headline.{AreAllReplies}
 use Rattle.peer_conn.specs.Tickets.{wishes_by}
 use Rattle.peer_conn.specs.Intakes.{Judged, is_open, is_judging}
 use Rattle.peer_conn.specs.declared.exchange_state.ExchangeState.{ExchangeState}
-use Rattle.peer_conn.specs.declared.window.TheConstants.{MAX_WAITING, MAX_UNSENT}
 
--- these bytes are few: so many and one reply at most
-pub record AreFew (answers : ℕ → List ℕ → Answer → Type 0) (most : ℕ) (bytes : List ℕ) : Type 0 where
-  pub wish : Wish
-  pub reply : List ℕ
-  pub replies : IsReply answers wish reply
-  pub few : length bytes ≤ most + length reply
+-- of these replies the last bytes are few: fewer than 65,536, or so without the last reply
+abbrev pub AreFew : List (List ℕ) → List ℕ → Type 0
+AreFew replies bytes = (length bytes < 65536)
+    ⊎ ((first : List (List ℕ)) × (last : List ℕ) × (replies ≡ first ++ last ∷ []) × (length bytes < 65536 + length last))
 
 module _ {S : Type 0} where
   -- more bytes may come
@@ -37,7 +36,7 @@ module _ {S : Type 0} where
 
   -- nothing is put until output was sent
   abbrev pub has_much_output : ExchangeState S → Bool
-  has_much_output e = leb MAX_UNSENT (length (unsent e))
+  has_much_output e = leb 65536 (length (unsent e))
 
   -- nothing is asked: as many tickets wait as may, or much output
   abbrev pub is_full : ExchangeState S → Bool
@@ -56,8 +55,8 @@ module _ {S : Type 0} where
     pub replies : List (List ℕ)
     pub each : Replies answers answered replies
     pub put : sent ++ unsent e ≡ join replies
-    pub waiting : deque_len e.waiting ≤ MAX_WAITING
-    pub unsent : AreFew answers MAX_UNSENT (unsent e)
+    pub waiting : deque_len e.waiting ≤ 64
+    pub unsent : AreFew replies (unsent e)
 
   -- whatever came and was sent, it still is what came and was sent
   pub record Keeps (numbers : List ℕ → Option ℕ) (answers : ℕ → List ℕ → Answer → Type 0) (old new : ExchangeState S) : Type 0 where
@@ -78,11 +77,18 @@ module _ {S : Type 0} where
   GivesUp answers old new =
       (numbers : List ℕ → Option ℕ) (came sent : List ℕ) (more : List Wish) → Upholds numbers answers came sent more old → Upholds numbers answers came sent [] new
 
-  -- at most 16,384 bytes of a head are held, 64 tickets wait, and 65,536 bytes and one reply are unsent
-  pub record HoldsLittle (answers : ℕ → List ℕ → Answer → Type 0) (e : ExchangeState S) : Type 0 where
+  -- at most 16,384 bytes of a head are held and 64 tickets wait; and what was sent and what is unsent are the replies to the
+  -- first wishes of what came, of which fewer than 65,536 bytes are unsent, or so without the last reply
+  pub record HoldsLittle (numbers : List ℕ → Option ℕ) (answers : ℕ → List ℕ → Answer → Type 0) (came sent : List ℕ)
+      (e : ExchangeState S) : Type 0 where
     pub held : length e.intake.held ≤ 16384
     pub waiting : deque_len e.waiting ≤ 64
-    pub unsent : AreFew answers 65536 (unsent e)
+    pub wishes : List Wish
+    pub are : AreFirst numbers 0 came wishes
+    pub replies : List (List ℕ)
+    pub each : Replies answers wishes replies
+    pub put : sent ++ unsent e ≡ join replies
+    pub unsent : AreFew replies (unsent e)
 
 -- what was sent is a front of all replies to what came
 pub record AreSent (numbers : List ℕ → Option ℕ) (answers : ℕ → List ℕ → Answer → Type 0) (came sent : List ℕ) : Type 0 where
@@ -98,4 +104,4 @@ module _ {S : Type 0} where
 
   -- .. and it holds little
   abbrev pub SaysLittle : (List ℕ → Option ℕ) → (ℕ → List ℕ → Answer → Type 0) → ExchangeState S → Type 0
-  SaysLittle numbers answers e = (came sent : List ℕ) → Upholds numbers answers came sent [] e → HoldsLittle answers e
+  SaysLittle numbers answers e = (came sent : List ℕ) → Upholds numbers answers came sent [] e → HoldsLittle numbers answers came sent e

@@ -1,16 +1,13 @@
 -- What was judged of the bytes that came to a connection.
 use Rattle.std.specs.Prelude.{◌≡◌, ℕ, Bool, true, false, List, [], ◌∷◌, ◌++◌, length, Option}
-use Rattle.peer_head.specs.Blocks.{IsFrontLength, IsUnfinished}
+use Rattle.peer_head.specs.Blocks.{IsFrontLength}
 use Rattle.peer_reply.specs.declared.wish.Wish.{Wish}
 use Rattle.peer_conn.specs.Wishes.{OpenWishes, ClosedWishes, AreFirst, AreAll, closes_after}
 use Rattle.peer_conn.specs.declared.intake.GivenUp.{GivenUp}
 use Rattle.peer_conn.specs.declared.intake.Intake.{Intake}
 use Rattle.peer_conn.specs.declared.intake.Stage.{Stage}
 use Rattle.peer_conn.specs.declared.intake.Stage.TheVariants as stage
-use Rattle.peer_conn.specs.Known.{IsKnown}
 use Rattle.peer_conn.specs.Nexts.{IsNextWish}
-use Rattle.peer_conn.specs.declared.intake.Found.{Found}
-use Rattle.peer_conn.specs.declared.intake.Found.TheVariants as found
 
 -- more bytes may come
 abbrev pub is_open : Stage → Bool
@@ -86,14 +83,3 @@ JudgesOne numbers old new w =
 abbrev pub JudgesNext : Intake → Intake → ℕ → Bool → Type 0
 JudgesNext old new len closing = (numbers : List ℕ → Option ℕ) (w : Wish) → IsNextWish numbers old.held w → IsFrontLength old.held len
     → closing ≡ closes_after old.count w.closing → JudgesOne numbers old new (record w { closing = closing })
-
--- what is held begins with this wish, or nothing more is found there: then it is judged on only where more bytes may come
-abbrev pub FindsNext : (List ℕ → Option ℕ) → Intake → Intake → Found → Type 0
-FindsNext numbers old new (found.Wish next) = (new ≡ old) × IsNextWish numbers new.held next.wish × IsFrontLength new.held next.len
-FindsNext numbers old new found.Need = KeepsJudged numbers old new × IsUnfinished new.held × (new.stage ≡ needing old.stage)
-FindsNext numbers old new found.NoMemory = new ≡ old
-
--- a wish that was found asks for a group of the source
-abbrev pub IsKnownIfFound : ℕ → Found → Type 0
-IsKnownIfFound count (found.Wish next) = IsKnown count next.wish.body
-IsKnownIfFound count _ = Unit {0}

@@ -13,8 +13,8 @@ pub mod Holdings
 pub mod Intakes
 pub mod Known
 pub mod Laws
+pub mod LentWishes
 pub mod Nexts
-pub mod Outboxes
 pub mod ReaderSides
 pub mod Replies
 pub mod Requests
@@ -25,7 +25,6 @@ pub mod Sides
 pub mod Stops
 pub mod Strangers
 pub mod Tickets
-pub mod Windows
 pub mod Wishes
 pub mod Writers
 pub mod WriterSides

@@ -37,7 +37,7 @@ impl<'p, S: Source> Exchange<'p, S> {
     ghost use Rattle.peer_conn.specs.Connects.{allows};
     ghost use Rattle.peer_conn.specs.ExchangeEnds.{IsEnd};
     ghost use Rattle.peer_conn.specs.ExchangeStates.{AreSent, HoldsLittle, is_over, lent, room_of, takes_bytes, unsent};
-    ghost use Rattle.peer_conn.specs.Outboxes.{IsFrontOf};
+    ghost use Rattle.peer_outbox.specs.Outboxes.{IsFrontOf};
     ghost use Rattle.peer_conn.specs.Histories.{KeepsHistories};
     ghost use Rattle.peer_conn.specs.Holdings.{Holds};
     ghost use Rattle.peer_conn.specs.Intakes.{IsGivenUpFor, is_given_up, told};
@@ -59,10 +59,11 @@ impl<'p, S: Source> Exchange<'p, S> {
     }
 
     /// The law: what was sent is a front of all replies to what came, each once, in request order, and nothing behind a
-    /// closing one. And the exchange holds little: one head, 64 tickets, and unsent bytes up to a bound and one reply.
+    /// closing one. And the exchange holds little: one head, 64 tickets, and less than 64 KiB of replies and one reply.
     pub fn law(&self)
         ensures sent { ∥ AreSent (S.number_of self.now.names) (allows S.allowed) self.now.came.bytes self.now.sent.bytes ∥₁ }
-        ensures little { ∥ HoldsLittle (allows S.allowed) self.now.state ∥₁ }
+        ensures little { ∥ HoldsLittle (S.number_of self.now.names) (allows S.allowed) self.now.came.bytes self.now.sent.bytes
+            self.now.state ∥₁ }
     {
         self.state.law(&self.names);
     }

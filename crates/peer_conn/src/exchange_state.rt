@@ -1,27 +1,22 @@
 //! The state of an exchange: what came and is not judged, the tickets that wait, and the replies that wait to be sent.
 //!
-//! It stands on the intake and the outgoing replies of a connection, and on the pool of `peer_fill`. It promises that
+//! It stands on the intake, the asks and the outgoing replies of a connection. It promises that
 //! whatever came and was sent before a call, what it upholds is upheld behind the call.
-ghost use Rattle.std.specs.Prelude.{◌≡◌, IfNone, IfOk, IfSome, IsSome, drop};
+ghost use Rattle.std.specs.Prelude.{◌≡◌, drop};
 ghost use Rattle.std.specs.VecDeque.{deque_len};
 ghost use Rattle.std.specs.Prelude.{◌-◌, ◌+◌, ◌^◌, ℕ, min};
 ghost use Rattle.peer_conn.specs.Holdings.{CameForAll};
-ghost use Rattle.peer_fill.specs.Asks.{CountsAsk};
 ghost use Rattle.peer_fill.specs.Pools.{source_of, IsConnSeatOf};
 ghost use Rattle.peer_fill.specs.Seats.{asks_of, conn_parts, left_of};
-ghost use Rattle.peer_conn.specs.Known.{IsKnown};
 ghost use Rattle.peer_conn.specs.Tickets.{wish_by};
-ghost use Rattle.peer_conn.specs.Asking.{CountsWish};
 
-use crate::intake::{Found, GivenUp, Intake};
+use crate::asking::{Asked, ask_first};
+use crate::intake::{GivenUp, Intake};
 use crate::outgoing::{Answered, Outgoing, len_of};
-use crate::window::{MAX_UNSENT, MAX_WAITING, Window};
-use crate::wish::Next;
 use peer_fill::{ConnSeat, Pool};
-use peer_flight::AskFault;
 use peer_head::FieldPlaces;
-use peer_lane::{Body, Ticket};
-use peer_reply::{Wish, WishBody};
+use peer_lane::Ticket;
+use peer_outbox::{MAX_UNSENT, MAX_WAITING, Window};
 use peer_source::{FunctionalSource, Names, Source};
 use std::alloc::{AllocError, Global};
 use std::collections::VecDeque;
@@ -33,63 +28,12 @@ const KEPT_TICKETS: usize = 4;
 
 #[derive(Drop)]
 pub(crate) struct ExchangeState<S: Source> {
-    alloc: Global,
     pub(crate) intake: Intake,
     pub(crate) waiting: VecDeque<Ticket<S>>,
     pub(crate) outgoing: Outgoing,
     /// The next request waits until the seat has put the job that is left with it.
     pub(crate) waits_for_job: bool,
     pub(crate) window: Window,
-}
-
-impl From<AskFault> for GivenUp {
-    ghost use Rattle.peer_conn.specs.Asking.{why_of};
-
-    ghost from_gives = { λ fault why. why ≡ why_of fault };
-
-    fn from(fault: AskFault) -> GivenUp {
-        match fault {
-            AskFault::Memory => GivenUp::Memory,
-            AskFault::Worn => GivenUp::Worn,
-        }
-    }
-}
-
-// The ticket of a wish. Where that has group and key, the pool is asked: none where it would have to wait.
-fn ticket_of<S: Source, L: Ledger, H: Wait>(
-    rt: &H,
-    alloc: Global,
-    pool: &Pool<S, L>,
-    seat: &mut ConnSeat<S, L>,
-    wish: Wish,
-) -> Result<Option<Ticket<S>>, AskFault>
-    requires seat { IsConnSeatOf pool.now seat.old }
-    requires known { IsKnown (S.count (source_of pool.now)) wish.body }
-    ensures seat { IsConnSeatOf pool.now seat.new }
-    ensures parts { conn_parts seat.new ≡ conn_parts seat.old }
-    ensures ticket { IfOk result (λ asked. IfSome asked (λ t. wish_by t ≡ wish)) }
-    ensures counted { CountsWish wish.body (asks_of seat.old) (asks_of seat.new) result }
-    ensures not_now { IfOk result (λ asked. IfNone asked (IsSome (left_of seat.new))) }
-{
-    let Wish {
-        body,
-        closing,
-        bare,
-    } = wish;
-    let body = match body {
-        WishBody::Fault(fault) => Body::Fault(fault),
-        WishBody::Get(group, key) => {
-            match pool.ask_now(rt, alloc, seat, group, key.as_slice())? {
-                Some(claim) => Body::Claim(claim),
-                None => return Ok(None),
-            }
-        }
-    };
-    Ok(Some(Ticket {
-        closing,
-        bare,
-        body,
-    }))
 }
 
 // So many bytes, and those of values and texts that came for the tickets.
@@ -119,8 +63,8 @@ fn drop_first<S: Source>(waiting: &mut VecDeque<Ticket<S>>)
 
 impl<S: Source> ExchangeState<S> {
     ghost use Rattle.std.specs.Prelude.{◌≡◌, ◌≤◌, ◌<◌, ◌+◌, ◌-◌, ◌∷◌, ◌++◌, ℕ, List, [], Option, true, false, length, min, take, OnErr};
-    ghost use Rattle.std.specs.Prelude.{OnOk, IfErr};
-    ghost use Rattle.std.specs.VecDeque.{deque_len};
+    ghost use Rattle.std.specs.Prelude.{OnOk, IfErr, IfOk};
+    ghost use Rattle.std.specs.VecDeque.{deque_len, deque_capacity};
     ghost use Rattle.peer_conn.specs.Connects.{allows};
     ghost use Rattle.peer_conn.specs.Holdings.{Holds};
     ghost use Rattle.peer_conn.specs.Intakes.{IsGivenUpFor, is_given_up, is_judging, told};
@@ -129,8 +73,8 @@ impl<S: Source> ExchangeState<S> {
     ghost use Rattle.peer_conn.specs.ExchangeStates.{Upholds, Keeps, AreSent, HoldsLittle, has_much_output, is_full};
     ghost use Rattle.peer_conn.specs.ExchangeStates.{is_over, lent, room_of};
     ghost use Rattle.peer_conn.specs.ExchangeStates.{takes_bytes, unsent, Receives, Sends, GivesUp, SaysSent, SaysLittle};
-    ghost use Rattle.peer_conn.specs.Outboxes.{IsFrontOf};
-    ghost use Rattle.peer_conn.specs.Asking.{AddsTickets, AsksOne, IsJudgedThrough, KeepsWhereNext};
+    ghost use Rattle.peer_outbox.specs.Outboxes.{IsFrontOf};
+    ghost use Rattle.peer_conn.specs.Asking.{AddsTickets, AsksOne, Enqueues, IsJudgedThrough, KeepsWhereNext};
     ghost use Rattle.peer_conn.specs.AnsweringReady.{AnswersReady, AnswersFirst, IsAnsweredThrough};
 
     /// No byte came, and none was sent. It takes no memory yet.
@@ -139,7 +83,6 @@ impl<S: Source> ExchangeState<S> {
         ensures window { result.window.tickets ≡ 1 }
     {
         ExchangeState {
-            alloc,
             intake: Intake::new(alloc),
             waiting: VecDeque::new(alloc),
             outgoing: Outgoing::new(alloc),
@@ -267,7 +210,7 @@ impl<S: Source> ExchangeState<S> {
         Ok(())
     }
 
-    // Judges the next request, and has its ticket wait. Whether there was one.
+    // Asks for the next request, and has its ticket wait. Whether there was one.
     fn ask_next<L: Ledger, H: Wait>(
         &mut self,
         rt: &H,
@@ -288,59 +231,44 @@ impl<S: Source> ExchangeState<S> {
         if self.is_full() || !self.intake.is_judging() {
             return Ok(false);
         }
-        match self.intake.next(self.alloc, names, places) {
-            Found::Wish(next) => self.ask(rt, pool, seat, next),
-            Found::Need => Ok(false),
-            Found::NoMemory => {
-                self.give_up(GivenUp::Memory);
-                Err(GivenUp::Memory)
-            }
-        }
-    }
-
-    // Has the ticket of the next wish wait, or gives up. Whether it waits.
-    fn ask<L: Ledger, H: Wait>(
-        &mut self,
-        rt: &H,
-        pool: &Pool<S, L>,
-        seat: &mut ConnSeat<S, L>,
-        next: Next,
-    ) -> Result<bool, GivenUp>
-        requires seat { IsConnSeatOf pool.now seat.old }
-        requires known { IsKnown (S.count (source_of pool.now)) next.wish.body }
-        requires next { (numbers : List ℕ → Option ℕ) × IsNextWish numbers self.old.intake.held next.wish }
-        requires front { IsFrontLength self.old.intake.held next.len }
-        requires few { deque_len self.old.waiting < MAX_WAITING }
-        requires judging { is_judging self.old.intake.stage ≡ true }
-        requires now { self.old.waits_for_job ≡ false }
-        ensures seat { IsConnSeatOf pool.now seat.new }
-        ensures parts { conn_parts seat.new ≡ conn_parts seat.old }
-        ensures upholds { KeepsWhereNext (allows S.allowed) next.wish self.old self.new }
-        ensures asks { AsksOne self.old self.new (asks_of seat.old) (asks_of seat.new) (left_of seat.new) result }
-        ensures window { self.new.window.tickets ≡ self.old.window.tickets }
-    {
-        let Next { wish, len } = next;
-        let closing = self.intake.closes(wish.closing);
         if self.waiting.reserve(1).is_err() {
             self.give_up(GivenUp::Memory);
             return Err(GivenUp::Memory);
         }
-        match ticket_of(rt, self.alloc, pool, seat, Wish { closing, ..wish }) {
-            Ok(Some(ticket)) => {
-                self.intake.give(len, closing);
-                self.waiting.push_back_reserved(ticket);
+        match ask_first(rt, pool, seat, names, &self.intake, places) {
+            Asked::Ticket(ticket, len) => {
+                self.enqueue(ticket, len);
                 Ok(true)
             }
-            Ok(None) => {
+            Asked::Need => {
+                self.intake.need();
+                Ok(false)
+            }
+            Asked::NotNow => {
                 self.waits_for_job = true;
                 Ok(false)
             }
-            Err(fault) => {
-                let why = GivenUp::from(fault);
+            Asked::Refused(why) => {
                 self.give_up(why);
                 Err(why)
             }
         }
+    }
+
+    // The ticket of the next request waits, whose block takes `len` bytes.
+    fn enqueue(&mut self, ticket: Ticket<S>, len: usize)
+        requires next { (numbers : List ℕ → Option ℕ) × IsNextWish numbers self.old.intake.held (wish_by ticket) }
+        requires front { IsFrontLength self.old.intake.held len }
+        requires few { deque_len self.old.waiting < MAX_WAITING }
+        requires room { deque_len self.old.waiting < deque_capacity self.old.waiting }
+        requires judging { is_judging self.old.intake.stage ≡ true }
+        ensures upholds { KeepsWhereNext (allows S.allowed) (wish_by ticket) self.old self.new }
+        ensures enqueues { Enqueues ticket self.old self.new }
+    {
+        let closing = self.intake.closes(ticket.closing);
+        self.intake.give(len, closing);
+        self.waiting
+            .push_back_reserved(Ticket { closing, ..ticket });
     }
 
     /// Puts the replies of the first tickets, as far as their fills are there and few bytes wait to be sent.

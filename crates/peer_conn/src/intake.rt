@@ -5,10 +5,9 @@ ghost use Rattle.std.specs.Prelude.{◌≡◌, ℕ, ◌<◌, ◌≤◌, length};
 ghost use Rattle.peer_flight.specs.Events.{REPLIES};
 ghost use Rattle.peer_head.specs.Blocks.{LIMIT};
 
-use crate::byte_queue::ByteQueue;
-use crate::wish::{Next, closes_after, next_wish};
-use peer_head::{FieldPlaces, HEAD_LIMIT, are_pairs};
-use peer_source::{Names, Source};
+use crate::wish::closes_after;
+use peer_head::{HEAD_LIMIT, are_pairs};
+use peer_outbox::ByteQueue;
 use std::alloc::{AllocError, Global};
 use std::cmp::min;
 
@@ -35,18 +34,10 @@ pub(crate) enum Stage {
     GivenUp(GivenUp),
 }
 
-/// What the bytes held begin with.
-#[derive(Drop)]
-pub(crate) enum Found {
-    Wish(Next),
-    /// They are unfinished.
-    Need,
-    NoMemory,
-}
-
 /// The bytes that came and were not given as requests.
 #[derive(Drop)]
 pub(crate) struct Intake {
+    pub(crate) alloc: Global,
     pub(crate) held: ByteQueue,
     /// How many requests were given that do not close.
     pub(crate) count: u64,
@@ -60,7 +51,7 @@ impl Intake {
     ghost use Rattle.peer_reply.specs.declared.wish.Wish.{Wish};
     ghost use Rattle.peer_conn.specs.Wishes.{closes_after};
     ghost use Rattle.peer_conn.specs.Nexts.{IsNextWish};
-    ghost use Rattle.peer_conn.specs.Intakes.{IsNewIntake, JudgesMore, JudgesFewer, JudgesNext, FindsNext, IsKnownIfFound};
+    ghost use Rattle.peer_conn.specs.Intakes.{IsNewIntake, JudgesMore, JudgesFewer, JudgesNext, KeepsJudged};
     ghost use Rattle.peer_conn.specs.Intakes.{IsGivenUpFor, is_open, is_judging, is_given_up, told, needing};
     ghost use Rattle.peer_head.specs.Blocks.{IsFrontLength, IsUnfinished, LIMIT};
     ghost use Rattle.peer_head.specs.Pairs.{ArePairs};
@@ -71,6 +62,7 @@ impl Intake {
         ensures { IsNewIntake result }
     {
         Intake {
+            alloc,
             held: ByteQueue::new(alloc),
             count: 0,
             stage: Stage::Open,
@@ -139,26 +131,6 @@ impl Intake {
         self.stage = Stage::GivenUp(why);
     }
 
-    /// What is next among the bytes held. It stays held.
-    pub(crate) fn next<S: Source>(
-        &mut self,
-        alloc: Global,
-        names: &Names<'_, S>,
-        places: &mut FieldPlaces,
-    ) -> Found
-        ensures finds { FindsNext (S.number_of names.now) self.old self.new result }
-        ensures known { IsKnownIfFound (S.count names.now) result }
-    {
-        let Ok(found) = next_wish(alloc, names, self.held.as_slice(), places) else {
-            return Found::NoMemory;
-        };
-        let Some(next) = found else {
-            self.need();
-            return Found::Need;
-        };
-        Found::Wish(next)
-    }
-
     /// Whether the reply to the next request closes. The last that a connection gets does.
     pub(crate) fn closes(&self, closing: bool) -> bool
         ensures { result ≡ closes_after self.now.count closing }
@@ -182,12 +154,12 @@ impl Intake {
         }
     }
 
-    // What is held is unfinished.
-    fn need(&mut self)
+    /// What is held is unfinished: where no more bytes come, all whole heads were judged.
+    pub(crate) fn need(&mut self)
         requires { IsUnfinished self.old.held }
+        ensures keeps { (numbers : List ℕ → Option ℕ) → KeepsJudged numbers self.old self.new }
         ensures stage { self.new.stage ≡ needing self.old.stage }
         ensures held { self.new.held ≡ self.old.held }
-        ensures count { self.new.count ≡ self.old.count }
     {
         if let Stage::Told = self.stage {
             self.stage = Stage::Ended;

@@ -6,7 +6,7 @@
 //! the replies to what was read, as the end of the call says.
 #![tactic(auto)]
 
-mod byte_queue;
+mod asking;
 mod connection;
 mod end;
 mod exchange;
@@ -14,14 +14,12 @@ mod exchange_state;
 mod history;
 mod intake;
 pub mod laws;
-mod outbox;
 mod outgoing;
 mod reader_side;
 mod requests;
 mod responses;
 mod rest;
 mod serial;
-mod window;
 mod wish;
 mod write_buffer;
 mod writer_side;

@@ -11,10 +11,10 @@ ghost use Rattle.peer_conn.specs.Tickets.{claim_wish, fill_wish};
 ghost use Rattle.peer_conn.specs.Holdings.{CameFor};
 ghost use Rattle.peer_conn.specs.Answering.{Answers, AnswersClaim, PutsReplyTo, PutsText, is_pending};
 
-use crate::outbox::Outbox;
 use peer_fill::Pool;
 use peer_flight::Claim;
 use peer_lane::{Body, Ticket};
+use peer_outbox::Outbox;
 use peer_reply::{Fault, HeadRoom, Reply};
 use peer_source::{Fill, Outcome, Source};
 use peer_view::ByteView;

@@ -6,7 +6,7 @@ ghost use Rattle.std.specs.Prelude.{◌≡◌, ℕ, ◌+◌, ◌^◌, ◌<◌};
 ghost use Rattle.peer_flight.specs.Events.{REPLIES};
 
 use crate::end::ReaderStop;
-use crate::wish::{closes_after, next_wish};
+use crate::wish::{closes_after, next_kept};
 use peer_head::{FieldPlaces, HeadBuf};
 use peer_reply::Wish;
 use peer_source::{Names, Source};
@@ -72,7 +72,7 @@ impl<R: PeerRead> Requests<R> {
         ensures known { GivesKnown (S.count names.now) result }
         ensures left { self.new.left ≡ self.old.left }
     {
-        let Ok(found) = next_wish(self.alloc, names, self.held.rest(), &mut self.places) else {
+        let Ok(found) = next_kept(self.alloc, names, self.held.rest(), &mut self.places) else {
             return NextRequest::NoMemory;
         };
         let Some(next) = found else {

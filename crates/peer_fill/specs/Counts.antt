@@ -7,6 +7,14 @@ use Rattle.peer_fill.specs.declared.counts.FillCounts.{FillCounts}
 abbrev pub no_asks : AskCounts
 no_asks = record { asked = 0; hits = 0; led = 0; joined = 0; strangers = 0 }
 
+-- one claim more that was ready
+abbrev pub with_hit : AskCounts → AskCounts
+with_hit asks = record asks { asked = asks.asked + 1; hits = asks.hits + 1 }
+
+-- one flight more that was joined
+abbrev pub with_joined : AskCounts → AskCounts
+with_joined asks = record asks { asked = asks.asked + 1; joined = asks.joined + 1 }
+
 -- no job was taken
 abbrev pub no_fills : FillCounts
 no_fills = record { calls = 0; rehits = 0 }

@@ -87,7 +87,7 @@ impl<S: Source, L: Ledger> Pool<S, L> {
         rt: &R,
         seat: &mut ConnSeat<S, L>,
         group: GroupId,
-        key: &ByteView,
+        key: &[u8],
     ) -> Result<Option<Claim<S>>, AskFault>
         requires seat { IsConnSeatOf self.now seat.old }
         ensures seat { IsConnSeatOf self.now seat.new }
@@ -108,8 +108,7 @@ impl<S: Source, L: Ledger> Pool<S, L> {
         let Some(fill) = found else {
             return Ok(None);
         };
-        seat.asks.asked += 1;
-        seat.asks.hits += 1;
+        seat.count_hit();
         Ok(Some(Claim::Ready(fill)))
     }
 
@@ -137,8 +136,7 @@ impl<S: Source, L: Ledger> Pool<S, L> {
         match ask {
             Err(fault) => Err(fault),
             Ok(Ask::Joined(flight)) => {
-                seat.asks.asked += 1;
-                seat.asks.joined += 1;
+                seat.count_joined();
                 Ok(Claim::Pending(flight))
             }
             Ok(Ask::Led(flight, right)) => {
@@ -173,8 +171,7 @@ impl<S: Source, L: Ledger> Pool<S, L> {
         let Some(flight) = found else {
             return Ok(None);
         };
-        seat.asks.asked += 1;
-        seat.asks.joined += 1;
+        seat.count_joined();
         Ok(Some(Claim::Pending(flight)))
     }
 
@@ -200,7 +197,7 @@ impl<S: Source, L: Ledger> Pool<S, L> {
         ensures refused { OnErr result (asks_of seat.new ≡ asks_of seat.old) }
         ensures worn { (asks_of seat.old).asked ≡ 2 ^ 56 → result ≡ Err AskFault.Worn }
     {
-        let found = self.hit(rt, seat, group, &key)?;
+        let found = self.hit(rt, seat, group, key.as_slice())?;
         if let Some(claim) = found {
             return Ok(claim);
         }
@@ -238,11 +235,11 @@ impl<S: Source, L: Ledger> Pool<S, L> {
         if seat.asks.asked == MAX_COUNT {
             return Err(AskFault::Worn);
         }
-        let key = ByteView::copy_of(alloc, key)?;
-        let found = self.hit(rt, seat, group, &key)?;
+        let found = self.hit(rt, seat, group, key)?;
         if let Some(claim) = found {
             return Ok(Some(claim));
         }
+        let key = ByteView::copy_of(alloc, key)?;
         if !self.put_left(rt, seat) {
             return self.join(rt, seat, group, &key);
         }

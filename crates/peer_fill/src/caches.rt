@@ -4,7 +4,6 @@ ghost use Rattle.peer_source.specs.Caches.{bytes_in};
 ghost use Rattle.peer_fill.specs.Caches.{IsFoundFor, EachInPlace};
 
 use peer_source::{Evicted, Fill, GroupId, MainCache, Source};
-use peer_view::ByteView;
 use std::alloc::{AllocError, Global};
 use std::hash::RandomState;
 
@@ -31,7 +30,7 @@ impl<S: Source> Caches<S> {
     }
 
     /// The fill of the value that is kept for the group and the key. A group without a cache has none.
-    pub fn get(&mut self, group: GroupId, key: &ByteView) -> Result<Option<Fill<S>>, AllocError>
+    pub fn get(&mut self, group: GroupId, key: &[u8]) -> Result<Option<Fill<S>>, AllocError>
         ensures { IfOk result (λ found. IfSome found (IsFoundFor group.number key.now)) }
     {
         let Some(cache) = self.each.get_mut(group.number) else {

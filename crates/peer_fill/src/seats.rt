@@ -56,6 +56,7 @@ pub struct FillSeat<S: Source, L: Ledger> {
 
 impl<S: Source, L: Ledger> ConnSeat<S, L> {
     ghost use Rattle.peer_fill.specs.Seats.{asks_of, conn_parts, left_of, IsSameConn};
+    ghost use Rattle.peer_fill.specs.Counts.{with_hit, with_joined};
 
     // A seat that has asked nothing.
     pub(crate) fn new(pass: Pass<Job<S>, Hand>, share: Share<L>, parts: u64) -> ConnSeat<S, L>
@@ -117,6 +118,28 @@ impl<S: Source, L: Ledger> ConnSeat<S, L> {
         ensures { result ≡ (asks_of self.now).strangers }
     {
         self.asks.strangers
+    }
+
+    // Counts a claim that was ready.
+    pub(crate) fn count_hit(&mut self)
+        requires { (asks_of self.old).asked < 2 ^ 56 }
+        ensures counts { asks_of self.new ≡ with_hit (asks_of self.old) }
+        ensures seat { IsSameConn self.old self.new }
+        ensures left { left_of self.new ≡ left_of self.old }
+    {
+        self.asks.asked += 1;
+        self.asks.hits += 1;
+    }
+
+    // Counts a flight that it joined.
+    pub(crate) fn count_joined(&mut self)
+        requires { (asks_of self.old).asked < 2 ^ 56 }
+        ensures counts { asks_of self.new ≡ with_joined (asks_of self.old) }
+        ensures seat { IsSameConn self.old self.new }
+        ensures left { left_of self.new ≡ left_of self.old }
+    {
+        self.asks.asked += 1;
+        self.asks.joined += 1;
     }
 
     /// Raises the strangers, to 2^56 at most.

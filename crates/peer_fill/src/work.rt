@@ -183,7 +183,7 @@ impl<S: Source, L: Ledger> Pool<S, L> {
     fn cached_fill<R: Wait>(&self, rt: &R, group: GroupId, key: &ByteView) -> Option<Fill<S>>
         ensures { IfSome result (IsFoundFor group.number key.now) }
     {
-        match lock(rt, &self.caches).get(group, key) {
+        match lock(rt, &self.caches).get(group, key.as_slice()) {
             Ok(found) => found,
             Err(_) => None,
         }

@@ -59,7 +59,7 @@ pub struct Client<'a, S: Source, F: Facts<S>> {
     pub is_ready: bool,
     /// Whether it is on the list of those that wait for room in the queue of jobs.
     pub is_for_room: bool,
-    // When bytes last came or were taken.
+    // When bytes last came or were taken, or its close began.
     heard: Duration,
     // When the stream last took bytes, or the client came.
     taken: Duration,
@@ -68,7 +68,12 @@ pub struct Client<'a, S: Source, F: Facts<S>> {
 
 // Whether a call of a stream would have to wait.
 fn would_block(error: &io::Error) -> bool {
-    matches!(error.kind(), ErrorKind::WouldBlock | ErrorKind::Interrupted)
+    error.kind() == ErrorKind::WouldBlock
+}
+
+// Whether a call of a stream was interrupted, and is to be made again.
+fn was_interrupted(error: &io::Error) -> bool {
+    error.kind() == ErrorKind::Interrupted
 }
 
 impl<'a, S: Source, F: Facts<S>> Client<'a, S, F> {
@@ -146,11 +151,12 @@ impl<'a, S: Source, F: Facts<S>> Client<'a, S, F> {
                 self.readable = n == room || self.read_closed;
             }
             Err(error) if would_block(&error) => self.readable = false,
+            Err(error) if was_interrupted(&error) => {}
             Err(_) => self.failed = true,
         }
     }
 
-    // Writes until all is sent or the stream takes no more.
+    // Writes until all is sent or the stream takes no more, some times at most.
     fn send(&mut self, now: Duration) {
         for _ in 0..ROUNDS_OF_TURN {
             if !self.writes() {
@@ -163,6 +169,7 @@ impl<'a, S: Source, F: Facts<S>> Client<'a, S, F> {
                     self.taken = now;
                 }
                 Err(error) if would_block(&error) => self.writable = false,
+                Err(error) if was_interrupted(&error) => {}
                 Err(_) => self.failed = true,
             }
             if self.failed {
@@ -179,6 +186,7 @@ impl<'a, S: Source, F: Facts<S>> Client<'a, S, F> {
                 Ok(0) => return Stand::Gone,
                 Ok(n) => self.skipped = self.skipped.saturating_add(n),
                 Err(error) if would_block(&error) => return Stand::Idle,
+                Err(error) if was_interrupted(&error) => {}
                 Err(_) => return Stand::Gone,
             }
             if self.skipped > MAX_SKIPPED {
@@ -243,7 +251,7 @@ impl<'a, S: Source, F: Facts<S>> Client<'a, S, F> {
         }
     }
 
-    // Reads, answers and writes once. How it stands, none where more can be done at once.
+    // Reads once, and answers and writes some times at most. How it stands, none where more can be done at once.
     fn round<L: Ledger, H: Wait>(
         &mut self,
         rt: &H,

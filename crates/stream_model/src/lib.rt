@@ -12,6 +12,6 @@ mod texts;
 pub use dice::Dice;
 pub use model::{Outcome, outcome_of};
 pub use texts::{
-    ASK_K, FOUND_K, FOUND_K_LAST, TOO_LONG, Then, Told, add_repeated, add_reply, add_request,
-    joined, repeated, reply, request,
+    ASK_K, ASK_K_LAST, FOUND_K, FOUND_K_LAST, TOO_LONG, Then, Told, add_repeated, add_reply,
+    add_request, joined, repeated, reply, request,
 };

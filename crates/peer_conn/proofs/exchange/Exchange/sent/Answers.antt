@@ -2,7 +2,7 @@ use mathlib.Core.Logic.{∥∥₁_map}
 use Rattle.std.proofs.Common.{◌≡◌, ◌∙◌, [], ◌++◌, List, ℕ, ap, sym, subst, take}
 use Rattle.peer_conn.specs.Connects.{allows}
 use Rattle.peer_conn.specs.ExchangeStates.{Upholds, lent, unsent}
-use Rattle.peer_conn.proofs.OutboxLemmas.{take_front}
+use Rattle.peer_outbox.proofs.OutboxLemmas.{take_front}
 use Rattle.peer_conn.proofs.exchange.Exchange.sent.Goals as goal
 
 pub invariant_of-self : goal.invariant_of-self

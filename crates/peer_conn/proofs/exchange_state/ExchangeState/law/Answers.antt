@@ -1,5 +1,5 @@
 use Rattle.peer_conn.specs.Connects.{allows}
-use Rattle.peer_conn.proofs.ExchangeLemmas.{are_sent}
+use Rattle.peer_conn.proofs.ExchangeLemmas.{are_sent, holds_little}
 use Rattle.peer_conn.proofs.exchange_state.ExchangeState.law.Goals as goal
 
 -- each group and key has an answer, which is allowed
@@ -12,4 +12,6 @@ returns-clause-sent g c came sent h =
     c.args.self.now came sent h
 
 pub returns-clause-little : goal.returns-clause-little
-returns-clause-little g c came sent h = record { held = c.args.self.now.intake.within; waiting = h.waiting; unsent = h.unsent }
+returns-clause-little g c came sent h =
+    let e = c.args.self.now in
+    holds_little (g.S.Source.number_of c.args.names.now) (allows g.S.Source.allowed) e came sent e.intake.within h

@@ -1,9 +1,5 @@
-use Rattle.std.proofs.Common.{◌≡◌, [], ◌++◌, List, sym, ap, subst, refl, true, false, length, arith}
-use Rattle.peer_head.specs.declared.fault.HeadFault.TheVariants.{TooLong}
-use Rattle.peer_reply.specs.Texts.{fault_reply}
-use Rattle.peer_reply.specs.declared.fault.Fault.TheVariants as fault
+use Rattle.std.proofs.Common.{◌≡◌, [], ◌++◌, inl, List, sym, ap, subst, refl, length, arith}
 use Rattle.peer_reply.specs.declared.wish.Wish.{Wish}
-use Rattle.peer_conn.specs.Wishes.{fault_wish}
 use Rattle.peer_conn.specs.Intakes.{Judged}
 use Rattle.peer_conn.specs.Tickets.{wishes_by}
 use Rattle.peer_conn.proofs.IntakeLemmas.{judged_new}
@@ -20,5 +16,5 @@ returns-clause-upholds g c numbers =
       each = refl;
       put = c.new-3.ensures;
       waiting = omega (arith, c.new-2.ensures.len);
-      unsent = record { wish = fault_wish TooLong false; reply = fault_reply true false fault.TooLong; replies = refl; few = omega (arith, ap length c.new-3.ensures) };
+      unsent = inl (omega (arith, ap length c.new-3.ensures));
     }

@@ -1,12 +1,12 @@
 use Rattle.std.proofs.Common.{◌∙◌, ◌++◌, ap, take, length, append_assoc, take-append-drop, length-drop, arith}
 use Rattle.peer_conn.specs.ExchangeStates.{unsent}
+use Rattle.peer_conn.proofs.ExchangeLemmas.{still_few}
 use Rattle.peer_conn.proofs.exchange_state.ExchangeState.sent.Goals as goal
 
 pub returns-clause-upholds : goal.returns-clause-upholds
 returns-clause-upholds g c numbers came sent h =
     let out = unsent c.args.self.now in
     let n = c.args.n in
-    let few = h.unsent in
     record {
       answered = h.answered;
       judged = h.judged;
@@ -14,5 +14,5 @@ returns-clause-upholds g c numbers came sent h =
       each = h.each;
       put = ap (λ v. (sent ++ take n out) ++ v) c.drop_front.ensures ∙ append_assoc sent (take n out) _ ∙ ap (λ v. sent ++ v) (take-append-drop n out) ∙ h.put;
       waiting = h.waiting;
-      unsent = record { wish = few.wish; reply = few.reply; replies = few.replies; few = omega (arith, ap length c.drop_front.ensures, length-drop n out, few.few) };
+      unsent = still_few h.replies out _ (omega (arith, ap length c.drop_front.ensures, length-drop n out)) h.unsent;
     }

@@ -1,6 +1,6 @@
 use Rattle.std.proofs.Common.{◌∙◌, sym, subst}
-use Rattle.peer_conn.specs.Outboxes.{EndsIn}
-use Rattle.peer_conn.proofs.OutboxLemmas.{value_ends, value_reply_of}
+use Rattle.peer_outbox.specs.Outboxes.{EndsIn}
+use Rattle.peer_outbox.proofs.OutboxLemmas.{value_ends, value_reply_of}
 use Rattle.peer_conn.proofs.outgoing.Outgoing.put_fill.Goals as goal
 
 pub put_value-requires : goal.put_value-requires

@@ -6,24 +6,24 @@ ghost use Rattle.std.specs.Prelude.{◌≡◌, ◌==◌, ◌≤◌, ◌<◌, ◌
 ghost use Rattle.std.specs.Bool.{OnTrue};
 ghost use Rattle.std.specs.VecDeque.{deque_len};
 ghost use Rattle.peer_reply.specs.Texts.{joined};
-ghost use Rattle.peer_conn.specs.Outboxes.{EndsIn, IsFrontOf};
+ghost use Rattle.peer_outbox.specs.Outboxes.{EndsIn, IsFrontOf};
 
 use crate::byte_queue::ByteQueue;
-use crate::write_buffer::part_at;
+use crate::parts::part_at;
 use peer_view::ByteView;
 use std::alloc::{AllocError, Global};
 use std::collections::VecDeque;
 use std::marker::Model;
 
 /// A value of more bytes is lent, and not copied.
-pub(crate) const MAX_COPIED: usize = 8192;
+const MAX_COPIED: usize = 8192;
 
 /// How many pieces have room that is kept while none is there.
 const KEPT_PIECES: usize = 4;
 
 /// Pieces, and bytes behind them. The first piece goes when it was sent.
 #[derive(Drop)]
-pub(crate) struct Outbox {
+pub struct Outbox {
     alloc: Global,
     pieces: VecDeque<ByteView>,
     /// How many bytes of the first piece were sent.
@@ -35,8 +35,8 @@ pub(crate) struct Outbox {
 
 impl Model for Outbox {
     ghost use Rattle.std.specs.Prelude.{◌≡◌, ◌+◌, ◌++◌, length};
-    ghost use Rattle.peer_conn.specs.Replies.{join};
-    ghost use Rattle.peer_conn.specs.Outboxes.{Output, StartsIn, output_of};
+    ghost use Rattle.peer_outbox.specs.Joins.{join};
+    ghost use Rattle.peer_outbox.specs.Outboxes.{Output, StartsIn, output_of};
 
     ghost Value = { Output };
 
@@ -102,10 +102,10 @@ fn drop_piece(pieces: &mut VecDeque<ByteView>)
 impl Outbox {
     ghost use Rattle.std.specs.Prelude.{◌≡◌, ◌==◌, ◌≤◌, ◌<◌, ◌+◌, [], ◌++◌, length, drop, OnErr, OnOk};
     ghost use Rattle.peer_reply.specs.Texts.{joined};
-    ghost use Rattle.peer_conn.specs.Outboxes.{EndsIn, IsFrontOf};
+    ghost use Rattle.peer_outbox.specs.Outboxes.{EndsIn, IsFrontOf};
 
     /// It takes no memory yet.
-    pub(crate) fn new(alloc: Global) -> Outbox
+    pub fn new(alloc: Global) -> Outbox
         ensures { result.bytes ≡ [] }
     {
         Outbox {
@@ -117,20 +117,20 @@ impl Outbox {
         }
     }
 
-    pub(crate) fn len(&self) -> usize
+    pub fn len(&self) -> usize
         ensures { result ≡ length self.now.bytes }
     {
         self.len
     }
 
-    pub(crate) fn is_empty(&self) -> bool
+    pub fn is_empty(&self) -> bool
         ensures { result ≡ (length self.now.bytes == 0) }
     {
         self.len == 0
     }
 
     /// The first bytes: some, where there are any.
-    pub(crate) fn front(&self) -> &[u8]
+    pub fn front(&self) -> &[u8]
         ensures front { result.now ≡ self.now.front }
         ensures begins { IsFrontOf self.now.front self.now.bytes }
     {
@@ -141,7 +141,7 @@ impl Outbox {
     }
 
     /// So many of the first bytes go.
-    pub(crate) fn drop_front(&mut self, n: usize)
+    pub fn drop_front(&mut self, n: usize)
         requires { n ≤ length self.old.front }
         ensures { self.new.bytes ≡ drop n self.old.bytes }
     {
@@ -159,7 +159,7 @@ impl Outbox {
     }
 
     /// The bytes of all the parts come, or none where memory is refused.
-    pub(crate) fn put(&mut self, parts: &[&[u8]]) -> Result<(), AllocError>
+    pub fn put(&mut self, parts: &[&[u8]]) -> Result<(), AllocError>
         ensures put { OnOk result (self.new.bytes ≡ self.old.bytes ++ joined parts.now) }
         ensures refused { OnErr result (self.new.bytes ≡ self.old.bytes) }
     {
@@ -177,11 +177,7 @@ impl Outbox {
 
     /// The bytes of all the parts come, which end in the value, or none where memory is refused. A long value is lent, where
     /// the first two parts are what stands before it.
-    pub(crate) fn put_value(
-        &mut self,
-        parts: &[&[u8]; 4],
-        value: &ByteView,
-    ) -> Result<(), AllocError>
+    pub fn put_value(&mut self, parts: &[&[u8]; 4], value: &ByteView) -> Result<(), AllocError>
         requires { EndsIn value.now (joined parts.now) }
         ensures put { OnOk result (self.new.bytes ≡ self.old.bytes ++ joined parts.now) }
         ensures refused { OnErr result (self.new.bytes ≡ self.old.bytes) }

@@ -2,20 +2,20 @@
 //!
 //! It stands on nothing. It promises 1 to 64, by the lengths of the replies that were put.
 ghost use Rattle.std.specs.Prelude.{◌≡◌, ◌≤◌, ◌*◌};
-ghost use Rattle.peer_conn.specs.Windows.{window_after};
+ghost use Rattle.peer_outbox.specs.Windows.{window_after};
 
 use std::cmp::{max, min};
 
 /// The most tickets that wait.
-pub(crate) const MAX_WAITING: usize = 64;
+pub const MAX_WAITING: usize = 64;
 
 /// Where so many bytes wait to be sent, nothing is asked or put until some were sent.
-pub(crate) const MAX_UNSENT: usize = 65_536;
+pub const MAX_UNSENT: usize = 65_536;
 
 /// How many tickets may wait.
 #[derive(Drop)]
-pub(crate) struct Window {
-    pub(crate) tickets: usize,
+pub struct Window {
+    pub tickets: usize,
     ghost some: { 1 ≤ tickets },
     ghost few: { tickets ≤ 64 },
 }
@@ -32,17 +32,17 @@ fn tickets_after(len: usize, tickets: usize) -> usize
 
 impl Window {
     ghost use Rattle.std.specs.Prelude.{◌≡◌};
-    ghost use Rattle.peer_conn.specs.Windows.{window_after};
+    ghost use Rattle.peer_outbox.specs.Windows.{window_after};
 
     /// One ticket.
-    pub(crate) fn new() -> Window
+    pub fn new() -> Window
         ensures { result.tickets ≡ 1 }
     {
         Window { tickets: 1 }
     }
 
     /// A reply of `len` bytes was put.
-    pub(crate) fn put(&mut self, len: usize)
+    pub fn put(&mut self, len: usize)
         ensures { self.new.tickets ≡ window_after len self.old.tickets }
     {
         self.tickets = tickets_after(len, self.tickets);

@@ -4,7 +4,7 @@
 ghost use Rattle.std.specs.Prelude.{◌≡◌, ◌==◌, ◌≤◌, [], ◌++◌, length, drop, OnErr, OnOk, IfOk};
 ghost use Rattle.peer_reply.specs.Texts.{joined};
 
-use crate::write_buffer::part_at;
+use crate::parts::part_at;
 use bytes::Bytes;
 use peer_view::ByteView;
 use std::alloc::{AllocError, Global};
@@ -15,7 +15,7 @@ const KEPT: usize = 1024;
 
 /// A queue of bytes. Those that went lie before the others for a while.
 #[derive(Drop)]
-pub(crate) struct ByteQueue {
+pub struct ByteQueue {
     bytes: Vec<u8>,
     start: usize,
 }
@@ -31,7 +31,7 @@ impl Model for ByteQueue {
 }
 
 impl ByteQueue {
-    pub(crate) fn new(alloc: Global) -> ByteQueue
+    pub fn new(alloc: Global) -> ByteQueue
         ensures { result ≡ [] }
     {
         ByteQueue {
@@ -40,26 +40,26 @@ impl ByteQueue {
         }
     }
 
-    pub(crate) fn as_slice(&self) -> &[u8]
+    pub fn as_slice(&self) -> &[u8]
         ensures { result.now ≡ self.now }
     {
         &self.bytes[self.start..]
     }
 
-    pub(crate) fn len(&self) -> usize
+    pub fn len(&self) -> usize
         ensures { result ≡ length self.now }
     {
         self.as_slice().len()
     }
 
-    pub(crate) fn is_empty(&self) -> bool
+    pub fn is_empty(&self) -> bool
         ensures { result ≡ (length self.now == 0) }
     {
         self.len() == 0
     }
 
     /// The first `n` bytes go.
-    pub(crate) fn drop_front(&mut self, n: usize)
+    pub fn drop_front(&mut self, n: usize)
         requires { n ≤ length self.old }
         ensures { self.new ≡ drop n self.old }
     {
@@ -81,7 +81,7 @@ impl ByteQueue {
     }
 
     /// The bytes of all the parts come, or none where memory is refused.
-    pub(crate) fn put(&mut self, parts: &[&[u8]]) -> Result<(), AllocError>
+    pub fn put(&mut self, parts: &[&[u8]]) -> Result<(), AllocError>
         ensures put { OnOk result (self.new ≡ self.old ++ joined parts.now) }
         ensures refused { OnErr result (self.new ≡ self.old) }
     {
@@ -90,7 +90,7 @@ impl ByteQueue {
     }
 
     /// These bytes come, or none where memory is refused.
-    pub(crate) fn push(&mut self, more: &[u8]) -> Result<(), AllocError>
+    pub fn push(&mut self, more: &[u8]) -> Result<(), AllocError>
         ensures put { OnOk result (self.new ≡ self.old ++ more.now) }
         ensures refused { OnErr result (self.new ≡ self.old) }
     {
@@ -99,11 +99,7 @@ impl ByteQueue {
     }
 
     /// All its bytes, and behind them those of the parts, leave as a view, or none where memory is refused.
-    pub(crate) fn leave_with(
-        &mut self,
-        alloc: Global,
-        parts: &[&[u8]],
-    ) -> Result<ByteView, AllocError>
+    pub fn leave_with(&mut self, alloc: Global, parts: &[&[u8]]) -> Result<ByteView, AllocError>
         ensures view { IfOk result (λ v. v ≡ self.old ++ joined parts.now) }
         ensures empty { OnOk result (self.new ≡ []) }
         ensures refused { OnErr result (self.new ≡ self.old) }

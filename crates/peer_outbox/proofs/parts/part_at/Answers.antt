@@ -1,7 +1,7 @@
 use Rattle.std.proofs.Common.{◌≡◌, ℕ, zero, suc, ◌<◌, List, [], ◌∷◌, ◌++◌, length, take, drop, get_or, refl, sym, ◌∙◌, ap, arith, append_assoc, append-nil, add-one}
 use Rattle.std.specs.Borrow.{Bor}
 use Rattle.peer_reply.specs.Texts.{joined}
-use Rattle.peer_conn.proofs.write_buffer.part_at.Goals as goal
+use Rattle.peer_outbox.proofs.parts.part_at.Goals as goal
 
 -- the parts up to a place and the part there
 joined_suc : (parts : List (Bor (List ℕ))) (i : ℕ) (other : Bor (List ℕ)) → i < length parts → joined (take i parts) ++ (get_or parts i other).now ≡ joined (take (suc i) parts)

@@ -1,6 +1,6 @@
 -- The bytes that wait to be sent, in pieces.
 use Rattle.std.specs.Prelude.{◌≡◌, ℕ, ◌<◌, List, [], ◌∷◌, ◌++◌, length, drop}
-use Rattle.peer_conn.specs.Replies.{join}
+use Rattle.peer_outbox.specs.Joins.{join}
 
 -- all bytes, and the first of them that lie together
 pub record Output : Type 0 where

@@ -1,0 +1,15 @@
+//! What waits to be sent: its bytes, of which large values are lent and not copied, and how many more may wait.
+//!
+//! It stands on the views of `peer_view`. It promises the bytes that came and did not go, in order, and a window of 1 to 64
+//! by the lengths of what came.
+#![tactic(auto)]
+
+mod byte_queue;
+mod outbox;
+mod parts;
+mod window;
+
+pub use byte_queue::ByteQueue;
+pub use outbox::Outbox;
+pub use parts::part_at;
+pub use window::{MAX_UNSENT, MAX_WAITING, Window};
