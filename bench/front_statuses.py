@@ -8,6 +8,7 @@ Its last line is `rows N failures 0`; where a row fails, so does the program.
 """
 import os
 import re
+import resource
 import socket
 import subprocess
 import sys
@@ -43,6 +44,7 @@ WORKERS = "a number from 0 to 16 is needed"
 FETCHERS = "a number from 1 to 4 is needed"
 UNDER_WAY = "a number from 1 to 1024 is needed"
 NO_WORKERS = "--workers is for a table and --demo alone: where a service is named, --fetchers says how many threads there are"
+FOR_SERVICES = "is for services: name one, such as thumbs=http://10.0.0.7/thumbs/"
 SIZE = "a number of bytes is needed, or of KiB, MiB or GiB, such as 64MiB"
 PAGE = "a port, or an address and a port, is needed, such as 9100 or 127.0.0.1:9100"
 
@@ -66,6 +68,12 @@ ROWS = [
     (HERE + ["g=" + URL, "--fetchers", "x"], 1, f"peer_front: --fetchers x: {FETCHERS}\n"),
     (HERE + ["--demo", "--fetchers", "5"], 1, f"peer_front: --fetchers 5: {FETCHERS}\n"),
     (HERE + ["g=" + URL, "--fetchers"], 1, "--fetchers"),
+    (HERE + ["--demo", "--fetchers", "4"], 1, f"peer_front: --fetchers {FOR_SERVICES}\n"),
+    (HERE + ["--demo", "--fetchers", "1"], 1, f"peer_front: --fetchers {FOR_SERVICES}\n"),
+    (HERE + ["--demo", "--under-way", "1"], 1, f"peer_front: --under-way {FOR_SERVICES}\n"),
+    (HERE + ["--table", GOOD, "--timeout", "1"], 1, f"peer_front: --timeout {FOR_SERVICES}\n"),
+    (HERE + ["--table", GOOD, "--demo", "--connection-for-each"], 1, f"peer_front: --connection-for-each {FOR_SERVICES}\n"),
+    (HERE + ["--demo", "--connection-for-each", "--fetchers", "2"], 1, f"peer_front: --fetchers {FOR_SERVICES}\n"),
     (HERE + ["g=" + URL, "--under-way", "0"], 1, f"peer_front: --under-way 0: {UNDER_WAY}\n"),
     (HERE + ["g=" + URL, "--under-way", "1025"], 1, f"peer_front: --under-way 1025: {UNDER_WAY}\n"),
     (HERE + ["g=" + URL, "--under-way", "x"], 1, f"peer_front: --under-way x: {UNDER_WAY}\n"),
@@ -109,32 +117,51 @@ ROWS = [
 # the words, and all that standard error holds where the program serves and is ended at once
 STARTS = [
     (["--demo"], "3 groups at ADDR, 10000 connections at most, on 2 loops"),
-    (["--table", GOOD, "--workers", "0"], "1 groups at ADDR, 10000 connections at most, on 2 loops"),
-    (["--demo", "--fetchers", "4", "--under-way", "1"], "3 groups at ADDR, 10000 connections at most, on 2 loops"),
-    (["--demo", "--workers", "1", "--loops", "1"], "3 groups at ADDR, 10000 connections at most, on 1 loops and 1 workers"),
-    (["--table", GOOD, "--workers", "16", "--loops", "16"], "1 groups at ADDR, 10000 connections at most, on 16 loops and 16 workers"),
-    (["g=" + URL],
-     "1 groups at ADDR, 10000 connections at most, on 2 loops, and fetches on 1 threads, 256 values under way on each"),
-    (["g=" + URL, "--workers", "0", "--fetchers", "4", "--under-way", "1024", "--connections", "7"],
-     "1 groups at ADDR, 7 connections at most, on 2 loops, and fetches on 4 threads, 1024 values under way on each"),
+    (["--table", GOOD, "--workers", "0"], "1 group at ADDR, 10000 connections at most, on 2 loops"),
+    (["--demo", "--workers", "1", "--loops", "1"], "3 groups at ADDR, 10000 connections at most, on 1 loop and 1 worker"),
+    (["--table", GOOD, "--workers", "16", "--loops", "16"], "1 group at ADDR, 10000 connections at most, on 16 loops and 16 workers"),
+    (["g=" + URL], "1 group at ADDR, 10000 connections at most, on 2 loops, and fetches on 1 thread, 512 values under way on each"),
+    (["g=" + URL, "--workers", "0", "--fetchers", "4", "--under-way", "1024", "--connections", "1"],
+     "1 group at ADDR, 1 connection at most, on 2 loops, and fetches on 4 threads, 1024 values under way on each"),
     (["--table", GOOD, "--demo", "g=" + URL, "--fetchers", "2", "--under-way", "1"],
-     "5 groups at ADDR, 10000 connections at most, on 2 loops, and fetches on 2 threads, 1 values under way on each"),
+     "5 groups at ADDR, 10000 connections at most, on 2 loops, and fetches on 2 threads, 1 value under way on each"),
+]
+
+# how many files the program may open, the words, how many it would need, and what it serves then
+FEW_FILES = [
+    (1024, ["--demo"], 10100, "3 groups at ADDR, 924 connections at most, on 2 loops"),
+    (1024, ["g=" + URL], 11124,
+     "1 group at ADDR, 462 connections at most, on 2 loops, and fetches on 1 thread, 231 values under way on each"),
+    (4096, ["g=" + URL, "--fetchers", "4", "--connections", "65536"], 69732,
+     "1 group at ADDR, 2004 connections at most, on 2 loops, and fetches on 4 threads, 249 values under way on each"),
+    (60, ["--demo", "--loops", "1"], 10100, "3 groups at ADDR, 1 connection at most, on 1 loop"),
 ]
 
 # other words that are taken: the program says that it listens
 TAKEN_WORDS = [
     ["--demo", "--workers", "1", "--loops", "1", "--connections", "1", "--cache", "0", "--memory", "1KiB"],
-    ["--table", GOOD, "--timeout", "1"],
+    ["a=" + URL, "--timeout", "1"],
     ["a=" + URL, "--connection-for-each"],
+    ["a=http://localhost:1/", "--timeout", "1"],
+    ["a=http://[::1]:1/"],
+    ["--demo", "--listen", "[::1]:0"],
     ["--table", GOOD, "--demo", "a=" + URL],
     ["--demo", "--stats", "127.0.0.1:0"],
 ]
 
 
-def ended_at_once(words):
-    """The status and standard error of a program that has no input."""
-    done = subprocess.run([PROGRAM] + words, stdin=subprocess.DEVNULL, stdout=subprocess.PIPE, stderr=subprocess.PIPE, timeout=60, check=False)
+def ended_at_once(words, files=20000):
+    """The status and standard error of a program that has no input and may open so many files."""
+    def allow():
+        resource.setrlimit(resource.RLIMIT_NOFILE, (files, files))
+
+    done = subprocess.run([PROGRAM] + words, stdin=subprocess.DEVNULL, stdout=subprocess.PIPE, stderr=subprocess.PIPE,
+                          timeout=60, check=False, preexec_fn=allow)
     return done.returncode, done.stderr.decode()
+
+
+def hides_port(told):
+    return re.sub(r"127\.0\.0\.1:[1-9]\d*", "ADDR", told)
 
 
 failures = 0
@@ -146,13 +173,19 @@ for words, status, text in ROWS:
 
 for words, text in STARTS:
     ended, told = ended_at_once(HERE + ["--until-eof"] + words)
-    told = re.sub(r"127\.0\.0\.1:[1-9]\d*", "ADDR", told)
-    if ended != 0 or told != f"peer_front: serves {text}\n":
+    if ended != 0 or hides_port(told) != f"peer_front: serves {text}\n":
         failures += 1
         print("words", words, "status", ended, "told", repr(told), "wanted", repr(text))
 
+for files, words, needed, text in FEW_FILES:
+    ended, told = ended_at_once(HERE + ["--until-eof"] + words, files)
+    less = f"peer_front: may open {files} files (ulimit -n), and all that is asked for needs {needed}: serves less\n"
+    if ended != 0 or hides_port(told) != f"{less}peer_front: serves {text}\n":
+        failures += 1
+        print("files", files, "words", words, "status", ended, "told", repr(told), "wanted", repr(text))
+
 for words in TAKEN_WORDS:
-    run = subprocess.Popen([PROGRAM] + HERE + words, stdout=subprocess.PIPE)
+    run = subprocess.Popen([PROGRAM] + ([] if "--listen" in words else HERE) + words, stdout=subprocess.PIPE)
     line = run.stdout.readline()
     run.kill()
     run.wait()
@@ -162,5 +195,5 @@ for words in TAKEN_WORDS:
 
 for name in (GOOD, BAD, TWICE, LARGE, ECHO):
     os.unlink(name)
-print("rows", len(ROWS) + len(STARTS) + len(TAKEN_WORDS), "failures", failures)
+print("rows", len(ROWS) + len(STARTS) + len(FEW_FILES) + len(TAKEN_WORDS), "failures", failures)
 sys.exit(1 if failures else 0)

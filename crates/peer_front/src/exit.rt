@@ -1,5 +1,6 @@
 //! How the program ends.
 
+use std::fmt::Display;
 use std::process::ExitCode;
 
 /// How the program ends.
@@ -31,4 +32,10 @@ impl Exit {
     pub fn code(self) -> ExitCode {
         ExitCode::from(self.status)
     }
+}
+
+/// Says on standard error why the program ends, and how.
+pub fn refuse<H: AllocGlobal + Eprint, T: Display>(rt: &H, why: &T, exit: Exit) -> Exit {
+    let _ = eprintln!(rt; "peer_front: {why}");
+    exit
 }

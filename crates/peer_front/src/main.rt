@@ -1,31 +1,26 @@
 //! The program: a peer server for groupcache's clients in front of HTTP services, a table, or both.
 //!
-//! It runs the server of `peer_loop` over the sources of `peer_origin`, `peer_table` and `peer_source`, which stand
-//! beside one another. Its contracts say which group has which number, and that an answer is one of the part that has the
-//! group. Each word that cannot be used is refused by a sentence that names it, before anything is bound.
+//! It runs the server of `peer_loop` over the groups of `peer_groups`, as the flags of `peer_flags` say. Each word that cannot
+//! be used is refused by a sentence that names it, before anything is bound.
 #![tactic(auto)]
 
-mod args;
-mod beside;
+mod end;
 mod exit;
-mod fetched;
-mod groups;
-mod maybe;
+mod files;
+mod names;
 mod page;
 mod running;
 mod said;
 mod serve;
-mod size;
+mod source;
 mod table;
-#[cfg(test)]
-mod tests;
 mod troubles;
 mod until_eof;
 
-use crate::args::{Options, command};
 use crate::exit::{BAD_WORD, DONE, Exit, OUT_OF_MEMORY};
-use crate::serve::serve;
+use crate::serve::{check_flags, serve};
 use clap::ArgMatches;
+use peer_flags::{Options, command};
 use std::env;
 use std::fs::Files;
 use std::io::Read;
@@ -80,7 +75,11 @@ fn run<
             return BAD_WORD;
         }
     };
-    serve(rt, &options, matches.get_strs("GROUP=URL").unwrap_or(&[]))
+    let words = matches.get_strs("GROUP=URL").unwrap_or(&[]);
+    match check_flags(rt, &options, !words.is_empty()) {
+        Ok(()) => serve(rt, &options, words),
+        Err(exit) => exit,
+    }
 }
 
 // Says that memory was refused.

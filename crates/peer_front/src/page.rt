@@ -1,7 +1,7 @@
 //! The page of counters, where one is asked for.
 
-use crate::args::{Options, PageAddress};
 use crate::exit::{CANNOT_BIND, Exit, OUT_OF_MEMORY};
+use peer_flags::{Options, PageAddress};
 use peer_stats::{StatsEnd, StatsServer, open_stats};
 use std::hash::RandomState;
 use std::io;

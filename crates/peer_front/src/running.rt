@@ -2,8 +2,10 @@
 ghost use Rattle.std.specs.Prelude.{IfSome};
 ghost use Rattle.peer_fetch.specs.Threads.{Allows};
 
+use crate::end::End;
+use crate::names::{has_names, look_up_names};
 use crate::page::Page;
-use crate::troubles::Watch;
+use crate::troubles::tell_troubles;
 use peer_fetch::FetchPlan;
 use peer_fill::Report;
 use peer_loop::{ServerFault, Settings, serve_fetching, serve_loops};
@@ -79,6 +81,73 @@ fn serve_paged<
     )
 }
 
+// Serves by this plan while the names of its services are looked up again, and ends that behind it.
+fn serve_looking_up<
+    S: Source,
+    H: AllocGlobal
+        + Net<Listener = TcpListener, Stream = TcpStream>
+        + Threads
+        + Wait
+        + Clock
+        + Sync,
+>(
+    rt: &H,
+    source: S,
+    listener: TcpListener,
+    settings: &Settings<'_>,
+    plan: FetchPlan<'_>,
+    page: Option<Page>,
+) -> Result<Report, ServerFault>
+    requires { Allows (S.answers source) plan }
+{
+    let end = End::new();
+    let end = &end;
+    let places = plan.places.each;
+    thread::scope(
+        thread::scope_env(),
+        rt,
+        move |scope| -> Result<Report, ServerFault>
+            requires { Allows (S.answers source) plan }
+        {
+            let look_up = move || look_up_names(rt, places, end);
+            let Ok(looking) = scope.spawn(look_up) else {
+                return Err(ServerFault::Refused);
+            };
+            let report = serve_paged(rt, source, listener, settings, Some(plan), page);
+            end.tell();
+            looking.join(rt);
+            report
+        },
+    )
+}
+
+// Serves, and looks names of services up again where there are some.
+fn serve_named<
+    S: Source,
+    H: AllocGlobal
+        + Net<Listener = TcpListener, Stream = TcpStream>
+        + Threads
+        + Wait
+        + Clock
+        + Sync,
+>(
+    rt: &H,
+    source: S,
+    listener: TcpListener,
+    settings: &Settings<'_>,
+    plan: Option<FetchPlan<'_>>,
+    page: Option<Page>,
+) -> Result<Report, ServerFault>
+    requires { IfSome plan (Allows (S.answers source)) }
+{
+    match plan {
+        Some(plan) if has_names(plan.places.each) => {
+            serve_looking_up(rt, source, listener, settings, plan, page)
+        }
+        plan => serve_paged(rt, source, listener, settings, plan, page),
+    }
+}
+
 /// Serves while troubles are told and the page is served, where one is asked for, and ends both behind it. Where there is a
 /// plan, threads fetch by it.
 pub fn serve_watched<
@@ -100,8 +169,8 @@ pub fn serve_watched<
 ) -> Result<Report, ServerFault>
     requires { IfSome plan (Allows (S.answers source)) }
 {
-    let watch = Watch::new();
-    let watch = &watch;
+    let end = End::new();
+    let end = &end;
     let counters = settings.counters;
     thread::scope(
         thread::scope_env(),
@@ -109,12 +178,12 @@ pub fn serve_watched<
         move |scope| -> Result<Report, ServerFault>
             requires { IfSome plan (Allows (S.answers source)) }
         {
-            let tell = move || watch.tell(rt, counters);
+            let tell = move || tell_troubles(rt, counters, end);
             let Ok(telling) = scope.spawn(tell) else {
                 return Err(ServerFault::Refused);
             };
-            let report = serve_paged(rt, source, listener, settings, plan, page);
-            watch.end();
+            let report = serve_named(rt, source, listener, settings, plan, page);
+            end.tell();
             telling.join(rt);
             report
         },

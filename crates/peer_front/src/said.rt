@@ -1,17 +1,46 @@
 //! What the program says of its serving.
 
-use crate::args::Options;
 use peer_fill::Report;
-use std::io;
+use peer_flags::Options;
+use std::fmt::{Display, Formatter};
 use std::io::Write;
 use std::net::TcpListener;
+use std::{fmt, io};
 
 /// Who fills what is asked for.
 #[derive(Clone, Copy, Debug, PartialEq, Eq)]
-pub enum Filling {
+pub enum FilledBy {
     Fetchers,
     Workers,
     Loops,
+}
+
+// A number of things, with their name as one or several of them are called.
+#[derive(Clone, Copy)]
+struct Counted<'a> {
+    number: usize,
+    one: &'a str,
+    several: &'a str,
+}
+
+impl<'a> Display for Counted<'a> {
+    fn fmt<W: fmt::Write>(&self, f: &mut Formatter<W>) -> fmt::Result {
+        let name = if self.number == 1 {
+            self.one
+        } else {
+            self.several
+        };
+        write!(f, "{} {name}", self.number)
+    }
+}
+
+// A number of things with their name.
+fn named<'a>(number: usize, one: &'a str, several: &'a str) -> Counted<'a> {
+    Counted {
+        number,
+        one,
+        several,
+    }
 }
 
 /// Says on standard error what is served, where, and by what.
@@ -20,24 +49,27 @@ pub fn say_serving<H: AllocGlobal + Eprint>(
     groups: usize,
     listener: &TcpListener,
     options: &Options<'_>,
-    filling: Filling,
+    filled_by: FilledBy,
 ) {
-    let (most, loops) = (options.connections, options.loops);
+    let groups = named(groups, "group", "groups");
+    let most = named(options.connections, "connection", "connections");
+    let loops = named(options.loops, "loop", "loops");
     let Ok(address) = listener.local_addr() else {
-        let _ = eprintln!(rt; "peer_front: serves {groups} groups at {}", options.listen);
+        let _ = eprintln!(rt; "peer_front: serves {groups} at {}", options.listen);
         return;
     };
-    let _ = match filling {
-        Filling::Fetchers => eprintln!(rt;
-            "peer_front: serves {groups} groups at {address}, {most} connections at most, on {loops} loops, and fetches on {} threads, {} values under way on each",
-            options.fetchers, options.under_way
+    let _ = match filled_by {
+        FilledBy::Fetchers => eprintln!(rt;
+            "peer_front: serves {groups} at {address}, {most} at most, on {loops}, and fetches on {}, {} under way on each",
+            named(options.fetchers, "thread", "threads"),
+            named(options.under_way, "value", "values")
         ),
-        Filling::Workers => eprintln!(rt;
-            "peer_front: serves {groups} groups at {address}, {most} connections at most, on {loops} loops and {} workers",
-            options.workers
+        FilledBy::Workers => eprintln!(rt;
+            "peer_front: serves {groups} at {address}, {most} at most, on {loops} and {}",
+            named(options.workers, "worker", "workers")
         ),
-        Filling::Loops => eprintln!(rt;
-            "peer_front: serves {groups} groups at {address}, {most} connections at most, on {loops} loops"
+        FilledBy::Loops => eprintln!(rt;
+            "peer_front: serves {groups} at {address}, {most} at most, on {loops}"
         ),
     };
 }

@@ -1,27 +1,21 @@
-//! The serving: what is served, how, and how it ends.
+//! The serving: how it is done, and how it ends.
 ghost use Rattle.std.specs.Prelude.{IfSome};
 ghost use Rattle.peer_fetch.specs.Threads.{Allows};
 
-use crate::args::Options;
-use crate::beside::Beside;
-use crate::exit::{BAD_WORD, CANNOT_BIND, DONE, Exit, NO_OUTPUT, NO_SEED, OUT_OF_MEMORY};
-use crate::fetched::{fetch_settings, fetched_of};
-use crate::groups::{FrontSource, first_in, origins_of};
-use crate::maybe::Maybe;
+use crate::exit::{BAD_WORD, CANNOT_BIND, DONE, Exit, NO_OUTPUT, NO_SEED, OUT_OF_MEMORY, refuse};
+use crate::files::within_files;
 use crate::page::page_of;
 use crate::running::serve_watched;
-use crate::said::{Filling, say_listening, say_serving, say_totals};
-use crate::table::read_table;
+use crate::said::{FilledBy, say_listening, say_serving, say_totals};
+use crate::source::{fetch_settings, source_of};
 use crate::until_eof::stop_of;
 use peer_fetch::FetchPlan;
 use peer_fill::Report;
+use peer_flags::Options;
+use peer_groups::fetched_of;
 use peer_loop::{Fillers, Limits, ServerFault, Settings, Stop};
-use peer_origin::{Origin, OriginSource};
-use peer_source::{DemoSource, Source};
-use peer_stats::{Counters, FailureSlots};
-use peer_table::TableSource;
-use std::alloc::Global;
-use std::fmt::Display;
+use peer_source::Source;
+use peer_stats::Counters;
 use std::fs::Files;
 use std::hash::RandomState;
 use std::io::Read;
@@ -31,130 +25,14 @@ use std::sync::Wait;
 use std::thread::Threads;
 use std::time::Clock;
 
-// The groups for demonstrations.
-const DEMO_GROUPS: [&str; 3] = ["echo", "square", "fill"];
-
-// Says on standard error why the program ends, and how.
-fn refuse<H: AllocGlobal + Eprint, T: Display>(rt: &H, why: &T, exit: Exit) -> Exit {
-    let _ = eprintln!(rt; "peer_front: {why}");
-    exit
-}
-
-// Says that a group is served twice.
-fn refuse_twice<H: AllocGlobal + Eprint>(rt: &H, word: &str) -> Exit {
-    let _ = eprintln!(rt; "peer_front: {word}: a group of this name is served already");
-    BAD_WORD
-}
-
-// The table that is asked for, if one is.
-fn table_of<H: AllocGlobal + Eprint + Files>(
-    rt: &H,
-    options: &Options<'_>,
-) -> Result<Option<TableSource>, Exit> {
-    let Some(path) = options.table else {
-        return Ok(None);
-    };
-    match read_table(rt, rt.alloc(), path) {
-        Ok(table) => Ok(Some(table)),
-        Err(fault) => {
-            let _ = eprintln!(rt; "peer_front: --table {path}: {fault}");
-            Err(Exit {
-                status: fault.status(),
-            })
-        }
-    }
-}
-
-// The first word whose group the table or the demonstrations have too.
-fn first_twice<'w>(
-    options: &Options<'_>,
-    table: &Option<TableSource>,
-    words: &[&'w str],
-) -> Option<&'w str> {
-    if options.demo {
-        if let Some(word) = first_in(&DemoSource, words) {
-            return Some(word);
-        }
-    }
-    match table {
-        Some(table) => first_in(table, words),
-        None => None,
-    }
-}
-
-// Whether the table has a group for demonstrations.
-fn has_demo_group(table: &Option<TableSource>) -> bool {
-    match table {
-        Some(table) => DEMO_GROUPS
-            .iter()
-            .any(|name| table.group(name.as_bytes()).is_some()),
-        None => false,
-    }
-}
-
-// The parts as one source.
-fn join<'a, H: Net<Listener = TcpListener, Stream = TcpStream> + Clock + Wait + Sync>(
-    rt: &'a H,
-    failures: &'a FailureSlots,
-    options: &Options<'_>,
-    table: Option<TableSource>,
-    origins: Vec<Origin>,
-) -> Option<FrontSource<'a, H>> {
-    let origins = OriginSource::new(rt, failures, origins, fetch_settings(options));
-    let behind = Beside::new(Maybe { source: table }, origins)?;
-    let demo = if options.demo { Some(DemoSource) } else { None };
-    Beside::new(behind, Maybe { source: demo })
-}
-
-// The source that is asked for.
-fn source_of<
-    'a,
-    H: AllocGlobal
-        + Eprint
-        + Files
-        + Net<Listener = TcpListener, Stream = TcpStream>
-        + Clock
-        + Wait
-        + Sync,
->(
-    rt: &'a H,
-    failures: &'a FailureSlots,
-    options: &Options<'_>,
-    words: &[&str],
-) -> Result<FrontSource<'a, H>, Exit> {
-    let origins = match origins_of(rt, rt.alloc(), words) {
-        Ok(origins) => origins,
-        Err(bad) => return Err(refuse(rt, &bad, BAD_WORD)),
-    };
-    let table = table_of(rt, options)?;
-    if let Some(word) = first_twice(options, &table, words) {
-        return Err(refuse_twice(rt, word));
-    }
-    if options.demo && has_demo_group(&table) {
-        return Err(refuse_twice(rt, "--demo"));
-    }
-    let Some(source) = join(rt, failures, options, table, origins) else {
-        return Err(refuse(rt, &"out of memory", OUT_OF_MEMORY));
-    };
-    match source.group_count() {
-        0 => Err(refuse(
-            rt,
-            &"nothing to serve: give GROUP=URL, --table FILE or --demo",
-            BAD_WORD,
-        )),
-        1..=64 => Ok(source),
-        _ => Err(refuse(rt, &"there are more than 64 groups", BAD_WORD)),
-    }
-}
-
 // Who fills what is asked for.
-fn filling_of(options: &Options<'_>, has_services: bool) -> Filling {
+fn who_fills(options: &Options<'_>, has_services: bool) -> FilledBy {
     if has_services {
-        Filling::Fetchers
+        FilledBy::Fetchers
     } else if options.workers > 0 {
-        Filling::Workers
+        FilledBy::Workers
     } else {
-        Filling::Loops
+        FilledBy::Loops
     }
 }
 
@@ -168,15 +46,15 @@ struct Outside<'a> {
 // How it is served.
 fn settings_of<'a>(
     options: &Options<'_>,
-    filling: Filling,
+    filled_by: FilledBy,
     seed: RandomState,
     outside: Outside<'a>,
 ) -> Settings<'a> {
     Settings {
-        fillers: match filling {
-            Filling::Fetchers => Fillers::Threads(options.fetchers),
-            Filling::Workers => Fillers::Threads(options.workers),
-            Filling::Loops => Fillers::Loops,
+        fillers: match filled_by {
+            FilledBy::Fetchers => Fillers::Threads(options.fetchers),
+            FilledBy::Workers => Fillers::Threads(options.workers),
+            FilledBy::Loops => Fillers::Loops,
         },
         loops: options.loops,
         connections: options.connections,
@@ -247,14 +125,38 @@ fn serve_source<
         Ok(page) => page,
         Err(exit) => return exit,
     };
-    let filling = filling_of(options, plan.is_some());
-    say_serving(rt, source.group_count(), &listener, options, filling);
+    let filled_by = who_fills(options, plan.is_some());
+    say_serving(rt, source.group_count(), &listener, options, filled_by);
     if say_listening(rt).is_err() {
         return NO_OUTPUT;
     }
-    let settings = settings_of(options, filling, seed, outside);
+    let settings = settings_of(options, filled_by, seed, outside);
     let served = serve_watched(rt, source, listener, &settings, plan, page);
     end_of(rt, &served)
+}
+
+/// Says that a flag cannot stand where no service is named, or where one is, if there is such a flag.
+pub fn check_flags<H: AllocGlobal + Eprint>(
+    rt: &H,
+    options: &Options<'_>,
+    has_services: bool,
+) -> Result<(), Exit> {
+    if has_services && options.workers > 0 {
+        return Err(refuse(
+            rt,
+            &"--workers is for a table and --demo alone: where a service is named, --fetchers says how many threads there are",
+            BAD_WORD,
+        ));
+    }
+    match options.for_services {
+        Some(flag) if !has_services => {
+            let _ = eprintln!(rt;
+                "peer_front: --{flag} is for services: name one, such as thumbs=http://10.0.0.7/thumbs/"
+            );
+            Err(BAD_WORD)
+        }
+        _ => Ok(()),
+    }
 }
 
 /// Serves what is asked for, or says why not.
@@ -272,13 +174,8 @@ pub fn serve<
         + Clock
         + Sync,
 >(rt: &H, options: &Options<'_>, words: &[&str]) -> Exit {
-    if options.workers > 0 && !words.is_empty() {
-        return refuse(
-            rt,
-            &"--workers is for a table and --demo alone: where a service is named, --fetchers says how many threads there are",
-            BAD_WORD,
-        );
-    }
+    let has_services = !words.is_empty();
+    let options = &within_files(rt, options, has_services);
     let counters = Counters::new();
     let source = match source_of(rt, counters.failures(), options, words) {
         Ok(source) => source,
@@ -287,10 +184,14 @@ pub fn serve<
     let (Some(fetched), Ok(stop)) = (fetched_of(rt.alloc(), &source), stop_of(rt, options)) else {
         return refuse(rt, &"out of memory, threads or descriptors", OUT_OF_MEMORY);
     };
-    let plan = if words.is_empty() {
-        None
+    let plan = if has_services {
+        Some(fetched.plan(
+            fetch_settings(options),
+            options.under_way,
+            counters.failures(),
+        ))
     } else {
-        Some(fetched.plan(options, counters.failures()))
+        None
     };
     let outside = Outside {
         counters: &counters,

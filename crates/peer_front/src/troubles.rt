@@ -1,18 +1,12 @@
 //! Lines on standard error for trouble: one for each kind of it, once a second at most.
 
+use crate::end::End;
 use peer_stats::{Counters, Counts};
 use std::sync::Wait;
-use std::sync::atomic::AtomicBool;
-use std::sync::atomic::Ordering::SeqCst;
-use std::thread::Parker;
-use std::time::{Clock, Duration, Instant};
+use std::time::{Clock, Duration};
 
-/// What ends the thread that tells of trouble.
-#[derive(Drop)]
-pub struct Watch {
-    ended: AtomicBool,
-    parker: Parker,
-}
+// The seconds between two looks.
+const BETWEEN: u64 = 1;
 
 // Tells of one kind of trouble, where there was more of it.
 fn tell<H: AllocGlobal + Eprint>(rt: &H, what: &str, before: u64, now: u64) {
@@ -51,48 +45,21 @@ fn tell_all<H: AllocGlobal + Eprint>(rt: &H, before: &Counts, now: &Counts) {
     );
 }
 
-impl Watch {
-    /// It is not ended.
-    pub fn new() -> Watch {
-        Watch {
-            ended: AtomicBool::new(false),
-            parker: Parker::new(),
+/// Tells of trouble once a second, until the end is told.
+pub fn tell_troubles<H: AllocGlobal + Eprint + Wait + Clock>(
+    rt: &H,
+    counters: &Counters,
+    end: &End,
+) {
+    let mut before = counters.read();
+    for _ in rt.forever() {
+        end.wait(rt, Duration::from_secs(BETWEEN));
+        let now = counters.read();
+        tell_all(rt, &before, &now);
+        before = now;
+        if end.is_told() {
+            return;
         }
     }
-
-    /// The thread ends once it has told of the last trouble.
-    pub fn end(&self) {
-        self.ended.store(true, SeqCst);
-        self.parker.unpark();
-    }
-
-    // Waits for a second, or for the end.
-    fn wait<H: Wait + Clock>(&self, rt: &H) {
-        let second = Duration::from_secs(1);
-        let begun = Instant::now(rt).ok();
-        for _ in rt.forever() {
-            let passed = begun.and_then(|begun| begun.elapsed(rt).ok());
-            let left = second.saturating_sub(passed.unwrap_or(second));
-            if left == Duration::ZERO || self.ended.load(SeqCst) {
-                return;
-            }
-            self.parker.park_timeout(rt, left);
-        }
-        unreachable!()
-    }
-
-    /// Tells of trouble once a second, until it is ended.
-    pub fn tell<H: AllocGlobal + Eprint + Wait + Clock>(&self, rt: &H, counters: &Counters) {
-        let mut before = counters.read();
-        for _ in rt.forever() {
-            self.wait(rt);
-            let now = counters.read();
-            tell_all(rt, &before, &now);
-            before = now;
-            if self.ended.load(SeqCst) {
-                return;
-            }
-        }
-        unreachable!()
-    }
+    unreachable!()
 }

@@ -1,6 +1,6 @@
 //! The end of standard input as the end of the server.
 
-use crate::args::Options;
+use peer_flags::Options;
 use peer_loop::Stop;
 use std::alloc::{AllocError, Global};
 use std::io::Read;
@@ -30,7 +30,9 @@ pub fn stop_of<R: Read + Send + Drop + 'static, H: AllocGlobal + Input<Reader = 
     if options.until_eof {
         let theirs = Arc::try_clone(&stop)?;
         let reader = rt.reader();
-        let _ = thread::spawn(rt, move || stop_at_end(reader, theirs));
+        if thread::spawn(rt, move || stop_at_end(reader, theirs)).is_err() {
+            return Err(AllocError);
+        }
     }
     Ok(stop)
 }

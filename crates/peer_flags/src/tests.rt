@@ -1,5 +1,6 @@
 //! Tests of the words that the program is called with: what each bad one prints.
-use crate::args::{Options, command};
+use crate::options::{Options, command};
+use crate::room::Room;
 use crate::size::bytes_of;
 use std::alloc::Global;
 use std::test::Fail;
@@ -122,6 +123,52 @@ fn a_page_has_a_port(rt: HostRuntime) -> Result<(), Fail> {
     for word in ["0", "65536", "+1", "127.0.0.1", ":9100", ""] {
         let text = format!(in alloc; "--stats {word}: {page}")?;
         right &= tells(alloc, "--stats", word, text.as_str())?;
+    }
+    assert!(rt; right);
+    Ok(())
+}
+
+// The room within so many files, and how many are opened at most.
+fn room(
+    alloc: Global,
+    words: &[&str],
+    files: usize,
+    has_services: bool,
+) -> Result<(Room, usize), Fail> {
+    let matches = command(alloc)?.try_get_matches_from(words)?;
+    match Options::of(&matches) {
+        Ok(options) => Ok((
+            options.room_within(files, has_services),
+            options.files(has_services),
+        )),
+        Err(_) => Err(Fail::new("a word that cannot be used")),
+    }
+}
+
+#[test]
+fn few_files_leave_less_room(rt: HostRuntime) -> Result<(), Fail> {
+    let usual = ["peer_front", "--listen", "127.0.0.1:1"];
+    let fetchers = ["peer_front", "--listen", "127.0.0.1:1", "--fetchers", "4"];
+    let mut right = true;
+    for (words, files, has_services, connections, under_way, most) in [
+        (usual.as_slice(), 11_124, true, 10_000, 512, 11_124),
+        (usual.as_slice(), 11_123, true, 9_999, 512, 11_124),
+        (usual.as_slice(), 1_024, true, 462, 231, 11_124),
+        (usual.as_slice(), 1_024, false, 924, 512, 10_100),
+        (usual.as_slice(), 100, true, 1, 1, 11_124),
+        (usual.as_slice(), 10_100, false, 10_000, 512, 10_100),
+        (fetchers.as_slice(), 20_000, true, 10_000, 512, 14_196),
+        (fetchers.as_slice(), 1_024, true, 468, 57, 14_196),
+    ] {
+        let seen = room(rt.alloc(), words, files, has_services)?;
+        right &= seen
+            == (
+                Room {
+                    connections,
+                    under_way,
+                },
+                most,
+            );
     }
     assert!(rt; right);
     Ok(())

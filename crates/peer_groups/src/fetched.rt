@@ -1,9 +1,8 @@
 //! What threads of their own fetch: the groups of services.
 ghost use Rattle.std.specs.Prelude.{◌≡◌, IfSome, length};
 ghost use Rattle.peer_fetch.specs.Threads.{AllowsOrigins};
-ghost use Rattle.peer_front.specs.Besides.{AnswersOrigins};
+ghost use Rattle.peer_groups.specs.Besides.{AnswersOrigins};
 
-use crate::args::Options;
 use crate::beside::Beside;
 use peer_fetch::{FetchPlan, FetchThreadSettings, Places};
 use peer_origin::{FetchSettings, OriginSource, Place};
@@ -21,18 +20,14 @@ pub struct Fetched {
     each: Vec<Place>,
 }
 
-/// How services are asked.
-pub fn fetch_settings(options: &Options<'_>) -> FetchSettings {
-    FetchSettings {
-        value: options.timeout,
-        connection_for_each: options.connection_for_each,
-        ..FetchSettings::usual()
-    }
-}
-
 impl Fetched {
-    /// How they are fetched.
-    pub fn plan<'a>(&'a self, options: &Options<'_>, failures: &'a FailureSlots) -> FetchPlan<'a>
+    /// How they are fetched, so many values at one moment by each thread.
+    pub fn plan<'a>(
+        &'a self,
+        fetch: FetchSettings,
+        under_way: usize,
+        failures: &'a FailureSlots,
+    ) -> FetchPlan<'a>
         ensures first { result.places.first ≡ self.now.first }
         ensures each { result.places.each.now ≡ self.now.each.items }
     {
@@ -42,8 +37,8 @@ impl Fetched {
                 each: self.each.as_slice(),
             },
             settings: FetchThreadSettings {
-                fetch: fetch_settings(options),
-                under_way: options.under_way,
+                fetch,
+                under_way,
                 ..FetchThreadSettings::usual()
             },
             failures,

@@ -1,6 +1,6 @@
 use Rattle.std.proofs.Common.{ap, ◌∙◌}
-use Rattle.peer_front.proofs.FetchedLemmas.{allows_origins, as_many}
-use Rattle.peer_front.proofs.fetched.fetched_of.Goals as goal
+use Rattle.peer_groups.proofs.FetchedLemmas.{allows_origins, as_many}
+use Rattle.peer_groups.proofs.fetched.fetched_of.Goals as goal
 
 pub returns : goal.returns
 returns g c =

@@ -1,8 +1,8 @@
 //! A source that may be missing.
 ghost use Rattle.std.specs.Prelude.{◌≡◌, IfSome, Err};
 ghost use Rattle.peer_source.specs.Reports.{reported};
-ghost use Rattle.peer_front.specs.Maybes.{AllowsMaybe, AnswersMaybe, count_maybe, no_group, number_maybe};
-ghost use Rattle.peer_front.specs.Maybes.{maybe_answered, maybe_limited, maybe_numbered, maybe_within};
+ghost use Rattle.peer_groups.specs.Maybes.{AllowsMaybe, AnswersMaybe, count_maybe, no_group, number_maybe};
+ghost use Rattle.peer_groups.specs.Maybes.{maybe_answered, maybe_limited, maybe_numbered, maybe_within};
 
 use peer_source::{GetFault, GroupId, Source};
 use peer_view::AllocSink;

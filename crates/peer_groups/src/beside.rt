@@ -1,7 +1,7 @@
 //! Two sources as one.
 ghost use Rattle.std.specs.Prelude.{◌≡◌, ◌+◌, ◌^◌, ◌<◌};
-ghost use Rattle.peer_front.specs.Besides.{AllowsEither, AnswersEither, number_either};
-ghost use Rattle.peer_front.specs.Besides.{either_answered, either_limited, either_numbered, either_within};
+ghost use Rattle.peer_groups.specs.Besides.{AllowsEither, AnswersEither, number_either};
+ghost use Rattle.peer_groups.specs.Besides.{either_answered, either_limited, either_numbered, either_within};
 
 use peer_source::{GetFault, GroupId, Source};
 use peer_view::AllocSink;

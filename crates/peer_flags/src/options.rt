@@ -2,6 +2,7 @@
 ghost use Rattle.std.specs.Prelude.{◌≤◌};
 
 use crate::size::{bytes_of, number_of};
+use clap::parser::ValueSource;
 use clap::{Arg, ArgAction, ArgMatches, Command};
 use std::alloc::{AllocError, Global};
 use std::fmt;
@@ -23,6 +24,9 @@ pub const MAX_CONNECTIONS: u64 = 65_536;
 
 /// The most seconds for a value.
 pub const MAX_TIMEOUT: u64 = 3600;
+
+// The flags that say how services are asked.
+const FOR_SERVICES: [&str; 4] = ["fetchers", "under-way", "timeout", "connection-for-each"];
 
 /// Why a word cannot be used.
 #[derive(Clone, Copy, Debug, PartialEq, Eq, Error)]
@@ -93,8 +97,8 @@ fn with_groups<'a>(alloc: Global, command: Command<'a>) -> Result<Command<'a>, A
         )
 }
 
-// The flags for how it is served.
-fn with_settings<'a>(alloc: Global, command: Command<'a>) -> Result<Command<'a>, AllocError> {
+// The flags for how services are asked.
+fn with_fetching<'a>(alloc: Global, command: Command<'a>) -> Result<Command<'a>, AllocError> {
     command
         .arg(flag(
             alloc,
@@ -107,9 +111,27 @@ fn with_settings<'a>(alloc: Global, command: Command<'a>) -> Result<Command<'a>,
             alloc,
             "under-way",
             "N",
-            "256",
+            "512",
             "Values of services that each of them has under way, 1 to 1024",
         ))?
+        .arg(flag(
+            alloc,
+            "timeout",
+            "SECONDS",
+            "10",
+            "How long a service may take for a value, 1 to 3600",
+        ))?
+        .arg(
+            Arg::new(alloc, "connection-for-each")
+                .long("connection-for-each")
+                .action(ArgAction::SetTrue)
+                .help("Send each request to a service on a connection of its own"),
+        )
+}
+
+// The flags for how it is served.
+fn with_serving<'a>(alloc: Global, command: Command<'a>) -> Result<Command<'a>, AllocError> {
+    command
         .arg(flag(
             alloc,
             "workers",
@@ -144,20 +166,7 @@ fn with_settings<'a>(alloc: Global, command: Command<'a>) -> Result<Command<'a>,
             "BYTES",
             "256MiB",
             "What clients may hold together of replies that they do not take, in bytes, KiB, MiB or GiB",
-        ))?
-        .arg(flag(
-            alloc,
-            "timeout",
-            "SECONDS",
-            "10",
-            "How long an origin may take for a value, 1 to 3600",
-        ))?
-        .arg(
-            Arg::new(alloc, "connection-for-each")
-                .long("connection-for-each")
-                .action(ArgAction::SetTrue)
-                .help("Send each request to an origin on a connection of its own"),
-        )
+        ))
 }
 
 // The flags for whoever runs it.
@@ -181,10 +190,13 @@ fn with_operation<'a>(alloc: Global, command: Command<'a>) -> Result<Command<'a>
 
 /// What the program can be called with.
 pub fn command<'a>(alloc: Global) -> Result<Command<'a>, AllocError> {
-    let command = Command::new(alloc, "peer_front").version("0.1.0").about(
+    let command = Command::new(alloc, "peer_front").version("0.2.0").about(
         "A peer server for groupcache's clients, in front of HTTP services, a table or both",
     );
-    with_operation(alloc, with_settings(alloc, with_groups(alloc, command)?)?)
+    let command = with_groups(alloc, command)?;
+    let command = with_fetching(alloc, command)?;
+    let command = with_serving(alloc, command)?;
+    with_operation(alloc, command)
 }
 
 /// Where the page of counters is served.
@@ -222,6 +234,8 @@ pub struct Options<'w> {
     pub connection_for_each: bool,
     pub stats: Option<PageAddress<'w>>,
     pub until_eof: bool,
+    /// The first flag given that is for services alone, without its dashes.
+    pub for_services: Option<&'static str>,
 }
 
 // The number of a flag.
@@ -303,6 +317,16 @@ fn stats<'w>(matches: &ArgMatches<'w>) -> Result<Option<PageAddress<'w>>, BadWor
     }
 }
 
+// The first flag given that is for services alone.
+fn first_for_services(matches: &ArgMatches<'_>) -> Option<&'static str> {
+    for flag in FOR_SERVICES {
+        if let Some(ValueSource::CommandLine) = matches.value_source(flag) {
+            return Some(flag);
+        }
+    }
+    None
+}
+
 impl<'w> Options<'w> {
     /// What the words say, or the first that cannot be used.
     pub fn of(matches: &ArgMatches<'w>) -> Result<Options<'w>, BadWord<'w>> {
@@ -327,6 +351,7 @@ impl<'w> Options<'w> {
             connection_for_each: matches.get_flag("connection-for-each"),
             stats: stats(matches)?,
             until_eof: matches.get_flag("until-eof"),
+            for_services: first_for_services(matches),
         })
     }
 }

@@ -6,7 +6,7 @@ use Rattle.peer_origin.specs.Places.{asked_at}
 use Rattle.peer_origin.specs.declared.origin.Origin.{Origin}
 use Rattle.peer_origin.specs.declared.place.Place.{Place}
 use Rattle.peer_fetch.specs.Threads.{AllowsOrigins}
-use Rattle.peer_front.specs.Besides.{AnswersOrigins}
+use Rattle.peer_groups.specs.Besides.{AnswersOrigins}
 
 pub allows_origins : (count origins from : ℕ) (first second : ℕ → List ℕ → Answer → Type 0) (each : List Place) → from ≡ count → length each ≡ origins
     → AllowsOrigins (AnswersOrigins count origins first second) from each

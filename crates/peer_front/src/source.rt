@@ -1,0 +1,133 @@
+//! The source that the program serves: the groups of a table, of services and of the demonstration.
+
+use crate::exit::{BAD_WORD, Exit, OUT_OF_MEMORY, refuse};
+use crate::table::read_table;
+use peer_flags::Options;
+use peer_groups::{Beside, FrontSource, Maybe, first_in, origins_of};
+use peer_origin::{FetchSettings, Origin, OriginSource};
+use peer_source::{DemoSource, Source};
+use peer_stats::FailureSlots;
+use peer_table::TableSource;
+use std::fs::Files;
+use std::net::{Net, TcpListener, TcpStream};
+use std::sync::Wait;
+use std::time::Clock;
+
+// The groups for demonstrations.
+const DEMO_GROUPS: [&str; 3] = ["echo", "square", "fill"];
+
+// Says that a group is served twice.
+fn refuse_twice<H: AllocGlobal + Eprint>(rt: &H, word: &str) -> Exit {
+    let _ = eprintln!(rt; "peer_front: {word}: a group of this name is served already");
+    BAD_WORD
+}
+
+// The table that is asked for, if one is.
+fn table_of<H: AllocGlobal + Eprint + Files>(
+    rt: &H,
+    options: &Options<'_>,
+) -> Result<Option<TableSource>, Exit> {
+    let Some(path) = options.table else {
+        return Ok(None);
+    };
+    match read_table(rt, rt.alloc(), path) {
+        Ok(table) => Ok(Some(table)),
+        Err(fault) => {
+            let _ = eprintln!(rt; "peer_front: --table {path}: {fault}");
+            Err(Exit {
+                status: fault.status(),
+            })
+        }
+    }
+}
+
+// The first word whose group the table or the demonstrations have too.
+fn first_twice<'w>(
+    options: &Options<'_>,
+    table: &Option<TableSource>,
+    words: &[&'w str],
+) -> Option<&'w str> {
+    if options.demo {
+        if let Some(word) = first_in(&DemoSource, words) {
+            return Some(word);
+        }
+    }
+    match table {
+        Some(table) => first_in(table, words),
+        None => None,
+    }
+}
+
+// Whether the table has a group for demonstrations.
+fn has_demo_group(table: &Option<TableSource>) -> bool {
+    match table {
+        Some(table) => DEMO_GROUPS
+            .iter()
+            .any(|name| table.group(name.as_bytes()).is_some()),
+        None => false,
+    }
+}
+
+/// How services are asked.
+pub fn fetch_settings(options: &Options<'_>) -> FetchSettings {
+    FetchSettings {
+        value: options.timeout,
+        connection_for_each: options.connection_for_each,
+        ..FetchSettings::usual()
+    }
+}
+
+// The parts as one source.
+fn join<'a, H: Net<Listener = TcpListener, Stream = TcpStream> + Clock + Wait + Sync>(
+    rt: &'a H,
+    failures: &'a FailureSlots,
+    options: &Options<'_>,
+    table: Option<TableSource>,
+    origins: Vec<Origin>,
+) -> Option<FrontSource<'a, H>> {
+    let origins = OriginSource::new(rt, failures, origins, fetch_settings(options));
+    let behind = Beside::new(Maybe { source: table }, origins)?;
+    let demo = if options.demo { Some(DemoSource) } else { None };
+    Beside::new(behind, Maybe { source: demo })
+}
+
+/// The source that is asked for, or why there is none, which it says.
+pub fn source_of<
+    'a,
+    H: AllocGlobal
+        + Eprint
+        + Files
+        + Net<Listener = TcpListener, Stream = TcpStream>
+        + Clock
+        + Wait
+        + Sync,
+>(
+    rt: &'a H,
+    failures: &'a FailureSlots,
+    options: &Options<'_>,
+    words: &[&str],
+) -> Result<FrontSource<'a, H>, Exit> {
+    let origins = match origins_of(rt, rt.alloc(), words) {
+        Ok(origins) => origins,
+        Err(bad) => return Err(refuse(rt, &bad, BAD_WORD)),
+    };
+    let table = table_of(rt, options)?;
+    if let Some(word) = first_twice(options, &table, words) {
+        return Err(refuse_twice(rt, word));
+    }
+    if options.demo && has_demo_group(&table) {
+        return Err(refuse_twice(rt, "--demo"));
+    }
+    let Some(source) = join(rt, failures, options, table, origins) else {
+        return Err(refuse(rt, &"out of memory", OUT_OF_MEMORY));
+    };
+    match source.group_count() {
+        0 => Err(refuse(
+            rt,
+            &"nothing to serve: give GROUP=URL, --table FILE or --demo",
+            BAD_WORD,
+        )),
+        1..=64 => Ok(source),
+        _ => Err(refuse(rt, &"there are more than 64 groups", BAD_WORD)),
+    }
+}

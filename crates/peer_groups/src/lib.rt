@@ -1,0 +1,16 @@
+//! The groups that `peer_front` serves: those of a table, of services and of the demonstration beside one another, and
+//! where threads of their own fetch the values of services.
+//!
+//! It stands on the sources of `peer_table`, `peer_origin` and `peer_source`, and on the places of `peer_fetch`. It
+//! promises that a group answers as the source that has it, and that threads fetch only for groups of services.
+#![tactic(auto)]
+
+mod beside;
+mod fetched;
+mod groups;
+mod maybe;
+
+pub use beside::Beside;
+pub use fetched::{Fetched, fetched_of};
+pub use groups::{BadGroup, FrontSource, GroupFault, first_in, origins_of};
+pub use maybe::Maybe;
