@@ -62,7 +62,7 @@ ODD_ROWS = [
     ("NO_MEMORY", [], HEAD, None, 5, "peer_serve: out of memory\n"),
     ("NO_MEMORY", [HERE, "1", "1", "1"], b"", None, 5, "peer_serve: out of memory\n"),
     ("ONE_BYTE", [], LONG * 9999, None, 6, "peer_serve: too many reads\n"),
-    ("NO_SEED", [HERE, "1", "1", "1"], b"", None, 7, "peer_serve: no random seed\n"),
+    ("NO_SEED", [HERE, "1", "1", "1"], b"", None, 3, "peer_serve: read failed\n"),
     ("NO_SEED", [], HEAD, None, 0, ""),
 ]
 

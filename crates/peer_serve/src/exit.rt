@@ -13,14 +13,14 @@ pub const USAGE: (u8, &str) = (1, "usage: peer_serve [ADDRESS WORKERS CONNS ROUN
 /// Where the address cannot be bound.
 pub const CANNOT_BIND: (u8, &str) = (2, "peer_serve: cannot bind");
 
+/// Where a read fails, also that of a random seed for the caches, without which clients could choose keys that collide.
+pub const READ_FAILED: (u8, &str) = (3, "peer_serve: read failed");
+
 /// Where standard output fails.
 pub const NO_OUTPUT: (u8, &str) = (4, "peer_serve: write failed");
 
 /// Where memory was refused.
 pub const OUT_OF_MEMORY: (u8, &str) = (5, "peer_serve: out of memory");
-
-/// Where the system gives no random seed for the caches, so that clients could choose keys that collide.
-pub const NO_SEED: (u8, &str) = (7, "peer_serve: no random seed");
 
 /// The status and the line of a connection that ended.
 pub fn exit_of(end: &End) -> (u8, &'static str)
@@ -30,7 +30,7 @@ pub fn exit_of(end: &End) -> (u8, &'static str)
     match end {
         End::Clean => SERVED,
         End::Cut => (2, "peer_serve: input ended inside a head"),
-        End::ReadFault => (3, "peer_serve: read failed"),
+        End::ReadFault => READ_FAILED,
         End::WriteFault => NO_OUTPUT,
         End::Memory | End::Worn => OUT_OF_MEMORY,
         End::Spent => (6, "peer_serve: too many reads"),

@@ -5,6 +5,8 @@
 //! have; for standard input and output, that the replies are those to what was read.
 #![tactic(auto)]
 
+ghost use Rattle.std.specs.Prelude.{◌≡◌};
+
 mod args;
 mod bind;
 mod exit;
@@ -17,17 +19,18 @@ mod totals;
 
 use crate::args::{Mode, read_args};
 use crate::bind::bind_at;
-use crate::exit::{NO_OUTPUT, NO_SEED, OUT_OF_MEMORY, SERVED, USAGE, exit_of};
+use crate::exit::{NO_OUTPUT, OUT_OF_MEMORY, READ_FAILED, SERVED, USAGE, exit_of};
 use crate::pipe::peer_pipe;
 use crate::table::table_exit;
 use crate::totals::write_totals;
 use peer_fill::Report;
 use peer_socket::peer_server;
 use peer_source::{DemoSource, Source};
-use peer_table::TableSource;
+use peer_table::{NamedTable, TableSource, TableText};
 use peer_view::{StdReader, StdWriter};
 use std::hash::RandomState;
 use std::io::Write;
+use std::marker::Brand;
 use std::net::{Net, TcpListener, TcpStream};
 use std::process::ExitCode;
 use std::random::RandomSource;
@@ -59,13 +62,18 @@ fn main(rt: HostRuntime) -> ExitCode {
                 table,
             },
         ) => {
+            let numbers = Numbers {
+                workers,
+                conns,
+                rounds,
+            };
             if table {
                 match table_of(&rt) {
-                    Ok(source) => serve(&rt, source, address, workers, conns, rounds),
+                    Ok(table) => serve(&rt, Some(table), address, numbers),
                     Err(status) => (status, ""),
                 }
             } else {
-                serve(&rt, DemoSource, address, workers, conns, rounds)
+                serve(&rt, None, address, numbers)
             }
         }
         None => match &words {
@@ -115,9 +123,23 @@ fn table_of(rt: &HostRuntime) -> Result<TableSource, u8> {
     }
 }
 
-// Serves an address.
+// How many workers and connections a server has at a time, and how many connections each of its seats takes.
+#[derive(Clone, Copy, Drop)]
+struct Numbers {
+    workers: usize,
+    conns: usize,
+    rounds: u64,
+}
+
+// Where a server listens, and the seed of its caches.
+#[derive(Drop)]
+struct Bound {
+    listener: TcpListener,
+    seed: RandomState,
+}
+
+// Serves a table, or the source for demonstrations where there is none, at an address.
 fn serve<
-    S: Source,
     H: AllocGlobal
         + Print
         + Net<Listener = TcpListener, Stream = TcpStream>
@@ -126,16 +148,9 @@ fn serve<
         + Wait
         + Clock
         + Sync,
->(
-    rt: &H,
-    source: S,
-    address: &str,
-    workers: usize,
-    conns: usize,
-    rounds: u64,
-) -> (u8, &'static str) {
+>(rt: &H, table: Option<TableSource>, address: &str, numbers: Numbers) -> (u8, &'static str) {
     let Ok(seed) = RandomState::new(rt) else {
-        return NO_SEED;
+        return READ_FAILED;
     };
     let listener = match bind_at(rt, address) {
         Ok(listener) => listener,
@@ -144,21 +159,55 @@ fn serve<
     if say_listening(rt).is_err() {
         return NO_OUTPUT;
     }
-    match peer_server(
+    let bound = Bound { listener, seed };
+    let report = match table {
+        Some(table) => serve_table::<Brand, H>(rt, table, bound, numbers),
+        None => serve_source(rt, DemoSource, bound, numbers),
+    };
+    match report {
+        Some(report) if say_totals(rt, &report) => SERVED,
+        Some(_) => NO_OUTPUT,
+        None => OUT_OF_MEMORY,
+    }
+}
+
+// Serves a table under the name of its text, by which the type of the source knows each answer.
+fn serve_table<
+    T: TableText + Send + Sync,
+    H: AllocGlobal
+        + Net<Listener = TcpListener, Stream = TcpStream>
+        + Threads
+        + Wait
+        + Clock
+        + Sync,
+>(rt: &H, table: TableSource, bound: Bound, numbers: Numbers) -> Option<Report>
+    requires { table ≡ T.text }
+{
+    serve_source(rt, NamedTable::<T>::new(table), bound, numbers)
+}
+
+// What the pool counted, or none where memory or a thread was refused.
+fn serve_source<
+    S: Source,
+    H: AllocGlobal
+        + Net<Listener = TcpListener, Stream = TcpStream>
+        + Threads
+        + Wait
+        + Clock
+        + Sync,
+>(rt: &H, source: S, bound: Bound, numbers: Numbers) -> Option<Report> {
+    let report = peer_server(
         rt,
         rt.alloc(),
         source,
-        listener,
-        workers,
-        conns,
-        rounds,
+        bound.listener,
+        numbers.workers,
+        numbers.conns,
+        numbers.rounds,
         CACHE_BYTES,
-        seed,
-    ) {
-        Ok(report) if say_totals(rt, &report) => SERVED,
-        Ok(_) => NO_OUTPUT,
-        Err(_) => OUT_OF_MEMORY,
-    }
+        bound.seed,
+    );
+    report.ok()
 }
 
 // Says that connections can come.
