@@ -63,15 +63,28 @@ CALLS_REFUSED = [
     ("wish_of_no_group", False),
     ("lane", False),
     ("read_table", False),
+    ("table_found", False),
+    ("table_missing", False),
     ("want_led", False),
     ("want_joined", False),
     ("want_many", False),
+    ("flight_share", False),
+    ("place_of", False),
+    ("place_share", False),
     ("pool_open", False),
     ("ask_led", False),
     ("ask_joined", False),
     ("ask_hit", False),
     ("run_worker", True),
     ("refill", False),
+    ("talk_whole", False),
+    ("talk_pieces", False),
+    ("talk_many", False),
+    ("talk_kept", False),
+    ("talk_faults", False),
+    ("talk_escaped", False),
+    ("talk_long", False),
+    ("talk_closing", False),
     ("serve_serial", False),
     ("serve_functional", False),
     ("serve_connection", True),
@@ -299,6 +312,50 @@ class Server:
         return self.process.returncode, out.decode(), err.decode()
 
 
+# the lines of a server that ends since a growth was refused, by its status
+ENDS = {2: "peer_serve: cannot bind\n", 4: "peer_serve: write failed\n", 5: "peer_serve: out of memory\n"}
+
+
+def server_run(tools, first, last):
+    """What one run of the server's program did, and whether that is wrong."""
+    tools.page.clear(first, last, armed=1)
+    server = Server(tools, 1, 1, 1)
+    got, reset = exchange(server.port, THREE) if server.first else (b"", False)
+    status, totals, line = server.ended()
+    refused = tools.page.get("refused")
+    whole = b"".join(REPLIES)
+    if status == 0 and not line and server.first == b"listening\n" and adds_up(totals)[0]:
+        fits = got == whole or (refused and (is_whole(got) or (reset and whole.startswith(got))))
+        return "answered whole" if got == whole else "ended a connection", not fits
+    fits = refused and not got and not totals and line == ENDS.get(status)
+    return line.strip() if fits else f"status {status}, {len(got)} bytes, {totals}{line}", not fits
+
+
+def refused_server(tools, only):
+    """The growths of the whole program: its words, the address that it binds, and the server.
+
+    A name for an address is not tried: the C library's look-up ends the process at some refused growths."""
+    if only and only != "peer_serve":
+        return
+    counts, words = [], {}
+    for title, last_of in (("growth", lambda n: n), ("all growths from", lambda n: ALWAYS)):
+        met = free = 0
+        for n in range(1, MOST):
+            word, is_wrong = server_run(tools, n, last_of(n))
+            if is_wrong:
+                note("peer_serve", f"{title} {n}: {word}")
+            words[word] = words.get(word, 0) + 1
+            if tools.page.get("refused"):
+                met, free = met + 1, 0
+            else:
+                free += 1
+            if free == RUNS_AT_ALL:
+                break
+        counts.append(met)
+    shown = ", ".join(f"{word} {words[word]}" for word in sorted(words))
+    print(f"peer_serve, by the program: {counts[0]} growths refused one by one, {counts[1]} with all behind them ({shown})", flush=True)
+
+
 def alone(count, user=ALONE):
     """A limit on threads, for a user whom they are counted for."""
 
@@ -474,6 +531,7 @@ def main():
             without_memory(tools, only)
             one_by_itself(tools, only)
             refused_pipe(tools, only)
+            refused_server(tools, only)
             refused_threads(tools, folder, only)
             if load:
                 under_load(tools, load)

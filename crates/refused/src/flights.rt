@@ -1,12 +1,12 @@
-//! The table of open flights.
+//! The table of open flights, flights and their places.
 
 use crate::seen::Seen;
 use crate::sources::ECHO;
 use crate::window;
-use peer_flight::{Ask, AskFault, Table};
+use peer_flight::{Ask, AskFault, Flight, Place, Table};
 use peer_source::DemoSource;
 use peer_view::ByteView;
-use std::alloc::Global;
+use std::alloc::{AllocError, Global};
 
 // What a want gave: whether it led, and the number of the flight. None where memory was refused.
 fn want(
@@ -88,4 +88,58 @@ pub fn want_many(alloc: Global) -> Option<Seen> {
     window::end(alloc);
     let (led, _) = table.counts();
     Some(Seen::of_many(MANY, refused, led))
+}
+
+// Whether this is the first flight, for the key `k`.
+fn is_first(flight: &Flight<DemoSource>) -> bool {
+    flight.number() == 0 && flight.group() == ECHO && flight.key().eq_bytes(b"k")
+}
+
+/// `Flight::share`.
+pub fn flight_share(alloc: Global) -> Option<Seen> {
+    let mut table = Table::<DemoSource>::new(alloc);
+    let key = ByteView::copy_of(alloc, b"k").ok()?;
+    let Ok(Ask::Led(flight, _right)) = table.want(alloc, ECHO, &key) else {
+        return None;
+    };
+    window::begin(alloc);
+    let shared = flight.share();
+    window::end(alloc);
+    let seen = match shared {
+        Ok(shared) => Seen::Answered.only_if(is_first(&shared), "another flight"),
+        Err(AllocError) => Seen::Refused,
+    };
+    Some(seen.only_if(is_first(&flight), "the flight changed"))
+}
+
+// Whether a place is that of the key `k`.
+fn is_place(place: &Place) -> bool {
+    place.group() == ECHO && place.key().eq_bytes(b"k")
+}
+
+// What was seen of a place that was given.
+fn place_seen(given: &Result<Place, AllocError>) -> Seen {
+    match given {
+        Ok(place) => Seen::Answered.only_if(is_place(place), "another place"),
+        Err(AllocError) => Seen::Refused,
+    }
+}
+
+/// `Place::of`.
+pub fn place_of(alloc: Global) -> Option<Seen> {
+    let key = ByteView::copy_of(alloc, b"k").ok()?;
+    window::begin(alloc);
+    let place = Place::of(ECHO, &key);
+    window::end(alloc);
+    Some(place_seen(&place).only_if(key.eq_bytes(b"k"), "the key changed"))
+}
+
+/// `Place::share`.
+pub fn place_share(alloc: Global) -> Option<Seen> {
+    let key = ByteView::copy_of(alloc, b"k").ok()?;
+    let place = Place::of(ECHO, &key).ok()?;
+    window::begin(alloc);
+    let shared = place.share();
+    window::end(alloc);
+    Some(place_seen(&shared).only_if(is_place(&place), "the place changed"))
 }

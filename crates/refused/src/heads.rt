@@ -1,4 +1,4 @@
-//! Heads, their targets, lanes and tables: calls that take their memory at once.
+//! Heads, their targets and lanes: calls that take their memory at once.
 
 ghost use Rattle.std.specs.Prelude.{◌≡◌, IfSome};
 
@@ -10,9 +10,8 @@ use peer_head::{FieldPlaces, HeadBuf, Look};
 use peer_lane::{beside, lane};
 use peer_path::{PathFault, Place, locate};
 use peer_reply::{Fault, Wish, WishBody};
-use peer_source::{DemoSource, GetFault, GroupId, Names, Source};
-use peer_table::{TableFault, TableSource};
-use peer_view::{AllocSink, MemReader, PeerRead};
+use peer_source::{DemoSource, Names};
+use peer_view::{MemReader, PeerRead};
 use std::alloc::{AllocError, Global};
 
 /// `HeadBuf::new`.
@@ -144,32 +143,5 @@ pub fn lane_new(alloc: Global) -> Option<Seen> {
             Seen::Answered.only_if(beside(&mut put, &mut taken) == 0, "tickets are in it")
         }
         Err(AllocError) => Seen::Refused,
-    })
-}
-
-// What a table answers for a group and a key.
-fn answers(alloc: Global, table: &TableSource, group: GroupId, key: &[u8], value: &[u8]) -> bool {
-    let mut sink = AllocSink::new();
-    match table.get(alloc, group, key, &mut sink) {
-        Ok(()) => sink.into_view().eq_bytes(value),
-        Err(GetFault::Text(_) | GetFault::TooLong | GetFault::Memory) => false,
-    }
-}
-
-/// `TableSource::read_from`.
-pub fn read_table(alloc: Global) -> Option<Seen> {
-    let mut reader = reader_of(alloc, b"g\ta\t1\ng\tb\t2\nh\ta\t3\n")?;
-    window::begin(alloc);
-    let read = TableSource::read_from(alloc, &mut reader, 10);
-    window::end(alloc);
-    Some(match read {
-        Ok(table) => {
-            let same = answers(alloc, &table, GroupId { number: 0 }, b"a", b"1")
-                && answers(alloc, &table, GroupId { number: 0 }, b"b", b"2")
-                && answers(alloc, &table, GroupId { number: 1 }, b"a", b"3");
-            Seen::Answered.only_if(same, "another table")
-        }
-        Err(TableFault::Memory) => Seen::Refused,
-        Err(_) => Seen::Wrong("a fault that is none"),
     })
 }

@@ -13,6 +13,9 @@ mod refusing;
 mod seen;
 mod servers;
 mod sources;
+mod tables;
+mod talking;
+mod talks;
 mod uses;
 mod views;
 mod window;
@@ -23,6 +26,7 @@ use crate::pools::Before;
 use crate::seen::Seen;
 use crate::servers::Which;
 use crate::sources::{ECHO, FILL, SQUARE};
+use crate::talks::Talk;
 use crate::uses::{Call, over_pool};
 use crate::views::Set;
 use std::alloc::Global;
@@ -78,7 +82,25 @@ fn see<
         "peer_server" => servers::server(rt, alloc, Which::Any),
         "peer_server_first" => servers::server(rt, alloc, Which::First),
         "without_pool" => without::pool(rt, alloc),
-        _ => see_view(alloc, name),
+        _ => match talk_of(name) {
+            Some(what) => over_pool(rt, alloc, Call::Talk(what)),
+            None => see_view(alloc, name),
+        },
+    }
+}
+
+// The talk of this name.
+fn talk_of(name: &str) -> Option<Talk> {
+    match name {
+        "talk_whole" => Some(Talk::Whole),
+        "talk_pieces" => Some(Talk::Pieces),
+        "talk_many" => Some(Talk::Many),
+        "talk_kept" => Some(Talk::Kept),
+        "talk_faults" => Some(Talk::Faults),
+        "talk_escaped" => Some(Talk::Escaped),
+        "talk_long" => Some(Talk::Long),
+        "talk_closing" => Some(Talk::Closing),
+        _ => None,
     }
 }
 
@@ -115,6 +137,9 @@ fn see_source(alloc: Global, name: &str) -> Option<Seen> {
         "want_led" => flights::want_one(alloc, false),
         "want_joined" => flights::want_one(alloc, true),
         "want_many" => flights::want_many(alloc),
+        "flight_share" => flights::flight_share(alloc),
+        "place_of" => flights::place_of(alloc),
+        "place_share" => flights::place_share(alloc),
         _ => see_head(alloc, name),
     }
 }
@@ -127,7 +152,9 @@ fn see_head(alloc: Global, name: &str) -> Option<Seen> {
         "wish_of" => heads::wish_escaped(alloc),
         "wish_of_no_group" => heads::wish_no_group(alloc),
         "lane" => heads::lane_new(alloc),
-        "read_table" => heads::read_table(alloc),
+        "read_table" => tables::read_table(alloc),
+        "table_found" => tables::found(alloc),
+        "table_missing" => tables::missing(alloc),
         _ => see_without(alloc, name),
     }
 }

@@ -79,8 +79,8 @@ fn usual_counts(before: Before) -> [u64; 4] {
     }
 }
 
-// Asks for the key `k`, and lets go of the claim.
-fn ask_once<L: Ledger, R: Wait>(
+/// Asks for the key `k`, and lets go of the claim. None where memory was refused.
+pub fn ask_once<L: Ledger, R: Wait>(
     rt: &R,
     alloc: Global,
     pool: &Pool<DemoSource, L>,

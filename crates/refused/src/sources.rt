@@ -2,7 +2,7 @@
 
 use crate::seen::Seen;
 use crate::window;
-use peer_source::{DemoSource, Fill, GroupId, MainCache, Outcome, Source};
+use peer_source::{DemoSource, Evicted, Fill, GroupId, MainCache, Outcome, Source};
 use peer_view::ByteView;
 use std::alloc::{AllocError, Global};
 use test_support::seed;
@@ -91,31 +91,28 @@ fn keep(alloc: Global, cache: &mut MainCache<DemoSource>, letter: u8) -> Option<
 }
 
 // Whether a cache keeps this letter and not the other.
-fn keeps(alloc: Global, cache: &mut MainCache<DemoSource>, one: u8, other: u8) -> Option<bool> {
-    let there = ByteView::copy_of(alloc, &[one]).ok()?;
-    let gone = ByteView::copy_of(alloc, &[other]).ok()?;
-    let found = match cache.get(&there).ok()? {
+fn keeps(cache: &mut MainCache<DemoSource>, one: u8, other: u8) -> Option<bool> {
+    let found = match cache.get(&[one]).ok()? {
         Some(fill) => finds(&fill, &[one]),
         None => false,
     };
-    Some(found && cache.get(&gone).ok()?.is_none() && cache.len() == 2 && cache.bytes() == 4)
+    Some(found && cache.get(&[other]).ok()?.is_none() && cache.len() == 2 && cache.bytes() == 4)
 }
 
 /// `MainCache::get`. The entry comes to the front only where its fill is given: else it is the next to go.
 pub fn cache_get(alloc: Global) -> Option<Seen> {
     let mut cache = cache_with(alloc, b"ab")?;
-    let key = ByteView::copy_of(alloc, b"a").ok()?;
     window::begin(alloc);
-    let got = cache.get(&key);
+    let got = cache.get(b"a");
     window::end(alloc);
     keep(alloc, &mut cache, b'c')?;
     Some(match got {
         Ok(Some(fill)) => Seen::Answered
             .only_if(finds(&fill, b"a"), "another value")
-            .only_if(keeps(alloc, &mut cache, b'a', b'b')?, "it is not in front"),
+            .only_if(keeps(&mut cache, b'a', b'b')?, "it is not in front"),
         Ok(None) => Seen::Wrong("the value was not there"),
         Err(AllocError) => Seen::Refused.only_if(
-            keeps(alloc, &mut cache, b'b', b'a')?,
+            keeps(&mut cache, b'b', b'a')?,
             "the order changed",
         ),
     })
@@ -130,12 +127,9 @@ pub fn cache_add(alloc: Global) -> Option<Seen> {
     let added = cache.add(&fill, &mut evicted);
     window::end(alloc);
     Some(match added {
-        Ok(()) => Seen::Answered.only_if(
-            keeps(alloc, &mut cache, b'c', b'a')?,
-            "not what was added",
-        ),
+        Ok(()) => Seen::Answered.only_if(keeps(&mut cache, b'c', b'a')?, "not what was added"),
         Err(AllocError) => Seen::Refused.only_if(
-            keeps(alloc, &mut cache, b'a', b'c')?,
+            keeps(&mut cache, b'a', b'c')?,
             "the cache changed",
         ),
     })
@@ -149,7 +143,7 @@ const MANY: u8 = 100;
 fn add_many(
     cache: &mut MainCache<DemoSource>,
     fills: &[Fill<DemoSource>],
-    evicted: &mut Vec<(ByteView, ByteView)>,
+    evicted: &mut Evicted,
 ) -> Option<u64> {
     let mut refused: u64 = 0;
     for fill in fills {

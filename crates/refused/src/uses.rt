@@ -5,6 +5,8 @@ ghost use Rattle.peer_fill.specs.Pools.{IsConnSeatOf, IsFillSeatOf};
 use crate::connections::connection;
 use crate::pools::{Before, CACHE_BYTES, adds_up, ask, refill, work};
 use crate::seen::Seen;
+use crate::talking::talk;
+use crate::talks::Talk;
 use crate::{window, without};
 use peer_fill::{ConnSeat, FillSeat, Pool, Report, pop_conn};
 use peer_source::DemoSource;
@@ -22,6 +24,8 @@ pub enum Call {
     Work,
     Refill,
     Connection,
+    /// The calls of an exchange.
+    Talk(Talk),
     /// The calls that take no memory.
     Without,
 }
@@ -32,8 +36,16 @@ impl Call {
         match self {
             Call::Ask(_) | Call::Refill => true,
             Call::Work => report.led == 1 && report.calls == 1 && report.left == 0,
-            Call::Connection => report.left == 0,
+            Call::Connection | Call::Talk(_) => report.left == 0,
             Call::Without => report.left == 1,
+        }
+    }
+
+    // How many bytes each cache of its pool keeps.
+    fn cache_bytes(self) -> u64 {
+        match self {
+            Call::Talk(what) => what.cache_bytes(),
+            _ => CACHE_BYTES,
         }
     }
 }
@@ -56,6 +68,7 @@ fn make<L: Ledger + Send + Sync, H: Threads + Wait + Sync>(
         Call::Ask(before) => ask(rt, alloc, pool, fills, &mut conn, before),
         Call::Work => work(rt, alloc, pool, fills, &mut conn),
         Call::Refill => refill(rt, alloc, pool, &mut conn),
+        Call::Talk(what) => talk(rt, alloc, pool, fills, &mut conn, what),
         Call::Without => without::calls(rt, alloc, pool, &mut conn),
         Call::Connection => return connection(rt, alloc, pool, fills, conn),
     };
@@ -100,7 +113,7 @@ fn over_ledger<L: Ledger + Send + Sync, H: Threads + Wait + Sync>(
     requires name { blank.name ≡ L.name }
     requires parts { (blank.parts ≡ L.parts) × (blank.parts ≡ 16) }
 {
-    let opened = open_pool::<DemoSource, L>(alloc, DemoSource, CACHE_BYTES, 1, 1, blank);
+    let opened = open_pool::<DemoSource, L>(alloc, DemoSource, call.cache_bytes(), 1, 1, blank);
     let Some((pool, mut lists)) = opened else {
         return None;
     };

@@ -1,0 +1,281 @@
+//! An exchange that is talked to, over a pool in one thread: bytes come, jobs are filled between the calls, and what goes is
+//! compared with the replies that are expected. It takes no memory of its own.
+ghost use Rattle.std.specs.Prelude.{◌≡◌, All};
+ghost use Rattle.peer_fill.specs.Pools.{source_of, IsConnSeatOf, IsFillSeatOf};
+
+use crate::pools::{ask_once, counts};
+use crate::seen::Seen;
+use crate::talks::{Script, Talk};
+use crate::window;
+use peer_conn::{End, Exchange, GivenUp};
+use peer_fill::{ConnSeat, FillSeat, NoGate, Pool, pop_fill};
+use peer_source::DemoSource;
+use std::alloc::Global;
+use std::cmp::min;
+use std::sync::Wait;
+use std::sync::ledger::Ledger;
+use test_support::push_fill;
+
+// More turns than any talk needs.
+const TURNS: usize = 1000;
+
+// More jobs than any talk leads to.
+const JOBS: usize = 256;
+
+// A connection, and how far the talk went.
+#[derive(Drop)]
+struct Talking<'p, 't> {
+    exchange: Exchange<'p, DemoSource>,
+    // What did not come yet.
+    rest: &'t [u8],
+    // The replies that did not go yet.
+    replies: &'t [u8],
+    // How many bytes come and go at a time at most.
+    step: usize,
+    // How many bytes went.
+    sent: usize,
+    // Whether they were those of the replies.
+    right: bool,
+}
+
+impl<'p, 't> Talking<'p, 't> {
+    // Some of the text comes, or the client's end behind it.
+    fn feed(&mut self) -> Result<(), GivenUp>
+        ensures { self.new.exchange.names ≡ self.old.exchange.names }
+    {
+        if !self.exchange.takes_bytes() {
+            return Ok(());
+        }
+        let rest = self.rest;
+        if rest.is_empty() {
+            self.exchange.end();
+            return Ok(());
+        }
+        match self.exchange.receive(&rest[..min(self.step, rest.len())]) {
+            Ok(n) => {
+                self.rest = &rest[n..];
+                Ok(())
+            }
+            Err(why) => Err(why),
+        }
+    }
+
+    // Some of the output goes, and is compared.
+    fn take(&mut self)
+        ensures { self.new.exchange.names ≡ self.old.exchange.names }
+    {
+        let n = min(self.step, self.exchange.output().len());
+        match self.replies.strip_prefix(&self.exchange.output()[..n]) {
+            Some(rest) => self.replies = rest,
+            None => self.right = false,
+        }
+        self.sent = self.sent.saturating_add(n);
+        self.exchange.sent(n);
+    }
+
+    // All of the output goes.
+    fn take_all(&mut self) {
+        for _ in 0..TURNS {
+            if self.exchange.output().is_empty() {
+                break;
+            }
+            self.take();
+        }
+    }
+
+    // Some of the text comes, what can be asked is, the jobs are filled, and what can be answered is, of which some goes.
+    fn turn<L: Ledger, R: Wait>(
+        &mut self,
+        rt: &R,
+        alloc: Global,
+        pool: &Pool<DemoSource, L>,
+        fill: &mut FillSeat<DemoSource, L>,
+        conn: &mut ConnSeat<DemoSource, L>,
+    ) -> Result<(), GivenUp>
+        requires names { self.old.exchange.names ≡ source_of pool.now }
+        requires fill { IsFillSeatOf pool.now fill.old }
+        requires conn { IsConnSeatOf pool.now conn.old }
+        ensures names { self.new.exchange.names ≡ source_of pool.now }
+        ensures fill { IsFillSeatOf pool.now fill.new }
+        ensures conn { IsConnSeatOf pool.now conn.new }
+    {
+        self.feed()?;
+        let _rest = self.exchange.ask_held(rt, pool, conn)?;
+        let _filled = pool.work_some(rt, alloc, fill, JOBS, &NoGate);
+        let _none_left = pool.put_left(rt, conn);
+        self.exchange.answer_ready(pool, conn)?;
+        self.take();
+        Ok(())
+    }
+
+    // Turns until it is over, or is given up, and why.
+    fn go_on<L: Ledger, R: Wait>(
+        &mut self,
+        rt: &R,
+        alloc: Global,
+        pool: &Pool<DemoSource, L>,
+        fill: &mut FillSeat<DemoSource, L>,
+        conn: &mut ConnSeat<DemoSource, L>,
+    ) -> Option<GivenUp>
+        requires names { self.old.exchange.names ≡ source_of pool.now }
+        requires fill { IsFillSeatOf pool.now fill.old }
+        requires conn { IsConnSeatOf pool.now conn.old }
+        ensures names { self.new.exchange.names ≡ source_of pool.now }
+        ensures fill { IsFillSeatOf pool.now fill.new }
+        ensures conn { IsConnSeatOf pool.now conn.new }
+    {
+        for _ in 0..TURNS {
+            if let Err(why) = self.turn(rt, alloc, pool, fill, conn) {
+                return Some(why);
+            }
+            if self.exchange.is_over() {
+                return None;
+            }
+        }
+        None
+    }
+
+    // Whether it takes no more bytes, and asks and answers nothing more.
+    fn rests<L: Ledger, R: Wait>(
+        &mut self,
+        rt: &R,
+        pool: &Pool<DemoSource, L>,
+        conn: &mut ConnSeat<DemoSource, L>,
+    ) -> bool
+        requires names { self.old.exchange.names ≡ source_of pool.now }
+        requires conn { IsConnSeatOf pool.now conn.old }
+        ensures { IsConnSeatOf pool.now conn.new }
+    {
+        let counted = counts(conn);
+        let held = self.exchange.held();
+        let asked = self.exchange.ask_held(rt, pool, conn).is_ok();
+        let answered = self.exchange.answer_ready(pool, conn).is_ok();
+        let same = counts(conn) == counted && self.exchange.held() == held;
+        asked && answered && same && !self.exchange.takes_bytes()
+    }
+
+    // What it was seen to do, by how it ended.
+    fn seen(&self, script: &Script, given_up: Option<GivenUp>) -> Seen {
+        let seen = match (given_up, self.exchange.ended()) {
+            (None, Some(End::Clean)) => {
+                Seen::Answered.only_if(self.replies.is_empty(), "clean without all replies")
+            }
+            (Some(GivenUp::Memory), Some(End::Memory)) => Seen::Refused.only_if(
+                script.is_whole(self.sent),
+                "not a number of whole replies",
+            ),
+            _ => Seen::Wrong("another end"),
+        };
+        seen.only_if(self.right, "other replies")
+    }
+}
+
+// One connection of these seats, from its first byte to its end.
+fn connect<L: Ledger, R: Wait>(
+    rt: &R,
+    alloc: Global,
+    pool: &Pool<DemoSource, L>,
+    fill: &mut FillSeat<DemoSource, L>,
+    conn: &mut ConnSeat<DemoSource, L>,
+    script: &Script,
+    step: usize,
+) -> Seen
+    requires fill { IsFillSeatOf pool.now fill.old }
+    requires conn { IsConnSeatOf pool.now conn.old }
+    ensures fill { IsFillSeatOf pool.now fill.new }
+    ensures conn { IsConnSeatOf pool.now conn.new }
+{
+    let mut talking = Talking {
+        exchange: Exchange::new(alloc, pool.source()),
+        rest: &script.text,
+        replies: &script.replies,
+        step,
+        sent: 0,
+        right: true,
+    };
+    let given_up = talking.go_on(rt, alloc, pool, fill, conn);
+    let rests = talking.rests(rt, pool, conn);
+    talking.take_all();
+    talking
+        .seen(script, given_up)
+        .only_if(rests, "it goes on behind its end")
+}
+
+// Fills the key `k` where its value is to be kept, and makes the room that a worker's seat has from its first job on. None
+// where memory was refused.
+fn prepare<L: Ledger, R: Wait>(
+    rt: &R,
+    alloc: Global,
+    pool: &Pool<DemoSource, L>,
+    fill: &mut FillSeat<DemoSource, L>,
+    conn: &mut ConnSeat<DemoSource, L>,
+    what: Talk,
+) -> Option<()>
+    requires fill { IsFillSeatOf pool.now fill.old }
+    requires conn { IsConnSeatOf pool.now conn.old }
+    ensures fill { IsFillSeatOf pool.now fill.new }
+    ensures conn { IsConnSeatOf pool.now conn.new }
+{
+    if what.is_kept() {
+        ask_once(rt, alloc, pool, conn)?;
+    }
+    let _filled = pool.work_some(rt, alloc, fill, JOBS, &NoGate);
+    if what.is_kept() && pool.cached_bytes(rt) == 0 {
+        return None;
+    }
+    Some(())
+}
+
+// What was seen. Where nothing was refused, the counts have to be the usual ones.
+fn judged(seen: Seen, usual: bool) -> Seen {
+    match seen {
+        Seen::Answered => seen.only_if(usual, "the counts do not fit"),
+        _ => seen,
+    }
+}
+
+// Talks with growths counted. The next connection of the same seats is then answered whole.
+fn twice<L: Ledger, R: Wait>(
+    rt: &R,
+    alloc: Global,
+    pool: &Pool<DemoSource, L>,
+    fill: &mut FillSeat<DemoSource, L>,
+    conn: &mut ConnSeat<DemoSource, L>,
+    what: Talk,
+) -> Option<Seen>
+    requires fill { IsFillSeatOf pool.now fill.old }
+    requires conn { IsConnSeatOf pool.now conn.old }
+    ensures fill { IsFillSeatOf pool.now fill.new }
+    ensures conn { IsConnSeatOf pool.now conn.new }
+{
+    let script = what.script(alloc)?;
+    prepare(rt, alloc, pool, fill, conn, what)?;
+    let step = what.step();
+    window::begin(alloc);
+    let seen = connect(rt, alloc, pool, fill, conn, &script, step);
+    window::end(alloc);
+    let usual = counts(conn) == what.counts();
+    let again = connect(rt, alloc, pool, fill, conn, &script, step);
+    let whole = matches!(again, Seen::Answered);
+    Some(judged(seen, usual).only_if(whole, "the next connection is not answered"))
+}
+
+/// A talk, with a worker's seat of this list.
+pub fn talk<L: Ledger, R: Wait>(
+    rt: &R,
+    alloc: Global,
+    pool: &Pool<DemoSource, L>,
+    fills: &mut Vec<FillSeat<DemoSource, L>>,
+    conn: &mut ConnSeat<DemoSource, L>,
+    what: Talk,
+) -> Option<Seen>
+    requires fills { All (IsFillSeatOf pool.now) fills.old.items }
+    requires conn { IsConnSeatOf pool.now conn.old }
+    ensures fills { All (IsFillSeatOf pool.now) fills.new.items }
+    ensures conn { IsConnSeatOf pool.now conn.new }
+{
+    let mut fill = pop_fill(pool, fills)?;
+    let seen = twice(rt, alloc, pool, &mut fill, conn, what);
+    push_fill(pool, fills, fill)?;
+    seen
+}
