@@ -2,6 +2,7 @@
 
 mod asks;
 mod brought;
+mod closing;
 mod full;
 mod gates;
 mod numbering;

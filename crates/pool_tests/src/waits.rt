@@ -67,29 +67,31 @@ const MEETINGS: u32 = 10_000;
 /// Turns that are there to take, how many were taken, and what tells of each.
 #[derive(Drop)]
 struct Meetings {
-    offered: AtomicU32,
+    offered: Mutex<u32>,
     taken: AtomicU32,
     offer: Notice,
     take: Notice,
 }
 
 impl Meetings {
+    // Takes a turn if there is one. Under the lock, since a look that another's step made fail would find nothing where a
+    // turn is, and its thread would sleep.
+    fn try_take<R: Wait>(&self, rt: &R) -> bool {
+        let mut offered = lock(rt, &self.offered);
+        let left = offered.checked_sub(1);
+        if let Some(left) = left {
+            *offered = left;
+        }
+        left.is_some()
+    }
+
     // Takes a turn, and wakes the next where more are offered.
     fn take_one<R: Wait>(&self, rt: &R) {
         let mut waiter = Waiter::new(&self.offer);
         for _ in rt.forever() {
-            let left = self.offered.load(SeqCst);
-            if left > 0
-                && self
-                    .offered
-                    .compare_exchange(left, left - 1, SeqCst, SeqCst)
-                    .is_ok()
-            {
+            if self.try_take(rt) {
                 if waiter.may_have_slept() {
-                    self.offer.acknowledge();
-                    if self.offered.load(SeqCst) > 0 {
-                        self.offer.notify_one();
-                    }
+                    self.wake_next(rt);
                 }
                 self.taken.fetch_add(1, SeqCst);
                 return self.take.notify_all();
@@ -97,6 +99,22 @@ impl Meetings {
             waiter.pause(rt);
         }
         unreachable!()
+    }
+
+    // Who was woken wakes the next one, where more is offered.
+    fn wake_next<R: Wait>(&self, rt: &R) {
+        self.offer.acknowledge();
+        if *lock(rt, &self.offered) > 0 {
+            self.offer.notify_one();
+        }
+    }
+
+    fn offer_one<R: Wait>(&self, rt: &R) {
+        {
+            let mut offered = lock(rt, &self.offered);
+            *offered = offered.wrapping_add(1);
+        }
+        self.offer.notify_one();
     }
 
     // Waits until so many turns were taken.
@@ -124,8 +142,7 @@ impl Meetings {
         for meeting in 0..MEETINGS {
             self.wait_for(rt, meeting.wrapping_mul(2));
             for _ in 0..2 {
-                self.offered.fetch_add(1, SeqCst);
-                self.offer.notify_one();
+                self.offer_one(rt);
             }
         }
     }
@@ -133,7 +150,7 @@ impl Meetings {
 
 fn hold_meetings<R: Threads + Wait + Sync>(rt: &R) -> u32 {
     let meetings = Meetings {
-        offered: AtomicU32::new(0),
+        offered: Mutex::new(0u32),
         taken: AtomicU32::new(0),
         offer: Notice::new(),
         take: Notice::new(),

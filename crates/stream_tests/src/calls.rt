@@ -16,7 +16,6 @@ use std::sync::atomic::AtomicU64;
 use std::sync::atomic::Ordering::SeqCst;
 use std::test::Fail;
 use std::thread::Threads;
-use test_support::Step;
 
 // How often the source was called, how often the report says so, and how often the pool was asked.
 #[derive(Clone, Copy, Debug, PartialEq, Eq)]
@@ -66,7 +65,7 @@ fn counts_of<G: Gate, H: Threads + Wait + Sync>(
 
 #[test]
 fn fills_in_the_other_order_are_each_called_for_once(rt: HostRuntime) -> Result<(), Fail> {
-    let gate = Holding { put: Step::new() };
+    let gate = Holding::new();
     let counts = counts_of(&rt, rt.alloc(), &gate, 0, TWO)?;
     let expected = Counts {
         called: 2,

@@ -1,9 +1,17 @@
 //! Replies that close their connection.
 
 use crate::runs::{READS, demand_all_ways, served, whole};
-use crate::texts::{FOUND_K_LAST, Then, Told, reply};
+use crate::texts::FOUND_K_LAST;
 use peer_conn::End;
 use std::test::Fail;
+
+/// GET of the key `a` of the group `echo`, which closes its connection.
+pub const ASK_A_LAST: &[u8] =
+    b"GET /_groupcache/echo/a HTTP/1.1\r\nHost: h\r\nConnection: close\r\n\r\n";
+
+/// Its reply.
+pub const FOUND_A_LAST: &[u8] =
+    b"HTTP/1.1 200 OK\r\nContent-Type: application/x-protobuf\r\nContent-Length: 3\r\nConnection: close\r\n\r\n\x0A\x01a";
 
 #[test]
 fn nothing_follows_a_closing_reply(rt: HostRuntime) -> Result<(), Fail> {
@@ -27,13 +35,6 @@ fn the_older_version_closes(rt: HostRuntime) -> Result<(), Fail> {
 }
 
 #[test]
-fn the_value_is_written_out(rt: HostRuntime) -> Result<(), Fail> {
-    let reply = reply(rt.alloc(), Then::Closes, Told::Value(b"\x0A\x01k"))?;
-    assert_eq!(rt; reply.as_slice(), FOUND_K_LAST);
-    Ok(())
-}
-
-#[test]
 fn a_fault_of_a_target_closes_as_its_head_says(rt: HostRuntime) -> Result<(), Fail> {
     let asked = b"POST /other HTTP/1.1\r\nHost: h\r\nconnection: close\r\n\r\n";
     demand_all_ways(
@@ -47,9 +48,8 @@ fn a_fault_of_a_target_closes_as_its_head_says(rt: HostRuntime) -> Result<(), Fa
 
 #[test]
 fn nothing_is_read_behind_a_closing_reply(rt: HostRuntime) -> Result<(), Fail> {
-    let asked = b"GET /_groupcache/echo/k HTTP/1.1\r\nHost: h\r\nConnection: close\r\n\r\n";
-    let served = served(rt.alloc(), whole(rt.alloc(), asked)?, true, READS);
+    let served = served(rt.alloc(), whole(rt.alloc(), ASK_A_LAST)?, true, READS);
     assert_eq!(rt; served.end, End::Clean);
-    assert_eq!(rt; served.writer.taken(), FOUND_K_LAST);
+    assert_eq!(rt; served.writer.taken(), FOUND_A_LAST);
     Ok(())
 }

@@ -3,6 +3,7 @@
 use crate::demos::is_told;
 use crate::ends::{THREE, THREE_REPLIES};
 use crate::runs::{READS, by_bytes, served, served_into, whole};
+use crate::values::GO_REQUEST;
 use peer_conn::End;
 use std::alloc::Global;
 use std::test::Fail;
@@ -49,9 +50,7 @@ fn a_writer_fails_at_each_limit(rt: HostRuntime) -> Result<(), Fail> {
 
 #[test]
 fn a_writer_fails_inside_the_status_line(rt: HostRuntime) -> Result<(), Fail> {
-    let asked =
-        b"GET /_groupcache/echo/k HTTP/1.1\r\nHost: 10.0.0.2:8000\r\nUser-Agent: Go-http-client/1.1\r\nAccept-Encoding: gzip\r\n\r\n";
-    let served = served_into(rt.alloc(), whole(rt.alloc(), asked)?, 4096, 10);
+    let served = served_into(rt.alloc(), whole(rt.alloc(), GO_REQUEST)?, 4096, 10);
     assert_eq!(rt; served.end, End::WriteFault);
     assert_eq!(rt; served.writer.taken(), b"HTTP/1.1 2".as_slice());
     Ok(())

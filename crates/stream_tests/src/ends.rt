@@ -1,7 +1,7 @@
 //! Ends of connections: cuts at every place, and reads that are used up.
 
 use crate::runs::{add_piece, by_bytes, demand, demand_all_ways, demand_within, whole};
-use crate::texts::TOO_LONG;
+use crate::texts::{ASK_K, FOUND_K, TOO_LONG, repeated};
 use peer_conn::End;
 use std::alloc::{AllocError, Global};
 use std::test::Fail;
@@ -26,8 +26,8 @@ pub const THREE_REPLIES: &[u8; 237] =
     Content-Type: application/x-protobuf\r\nContent-Length: 3\r\n\r\n\x0A\x01bHTTP/1.1 200 OK\r\n\
     Content-Type: application/x-protobuf\r\nContent-Length: 3\r\n\r\n\x0A\x01c";
 
-// A text in three pieces, or in its shorter parts where the places are past its end.
-fn thirds(
+/// A text in three pieces, or in its shorter parts where the places are past its end.
+pub fn thirds(
     alloc: Global,
     text: &[u8],
     first: usize,
@@ -75,26 +75,17 @@ fn each_beginning_gets_its_whole_replies(rt: HostRuntime) -> Result<(), Fail> {
 
 #[test]
 fn reads_are_used_up(rt: HostRuntime) -> Result<(), Fail> {
-    let (one, _) = THREE_REPLIES.as_slice().split_at(79);
-    for (reads, replies) in [
-        (100, TWO_REPLIES.as_slice()),
-        (90, TWO_REPLIES.as_slice()),
-        (89, one),
-        (0, b"".as_slice()),
-    ] {
-        demand_within(
-            &rt,
-            by_bytes(rt.alloc(), THREE)?,
-            reads,
-            replies,
-            End::Spent,
-        );
+    for (reads, count) in [(100, 2), (90, 2), (89, 1), (0, 0)] {
+        let text = repeated(rt.alloc(), ASK_K, 3)?;
+        let replies = repeated(rt.alloc(), FOUND_K, count)?;
+        let pieces = by_bytes(rt.alloc(), &text)?;
+        demand_within(&rt, pieces, reads, &replies, End::Spent);
     }
     Ok(())
 }
 
-// So many pairs, one a read.
-fn pairs(alloc: Global, count: usize) -> Result<Vec<Vec<u8>>, AllocError> {
+/// So many pairs, one a read.
+pub fn pairs(alloc: Global, count: usize) -> Result<Vec<Vec<u8>>, AllocError> {
     let mut pieces = Vec::new(alloc);
     for _ in 0..count {
         add_piece(alloc, &mut pieces, b"\r\n")?;

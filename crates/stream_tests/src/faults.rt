@@ -36,19 +36,6 @@ fn demand_closing_fault(
 }
 
 #[test]
-fn the_fault_is_written_out(rt: HostRuntime) -> Result<(), Fail> {
-    let told = Told::Text("400 Bad Request", b"bad request");
-    let reply = reply(rt.alloc(), Then::Stays, told)?;
-    assert_eq!(rt;
-        reply.as_slice(),
-        b"HTTP/1.1 400 Bad Request\r\nContent-Type: text/plain; charset=utf-8\r\nX-Content-Type-Options: nosniff\r\n\
-        Content-Length: 12\r\n\r\nbad request\n"
-            .as_slice()
-    );
-    Ok(())
-}
-
-#[test]
 fn a_key_is_needed(rt: HostRuntime) -> Result<(), Fail> {
     demand_all_ways(
         &rt,

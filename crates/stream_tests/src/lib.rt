@@ -19,6 +19,8 @@ mod closing;
 #[cfg(test)]
 mod compared;
 #[cfg(test)]
+mod cuts;
+#[cfg(test)]
 mod demos;
 #[cfg(test)]
 mod devices;
@@ -60,3 +62,5 @@ mod texts;
 mod threads;
 #[cfg(test)]
 mod values;
+#[cfg(test)]
+mod workers;

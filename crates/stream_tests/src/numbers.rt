@@ -82,8 +82,8 @@ fn finds<S: Source>(fill: &Fill<S>, value: &[u8]) -> bool {
     }
 }
 
-// Whether a claim is there, and its fill found this value.
-fn shows<S: Source>(claim: &Option<Claim<S>>, value: &[u8]) -> bool {
+/// Whether a claim is there, and its fill found this value.
+pub fn shows<S: Source>(claim: &Option<Claim<S>>, value: &[u8]) -> bool {
     let Some(claim) = claim else {
         return false;
     };

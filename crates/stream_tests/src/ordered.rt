@@ -1,27 +1,48 @@
 //! Replies come in the order of their requests, whatever the order of their fills.
 
-use crate::demos::{gated, is_told};
+use crate::demos::is_told;
 use crate::ends::{TWO, TWO_REPLIES};
-use crate::pooled::{Devices, Pooled, serve_pooled};
-use crate::runs::{READS, whole};
+use crate::pooled::{Devices, Pooled, Setup, serve_pooled};
+use crate::runs::{READS, halves, whole};
+use crate::sources::{Watch, watched_demo};
 use peer_conn::End;
 use peer_fill::{Gate, Report};
 use peer_source::GroupId;
 use peer_view::{MemReader, MemWriter};
+use std::alloc::Global;
 use std::sync::Wait;
+use std::sync::atomic::AtomicU64;
+use std::sync::atomic::Ordering::SeqCst;
 use std::test::Fail;
+use std::thread::Threads;
 use test_support::{Step, all_called};
 
-/// Holds the call for the key `a` back until the fill for the key `b` was put.
+/// Holds the call for the key `a` back until the fill for the key `b` was put, and counts the calls for each.
 #[derive(Drop)]
 pub struct Holding {
-    pub put: Step,
+    put: Step,
+    for_a: AtomicU64,
+    for_b: AtomicU64,
+}
+
+impl Holding {
+    pub const fn new() -> Holding {
+        Holding {
+            put: Step::new(),
+            for_a: AtomicU64::new(0),
+            for_b: AtomicU64::new(0),
+        }
+    }
 }
 
 impl Gate for Holding {
     fn before_call<R: Wait>(&self, _rt: &R, _group: GroupId, key: &[u8]) {
         if key == b"a".as_slice() {
+            self.for_a.fetch_add(1, SeqCst);
             self.put.wait();
+        }
+        if key == b"b".as_slice() {
+            self.for_b.fetch_add(1, SeqCst);
         }
     }
 
@@ -32,24 +53,66 @@ impl Gate for Holding {
     }
 }
 
-// What was counted, where the connection wrote these bytes and ended between two heads.
-fn counted(run: &Option<Pooled<MemReader, MemWriter>>, replies: &[u8]) -> Option<Report> {
-    match run {
-        Some(run) if is_told(&run.served, replies, End::Clean) => Some(run.report),
-        _ => None,
+// What became of a connection, and what was counted.
+#[derive(Clone, Copy, Debug, PartialEq, Eq)]
+struct Seen {
+    // Whether both replies were written in order, and the connection ended between two heads.
+    told: bool,
+    report: Report,
+    // How often the gate saw a call for each key.
+    gate: [u64; 2],
+    // How often the source was called.
+    called: u64,
+    expired: bool,
+}
+
+// What was seen of this run.
+fn seen_of(gate: &Holding, watch: &Watch, run: &Pooled<MemReader, MemWriter>) -> Seen {
+    Seen {
+        told: is_told(&run.served, TWO_REPLIES, End::Clean),
+        report: run.report,
+        gate: [gate.for_a.load(SeqCst), gate.for_b.load(SeqCst)],
+        called: watch.calls.load(SeqCst),
+        expired: gate.put.has_expired(),
+    }
+}
+
+// The same of these pieces over two workers.
+fn serve_held<H: Threads + Wait + Sync>(
+    rt: &H,
+    alloc: Global,
+    pieces: Vec<Vec<u8>>,
+) -> Option<Seen> {
+    let devices = Devices {
+        reader: MemReader::new(pieces, false),
+        writer: MemWriter::new(alloc, 65_536, None),
+        reads: READS,
+    };
+    let gate = Holding::new();
+    let watch = Watch::new();
+    let setup = Setup {
+        source: watched_demo(&watch, false),
+        cache_bytes: 0,
+        workers: 2,
+        gate: &gate,
+    };
+    match serve_pooled(rt, alloc, setup, devices) {
+        Some(run) => Some(seen_of(&gate, &watch, &run)),
+        None => None,
     }
 }
 
 #[test]
 fn a_later_fill_waits_for_an_earlier_one(rt: HostRuntime) -> Result<(), Fail> {
-    let gate = Holding { put: Step::new() };
-    let devices = Devices {
-        reader: MemReader::new(whole(rt.alloc(), TWO)?, false),
-        writer: MemWriter::new(rt.alloc(), 65_536, None),
-        reads: READS,
+    let expected = Seen {
+        told: true,
+        report: all_called(2),
+        gate: [1, 1],
+        called: 2,
+        expired: false,
     };
-    let run = serve_pooled(&rt, rt.alloc(), gated(&gate), devices);
-    assert_eq!(rt; counted(&run, TWO_REPLIES), Some(all_called(2)));
-    assert!(rt; !gate.put.has_expired());
+    let one = serve_held(&rt, rt.alloc(), whole(rt.alloc(), TWO)?);
+    let two = serve_held(&rt, rt.alloc(), halves(rt.alloc(), TWO, 45)?);
+    assert_eq!(rt; [one, two], [Some(expected); 2]);
     Ok(())
 }

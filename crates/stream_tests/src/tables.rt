@@ -1,14 +1,16 @@
 //! Tables as sources: the same bytes by one thread and over a pool.
+ghost use Rattle.std.specs.Prelude.{◌≡◌};
 
 use crate::demos::{is_served, is_told};
 use crate::pooled::{Devices, Setup, serve_pooled};
 use crate::runs::{READS, whole};
 use crate::texts::{Then, Told, add_reply, add_request};
-use peer_conn::{End, serve_serial};
+use peer_conn::{End, serve_functional, serve_serial};
 use peer_fill::NoGate;
-use peer_table::TableSource;
+use peer_table::{NamedTable, TableSource, TableText};
 use peer_view::{MemReader, MemWriter};
 use std::alloc::{AllocError, Global};
+use std::marker::Brand;
 use std::sync::Wait;
 use std::test::Fail;
 use std::thread::Threads;
@@ -76,6 +78,22 @@ fn is_written_by_one(
     is_told(&served, replies, End::Clean)
 }
 
+// The same of a table under the name of its text, so that the contract of the call says which bytes are written.
+fn is_written_by_name<T: TableText + Send + Sync>(
+    alloc: Global,
+    table: TableSource,
+    pieces: Vec<Vec<u8>>,
+    replies: &[u8],
+) -> bool
+    requires { table ≡ T.text }
+{
+    let table = NamedTable::<T>::new(table);
+    let reader = MemReader::new(pieces, false);
+    let writer = MemWriter::new(alloc, 4096, None);
+    let served = serve_functional(alloc, &table, reader, writer, READS);
+    is_told(&served, replies, End::Clean)
+}
+
 // Whether they are written over a pool of two workers.
 fn is_written_over_a_pool<H: Threads + Wait + Sync>(
     rt: &H,
@@ -105,6 +123,18 @@ fn a_table_is_answered_by_its_lines(rt: HostRuntime) -> Result<(), Fail> {
     let pieces = pieces(rt.alloc())?;
     let right = match table(rt.alloc()) {
         Some(table) => is_written_by_one(rt.alloc(), &table, pieces, &replies),
+        None => false,
+    };
+    assert!(rt; right);
+    Ok(())
+}
+
+#[test]
+fn a_named_table_is_answered_by_its_lines(rt: HostRuntime) -> Result<(), Fail> {
+    let replies = replies(rt.alloc())?;
+    let pieces = pieces(rt.alloc())?;
+    let right = match table(rt.alloc()) {
+        Some(table) => is_written_by_name::<Brand>(rt.alloc(), table, pieces, &replies),
         None => false,
     };
     assert!(rt; right);

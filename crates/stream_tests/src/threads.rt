@@ -82,8 +82,8 @@ fn add_value(alloc: Global, text: &mut Vec<u8>, number: u64) -> Result<(), Alloc
     add_reply(alloc, text, Then::Stays, Told::Value(body.as_bytes()))
 }
 
-// How often the seat asked.
-fn asked(run: &Option<Pooled<MemReader, MemWriter>>) -> Option<u64> {
+/// How often the seat asked.
+pub fn asked(run: &Option<Pooled<MemReader, MemWriter>>) -> Option<u64> {
     match run {
         Some(run) => Some(run.asked),
         None => None,
@@ -108,42 +108,41 @@ fn more_replies_than_places_come_in_order(rt: HostRuntime) -> Result<(), Fail> {
     Ok(())
 }
 
-// The text, which device fails, and what is written then, with the end.
-#[derive(Clone, Copy)]
-struct Case<'a> {
-    text: &'a [u8],
-    failing: Failing,
-    replies: &'a [u8],
-    end: End,
-}
-
-// Whether pools of so many workers do so, in one piece and byte by byte.
-fn is_right<H: Threads + Wait + Sync>(
+// Whether a writer over two workers that takes seven bytes a call, and fails at this limit, takes the bytes up to it.
+fn is_cut_at<H: Threads + Wait + Sync>(
     rt: &H,
     alloc: Global,
-    workers: usize,
-    case: &Case<'_>,
+    pieces: Vec<Vec<u8>>,
+    limit: usize,
+    end: End,
+) -> bool {
+    let devices = Devices {
+        reader: MemReader::new(pieces, false),
+        writer: MemWriter::new(alloc, 7, Some(limit)),
+        reads: READS,
+    };
+    let run = serve_pooled(rt, alloc, demo(2, 0), devices);
+    let (replies, _) = THREE_REPLIES.as_slice().split_at(limit.min(237));
+    is_served(&run, replies, end)
+}
+
+// Whether it does so in one piece and byte by byte.
+fn is_cut_both_ways<H: Threads + Wait + Sync>(
+    rt: &H,
+    alloc: Global,
+    limit: usize,
+    end: End,
 ) -> Result<bool, AllocError> {
-    let told = (case.replies, case.end);
-    let pieces = whole(alloc, case.text)?;
-    let one = is_served_over(rt, alloc, demo(workers, 0), pieces, case.failing, told);
-    let pieces = by_bytes(alloc, case.text)?;
-    let cut = is_served_over(rt, alloc, demo(workers, 4), pieces, case.failing, told);
+    let one = is_cut_at(rt, alloc, whole(alloc, THREE)?, limit, end);
+    let cut = is_cut_at(rt, alloc, by_bytes(alloc, THREE)?, limit, end);
     Ok(one && cut)
 }
 
-// Whether each limit of a writer gives the bytes up to it and a fault.
+// Whether each limit of a writer gives the bytes up to it and a fault, and one of all bytes no fault.
 fn fails_at_limits<H: Threads + Wait + Sync>(rt: &H, alloc: Global) -> Result<bool, AllocError> {
-    let mut right = true;
+    let mut right = is_cut_both_ways(rt, alloc, 237, End::Clean)?;
     for limit in 0..237 {
-        let (replies, _) = THREE_REPLIES.as_slice().split_at(limit);
-        let case = Case {
-            text: THREE,
-            failing: Failing::Writer(limit),
-            replies,
-            end: End::WriteFault,
-        };
-        right &= is_right(rt, alloc, 2, &case)?;
+        right &= is_cut_both_ways(rt, alloc, limit, End::WriteFault)?;
     }
     Ok(right)
 }
@@ -152,6 +151,21 @@ fn fails_at_limits<H: Threads + Wait + Sync>(rt: &H, alloc: Global) -> Result<bo
 fn a_writer_fails_at_each_limit(rt: HostRuntime) -> Result<(), Fail> {
     assert!(rt; fails_at_limits(&rt, rt.alloc())?);
     Ok(())
+}
+
+// Whether a reader over two workers that fails behind this text gets these replies, in one piece and byte by byte.
+fn is_read_fault<H: Threads + Wait + Sync>(
+    rt: &H,
+    alloc: Global,
+    text: &[u8],
+    replies: &[u8],
+) -> Result<bool, AllocError> {
+    let told = (replies, End::ReadFault);
+    let pieces = whole(alloc, text)?;
+    let one = is_served_over(rt, alloc, demo(2, 0), pieces, Failing::Reader, told);
+    let pieces = by_bytes(alloc, text)?;
+    let cut = is_served_over(rt, alloc, demo(2, 4), pieces, Failing::Reader, told);
+    Ok(one && cut)
 }
 
 // Whether a reader that fails behind each beginning of a text gets its whole replies.
@@ -163,14 +177,7 @@ fn fails_behind_beginnings<H: Threads + Wait + Sync>(
     for count in 0..=135 {
         let (text, _) = THREE.as_slice().split_at(count);
         let (replies, _) = THREE_REPLIES.as_slice().split_at(count / 45 * 79);
-        let (failing, end) = (Failing::Reader, End::ReadFault);
-        let case = Case {
-            text,
-            failing,
-            replies,
-            end,
-        };
-        right &= is_right(rt, alloc, 1, &case)?;
+        right &= is_read_fault(rt, alloc, text, replies)?;
     }
     Ok(right)
 }

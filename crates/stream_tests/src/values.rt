@@ -9,8 +9,8 @@ use std::sync::Wait;
 use std::test::Fail;
 use std::thread::Threads;
 
-// What Go's own client sends for the key `k` of the group `echo`.
-const GO_REQUEST: &[u8] =
+/// What Go's own client sends for the key `k` of the group `echo`.
+pub const GO_REQUEST: &[u8] =
     b"GET /_groupcache/echo/k HTTP/1.1\r\nHost: 10.0.0.2:8000\r\nUser-Agent: Go-http-client/1.1\r\nAccept-Encoding: gzip\r\n\r\n";
 
 // Demands the value with this body for GET of a target.

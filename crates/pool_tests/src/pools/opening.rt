@@ -48,3 +48,17 @@ fn the_first_fault_is_told(rt: HostRuntime) -> Result<(), Fail> {
     assert_eq!(rt; faults, [1, 1, 2, 2, 3, 3, 0]);
     Ok(())
 }
+
+#[test]
+fn each_fault_is_told_alone(rt: HostRuntime) -> Result<(), Fail> {
+    let alloc = rt.alloc();
+    let faults = [
+        fault_of::<Brand>(alloc, 3, 0, 2, Blank::new(16)),
+        fault_of::<Brand>(alloc, 3, 17, 2, Blank::new(16)),
+        fault_of::<Brand>(alloc, 3, 1, 0, Blank::new(16)),
+        fault_of::<Brand>(alloc, 3, 1, 17, Blank::new(16)),
+        fault_of::<Brand>(alloc, 65, 1, 2, Blank::new(16)),
+    ];
+    assert_eq!(rt; faults, [1, 1, 2, 2, 3]);
+    Ok(())
+}

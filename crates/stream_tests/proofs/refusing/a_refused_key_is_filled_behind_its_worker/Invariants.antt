@@ -1,4 +1,4 @@
-use Rattle.stream_tests.proofs.refusing.a_refused_key_is_filled_for_the_next_connection.Given as goal
+use Rattle.stream_tests.proofs.refusing.a_refused_key_is_filled_behind_its_worker.Given as goal
 
 abbrev pub ghosts-run : goal.ghosts-run
 ghosts-run g a = record { name = a.blank.name; parts = a.blank.parts }
