@@ -6,7 +6,6 @@ use crate::pooled::{Devices, Pooled, Setup, serve_pooled};
 use crate::runs::{READS, whole};
 use crate::sources::{Watch, watched_demo};
 use crate::tellers::{ActingReader, ActingWriter, Telling, TellingLater};
-use crate::texts::{ASK_K, repeated};
 use peer_conn::End;
 use peer_fill::{Gate, NoGate};
 use peer_view::{MemReader, MemWriter};
@@ -16,6 +15,7 @@ use std::sync::atomic::AtomicU64;
 use std::sync::atomic::Ordering::SeqCst;
 use std::test::Fail;
 use std::thread::Threads;
+use stream_model::{ASK_K, repeated};
 
 // How often the source was called, how often the report says so, and how often the pool was asked.
 #[derive(Clone, Copy, Debug, PartialEq, Eq)]

@@ -1,9 +1,9 @@
 //! Replies that close their connection.
 
 use crate::runs::{READS, demand_all_ways, served, whole};
-use crate::texts::FOUND_K_LAST;
 use peer_conn::End;
 use std::test::Fail;
+use stream_model::FOUND_K_LAST;
 
 /// GET of the key `a` of the group `echo`, which closes its connection.
 pub const ASK_A_LAST: &[u8] =

@@ -1,12 +1,12 @@
 //! Connections over texts made by chance, in pieces made by chance, beside the plain model.
 
 use crate::demos::is_told;
-use crate::dice::Dice;
-use crate::model::{Outcome, outcome_of};
 use crate::runs::{READS, served};
+use peer_conn::End;
 use std::alloc::{AllocError, Global};
 use std::process::Abort;
 use std::test::Fail;
+use stream_model::{Dice, Outcome, outcome_of};
 
 // The texts of each test.
 const TEXTS: usize = 1000;
@@ -14,7 +14,8 @@ const TEXTS: usize = 1000;
 // Whether a connection over these pieces writes what the model says, and ends so.
 fn is_as_modelled(alloc: Global, pieces: Vec<Vec<u8>>, outcome: &Outcome) -> bool {
     let served = served(alloc, pieces, false, READS);
-    is_told(&served, &outcome.replies, outcome.end)
+    let end = if outcome.is_cut { End::Cut } else { End::Clean };
+    is_told(&served, &outcome.replies, end)
 }
 
 // Demands what the model says of a text.

@@ -1,10 +1,10 @@
 //! Ends of connections: cuts at every place, and reads that are used up.
 
 use crate::runs::{add_piece, by_bytes, demand, demand_all_ways, demand_within, whole};
-use crate::texts::{ASK_K, FOUND_K, TOO_LONG, repeated};
 use peer_conn::End;
 use std::alloc::{AllocError, Global};
 use std::test::Fail;
+use stream_model::{ASK_K, FOUND_K, TOO_LONG, repeated};
 
 /// Two requests of 45 bytes.
 pub const TWO: &[u8; 90] =

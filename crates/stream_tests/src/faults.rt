@@ -1,13 +1,13 @@
 //! Texts that are refused: targets, groups, methods, lengths, hosts and heads.
 
 use crate::runs::{demand_all_ways, demand_told};
-use crate::texts::{ASK_K, FOUND_K, Then, Told, joined, reply};
 use peer_conn::End;
 use std::alloc::AllocError;
 use std::process::Abort;
 use std::sync::Wait;
 use std::test::Fail;
 use std::thread::Threads;
+use stream_model::{ASK_K, FOUND_K, Then, Told, joined, reply};
 
 // Demands a fault that stays open for GET of a target.
 fn demand_fault(

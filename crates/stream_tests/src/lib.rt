@@ -2,10 +2,9 @@
 //! and in two pieces, in one thread and over pools of workers.
 //!
 //! It stands on the connections of `peer_conn`, the pools of `peer_fill`, the source for demonstrations of
-//! `peer_source`, and the readers and writers in memory of `peer_view`. It has tests alone and promises nothing: what
-//! they expect is written down from the forms of requests and replies (RFC 9112, groupcache's `http.go`), and never
-//! taken from the program. Texts made by chance are compared with a plain, slow model, which shares no code with the
-//! connections.
+//! `peer_source`, the readers and writers in memory of `peer_view`, and the texts and the plain model of `stream_model`.
+//! It has tests alone and promises nothing: what they expect is written down from the forms of requests and replies
+//! (RFC 9112, groupcache's `http.go`), and never taken from the program.
 #![tactic(auto)]
 
 #[cfg(test)]
@@ -25,17 +24,15 @@ mod demos;
 #[cfg(test)]
 mod devices;
 #[cfg(test)]
-mod dice;
-#[cfg(test)]
 mod ends;
 #[cfg(test)]
 mod faults;
 #[cfg(test)]
+mod flushing;
+#[cfg(test)]
 mod limits;
 #[cfg(test)]
 mod many;
-#[cfg(test)]
-mod model;
 #[cfg(test)]
 mod numbers;
 #[cfg(test)]
@@ -56,8 +53,6 @@ mod stops;
 mod tables;
 #[cfg(test)]
 mod tellers;
-#[cfg(test)]
-mod texts;
 #[cfg(test)]
 mod threads;
 #[cfg(test)]

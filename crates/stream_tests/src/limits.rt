@@ -1,13 +1,13 @@
 //! The limit of a head, skipped pairs included, and the limit of its fields.
 
 use crate::runs::demand_all_ways;
-use crate::texts::{FOUND_K, TOO_LONG, Then, Told, joined, repeated, reply};
 use peer_conn::End;
 use std::alloc::{AllocError, Global};
 use std::process::Abort;
 use std::sync::Wait;
 use std::test::Fail;
 use std::thread::Threads;
+use stream_model::{FOUND_K, TOO_LONG, Then, Told, joined, repeated, reply};
 
 // So many pairs, and then a request whose field `Pad` has so many letters.
 fn padded(alloc: Global, pairs: usize, letters: usize) -> Result<Vec<u8>, AllocError> {

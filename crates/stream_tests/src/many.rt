@@ -1,10 +1,10 @@
 //! A connection has 10,000 replies at most.
 
 use crate::runs::demand_all_ways;
-use crate::texts::{ASK_K, FOUND_K, FOUND_K_LAST, repeated};
 use peer_conn::End;
 use std::alloc::{AllocError, Global};
 use std::test::Fail;
+use stream_model::{ASK_K, FOUND_K, FOUND_K_LAST, repeated};
 
 // The replies, of which the last one closes.
 fn replies(alloc: Global) -> Result<Vec<u8>, AllocError> {

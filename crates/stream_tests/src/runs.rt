@@ -2,7 +2,6 @@
 ghost use Rattle.std.specs.Prelude.{◌≤◌, ◌<◌, length};
 
 use crate::demos::{Failing, demo, is_served_over};
-use crate::texts::{Then, Told, reply, request};
 use peer_conn::{End, Served, serve_serial, serve_told};
 use peer_source::DemoSource;
 use peer_view::{MemReader, MemWriter};
@@ -10,6 +9,7 @@ use std::alloc::{AllocError, Global};
 use std::process::Abort;
 use std::sync::Wait;
 use std::thread::Threads;
+use stream_model::{Then, Told, reply, request};
 
 /// More reads than any text here needs.
 pub const READS: u64 = 1_000_000;

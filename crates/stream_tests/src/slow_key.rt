@@ -4,7 +4,6 @@ ghost use Rattle.peer_fill.specs.Pools.{IsConnSeatOf, IsFillSeatOf};
 
 use crate::demos::is_told;
 use crate::runs::{READS, whole};
-use crate::texts::{ASK_K, FOUND_K};
 use peer_conn::{End, serve_connection_functional};
 use peer_fill::{ConnSeat, Gate, Pool, pop_conn, pop_fill};
 use peer_source::{DemoSource, FunctionalSource, GroupId};
@@ -16,6 +15,7 @@ use std::sync::Wait;
 use std::sync::ledger::{Blank, Ledger};
 use std::test::Fail;
 use std::thread::{Threads, join};
+use stream_model::{ASK_K, FOUND_K};
 use test_support::{SeatLists, open_pool};
 
 // Takes a while before each call, in which those who wait fall asleep.

@@ -4,7 +4,6 @@ ghost use Rattle.std.specs.Prelude.{◌≡◌};
 use crate::demos::{is_served, is_told};
 use crate::pooled::{Devices, Setup, serve_pooled};
 use crate::runs::{READS, whole};
-use crate::texts::{Then, Told, add_reply, add_request};
 use peer_conn::{End, serve_functional, serve_serial};
 use peer_fill::NoGate;
 use peer_table::{NamedTable, TableSource, TableText};
@@ -14,6 +13,7 @@ use std::marker::Brand;
 use std::sync::Wait;
 use std::test::Fail;
 use std::thread::Threads;
+use stream_model::{Then, Told, add_reply, add_request};
 
 const LINES: &[u8] = b"a\tk\tone\na\tj\t\nb\tk\ttwo\n";
 

@@ -4,7 +4,6 @@ use crate::demos::{Failing, demo, gated, is_served, is_served_over, over_pieces}
 use crate::ends::{THREE, THREE_REPLIES};
 use crate::pooled::{Devices, Pooled, serve_pooled};
 use crate::runs::{READS, add_piece, by_bytes, whole};
-use crate::texts::{ASK_K, Then, Told, add_repeated, add_reply, add_request, repeated, request};
 use peer_conn::End;
 use peer_fill::{Gate, Report};
 use peer_source::GroupId;
@@ -13,6 +12,7 @@ use std::alloc::{AllocError, Global};
 use std::sync::Wait;
 use std::test::Fail;
 use std::thread::Threads;
+use stream_model::{ASK_K, Then, Told, add_repeated, add_reply, add_request, repeated, request};
 use test_support::{Step, all_called};
 
 // How many asks the seat of a connection counted, and the pool, for a text in one piece.

@@ -1,13 +1,13 @@
 //! Found values: keys, escapes, lengths.
 
 use crate::runs::{READS, demand_all_ways, demand_told, demand_within, served, whole};
-use crate::texts::{FOUND_K, Told, joined, request};
 use peer_conn::End;
 use std::alloc::{AllocError, Global};
 use std::process::Abort;
 use std::sync::Wait;
 use std::test::Fail;
 use std::thread::Threads;
+use stream_model::{FOUND_K, Told, joined, request};
 
 /// What Go's own client sends for the key `k` of the group `echo`.
 pub const GO_REQUEST: &[u8] =

@@ -5,7 +5,6 @@ use crate::demos::{Failing, demo, is_served, over_pieces};
 use crate::ends::{TWO, TWO_REPLIES, pairs};
 use crate::pooled::{Devices, serve_pooled};
 use crate::runs::{READS, by_bytes, whole};
-use crate::texts::{ASK_K, FOUND_K, TOO_LONG, repeated};
 use crate::threads::asked;
 use crate::values::GO_REQUEST;
 use peer_conn::End;
@@ -14,6 +13,7 @@ use std::alloc::{AllocError, Global};
 use std::sync::Wait;
 use std::test::Fail;
 use std::thread::Threads;
+use stream_model::{ASK_K, FOUND_K, TOO_LONG, repeated};
 
 // How many workers the pools have.
 const WORKERS: [usize; 3] = [1, 2, 16];
