@@ -85,6 +85,24 @@ pub fn exchange_and_end<H: AllocGlobal + Net<Listener = TcpListener, Stream = Tc
     receive(rt.alloc(), &stream)
 }
 
+/// A client that has asked once and has its reply.
+pub fn served_client<H: AllocGlobal + Net<Listener = TcpListener, Stream = TcpStream>>(
+    rt: &H,
+    address: SocketAddr,
+) -> Option<TcpStream> {
+    let stream = connect(rt, address)?;
+    if !send(&stream, ASK) {
+        return None;
+    }
+    let mut reply = [0; FOUND.len()];
+    let mut reader = &stream;
+    reader.read_exact(&mut reply).ok()?;
+    if reply.as_slice() != FOUND {
+        return None;
+    }
+    Some(stream)
+}
+
 /// Whether exactly these bytes were received.
 pub fn is_text(received: &Option<Vec<u8>>, text: &[u8]) -> bool {
     match received {

@@ -1,5 +1,6 @@
-//! Servers on event loops in threads of their own, beside their clients.
+//! Servers on event loops in threads of their own, beside their clients, with settings that only loops have.
 
+use crate::plans::{Plan, Waits, patient};
 use peer_fill::Report;
 use peer_loop::{Fillers, Limits, Settings, Stop, serve_loops};
 use peer_source::Source;
@@ -12,16 +13,15 @@ use std::thread::Threads;
 use std::time::{Clock, Duration};
 use std::{io, thread};
 
-/// Limits that a test can wait for. None of them is meant to be met: also a loop that sleeps wakes for its tick only when the
-/// client of the test has long given up.
-pub fn patient() -> Limits {
+// The limits of a server on loops.
+fn limits_of(waits: Waits) -> Limits {
     Limits {
-        tick: Duration::from_secs(60),
-        silence: Duration::from_secs(60),
-        silence_when_full: Duration::from_secs(60),
-        request_when_full: Duration::from_secs(60),
-        unread: Duration::from_secs(60),
-        linger: Duration::from_secs(10),
+        tick: waits.tick,
+        silence: waits.silence,
+        silence_when_full: waits.silence_when_full,
+        request_when_full: waits.request_when_full,
+        unread: waits.unread,
+        linger: waits.linger,
         pause: Duration::from_millis(1),
     }
 }
@@ -43,14 +43,13 @@ impl Outside {
     }
 }
 
-/// A server on so many loops, beside one worker, which accepts so many connections.
+/// A patient server on so many loops, beside one worker, which accepts so many connections.
 pub fn settings_of<'a>(
     rt: &impl RandomSource,
     outside: &'a Outside,
     loops: usize,
     connections: usize,
     accepts: u64,
-    limits: Limits,
 ) -> io::Result<Settings<'a>> {
     Ok(Settings {
         fillers: Fillers::Threads(1),
@@ -60,10 +59,36 @@ pub fn settings_of<'a>(
         accepts: Some(accepts),
         cache_bytes: 0,
         seed: RandomState::new(rt)?,
-        limits,
+        limits: limits_of(patient()),
         counters: &outside.counters,
         stop: &outside.stop,
     })
+}
+
+/// Serves on so many loops, as the plan says.
+pub fn serve_on_loops<
+    S: Source,
+    H: AllocGlobal
+        + Threads
+        + Wait
+        + Clock
+        + Sync
+        + Net<Listener = TcpListener, Stream = TcpStream>,
+>(rt: &H, source: S, listener: TcpListener, loops: usize, plan: &Plan) -> Option<Report> {
+    let outside = Outside::new();
+    let settings = Settings {
+        fillers: Fillers::Threads(plan.workers),
+        loops,
+        connections: plan.connections,
+        memory: 1_048_576,
+        accepts: Some((plan.connections as u64).saturating_mul(plan.rounds)),
+        cache_bytes: plan.cache_bytes,
+        seed: plan.seed,
+        limits: limits_of(plan.waits),
+        counters: &outside.counters,
+        stop: &outside.stop,
+    };
+    serve_loops(rt, rt.alloc(), source, listener, &settings).ok()
 }
 
 /// Serves while the clients run, and gives what both answered.

@@ -1,7 +1,8 @@
-//! Two connections, where the fill of one waits for that of the other.
+//! Two connections, where the fill of one waits for that of the other, of each server.
 
 use crate::clients::{connect, is_text, listen, receive, send};
-use crate::servers::{beside, has_asked, patient, settings_of};
+use crate::plans::{Kind, plan_of};
+use crate::servers::{beside, has_asked};
 use std::alloc::Global;
 use std::net::{Net, SocketAddr, TcpListener, TcpStream};
 use std::test::Fail;
@@ -35,15 +36,22 @@ const FOUND_A: &[u8] =
 const FOUND_B: &[u8] =
     b"HTTP/1.1 200 OK\r\nContent-Type: application/x-protobuf\r\nContent-Length: 3\r\nConnection: close\r\n\r\n\x0A\x01b";
 
-// Two clients ask at the same moment: whether each receives its reply, the later one first.
+// Two clients ask at the same moment, the one that connected later before the other where that is wanted: whether each
+// receives its reply, the later one first.
 fn ask_both<H: AllocGlobal + Net<Listener = TcpListener, Stream = TcpStream>>(
     rt: &H,
     address: SocketAddr,
+    later_first: bool,
 ) -> [bool; 2] {
     let (Some(one), Some(other)) = (connect(rt, address), connect(rt, address)) else {
         return [false; 2];
     };
-    if !send(&one, ASK_A) || !send(&other, ASK_B) {
+    let sent = if later_first {
+        send(&other, ASK_B) && send(&one, ASK_A)
+    } else {
+        send(&one, ASK_A) && send(&other, ASK_B)
+    };
+    if !sent {
         return [false; 2];
     }
     [
@@ -54,14 +62,27 @@ fn ask_both<H: AllocGlobal + Net<Listener = TcpListener, Stream = TcpStream>>(
 
 #[test]
 fn a_fill_waits_for_that_of_another_connection(rt: HostRuntime) -> Result<(), Fail> {
-    let called = Step::new();
-    let (listener, address) = listen(&rt)?;
-    let settings = settings_of(&rt, 2, 2, 1, patient())?;
-    let source = Hooked {
-        hook: Meeting { called: &called },
-    };
-    let (report, seen) = beside(&rt, source, listener, &settings, || ask_both(&rt, address));
-    assert_eq!(rt; seen, [true; 2]);
-    assert_eq!(rt; [has_asked(&report, 2), !called.has_expired()], [true; 2]);
+    for (kind, later_first) in [
+        (Kind::Usual, true),
+        (Kind::Seats, false),
+        (Kind::Loops(1), true),
+        (Kind::Loops(1), false),
+    ] {
+        let called = Step::new();
+        let (listener, address) = listen(&rt)?;
+        let plan = plan_of(&rt, 2, 2, 1)?;
+        let source = Hooked {
+            hook: Meeting { called: &called },
+        };
+        let (report, seen) = beside(&rt, source, listener, kind, &plan, || {
+            ask_both(&rt, address, later_first)
+        });
+        assert_eq!(rt; seen, [true; 2], "at {kind:?} {later_first:?}");
+        assert_eq!(rt;
+            [has_asked(&report, 2), !called.has_expired()],
+            [true; 2],
+            "at {kind:?} {later_first:?}"
+        );
+    }
     Ok(())
 }

@@ -1,61 +1,110 @@
-//! Servers in threads of their own, beside their clients.
+//! Servers of each kind in threads of their own, beside their clients.
 
+use crate::loop_servers::serve_on_loops;
+use crate::plans::{Kind, Plan, Waits};
 use peer_fill::Report;
-use peer_socket::{Limits, Settings, serve_within};
+use peer_socket::{Limits, Settings, peer_server, serve_within};
 use peer_source::Source;
-use std::hash::RandomState;
-use std::net::TcpListener;
-use std::random::RandomSource;
+use std::net::{Net, TcpListener, TcpStream};
 use std::sync::Wait;
+use std::thread;
 use std::thread::Threads;
 use std::time::{Clock, Duration};
-use std::{io, thread};
 
-/// Limits that a test can wait for. None of them is meant to be met.
-pub fn patient() -> Limits {
+// The limits of a server in threads.
+fn limits_of(waits: Waits) -> Limits {
     Limits {
         slice: Duration::from_millis(20),
-        silence: Duration::from_secs(60),
-        silence_when_full: Duration::from_secs(60),
-        request_when_full: Duration::from_secs(60),
-        unread: Duration::from_secs(60),
-        linger: Duration::from_secs(10),
+        silence: waits.silence,
+        silence_when_full: waits.silence_when_full,
+        request_when_full: waits.request_when_full,
+        unread: waits.unread,
+        linger: waits.linger,
         linger_bytes: 1_048_576,
         pause: Duration::from_millis(1),
     }
 }
 
-/// A server with these numbers, and with no cache.
-pub fn settings_of(
-    rt: &impl RandomSource,
-    workers: usize,
-    conns: usize,
-    rounds: u64,
-    limits: Limits,
-) -> io::Result<Settings> {
-    Ok(Settings {
-        workers,
-        conns,
-        rounds,
-        cache_bytes: 0,
-        seed: RandomState::new(rt)?,
-        limits,
-    })
-}
-
-/// Serves while the clients run, and gives what both answered.
-pub fn beside<S: Source, T, C: FnOnce() -> T, H: AllocGlobal + Threads + Wait + Clock + Sync>(
+// Serves in threads, with the limits of the plan.
+fn serve_on_seats<S: Source, H: AllocGlobal + Threads + Wait + Clock + Sync>(
     rt: &H,
     source: S,
     listener: TcpListener,
-    settings: &Settings,
+    plan: &Plan,
+) -> Option<Report> {
+    let settings = Settings {
+        workers: plan.workers,
+        conns: plan.connections,
+        rounds: plan.rounds,
+        cache_bytes: plan.cache_bytes,
+        seed: plan.seed,
+        limits: limits_of(plan.waits),
+    };
+    serve_within(rt, rt.alloc(), source, listener, &settings).ok()
+}
+
+// Serves in threads, with the limits for everyone.
+fn serve_as_usual<S: Source, H: AllocGlobal + Threads + Wait + Clock + Sync>(
+    rt: &H,
+    source: S,
+    listener: TcpListener,
+    plan: &Plan,
+) -> Option<Report> {
+    peer_server(
+        rt,
+        rt.alloc(),
+        source,
+        listener,
+        plan.workers,
+        plan.connections,
+        plan.rounds,
+        plan.cache_bytes,
+        plan.seed,
+    )
+    .ok()
+}
+
+// Serves as the plan says.
+fn serve<
+    S: Source,
+    H: AllocGlobal
+        + Threads
+        + Wait
+        + Clock
+        + Sync
+        + Net<Listener = TcpListener, Stream = TcpStream>,
+>(rt: &H, source: S, listener: TcpListener, kind: Kind, plan: &Plan) -> Option<Report> {
+    match kind {
+        Kind::Usual => serve_as_usual(rt, source, listener, plan),
+        Kind::Seats => serve_on_seats(rt, source, listener, plan),
+        Kind::Loops(loops) => serve_on_loops(rt, source, listener, loops, plan),
+    }
+}
+
+/// Serves while the clients run, and gives what both answered.
+pub fn beside<
+    S: Source,
+    T,
+    C: FnOnce() -> T,
+    H: AllocGlobal
+        + Threads
+        + Wait
+        + Clock
+        + Sync
+        + Net<Listener = TcpListener, Stream = TcpStream>,
+>(
+    rt: &H,
+    source: S,
+    listener: TcpListener,
+    kind: Kind,
+    plan: &Plan,
     clients: C,
 ) -> (Option<Report>, T)
     requires { C.pre clients }
 {
     thread::scope(thread::scope_env(), rt, move |scope| {
-        let serve = move || serve_within(rt, rt.alloc(), source, listener, settings).ok();
-        match scope.spawn(serve) {
+        let serving = move || serve(rt, source, listener, kind, plan);
+        match scope.spawn(serving) {
             Ok(server) => {
                 let seen = clients();
                 (server.join(rt), seen)
@@ -69,6 +118,24 @@ pub fn beside<S: Source, T, C: FnOnce() -> T, H: AllocGlobal + Threads + Wait + 
 pub fn has_asked(report: &Option<Report>, asked: u64) -> bool {
     match report {
         Some(report) => report.asked == asked && report.strangers == 0,
+        None => false,
+    }
+}
+
+/// Whether each request was a hit, led or joined, and each that led was called for, found again or left.
+pub fn has_totals(report: &Option<Report>) -> bool {
+    match report {
+        Some(report) => {
+            let asked = report
+                .hits
+                .wrapping_add(report.led)
+                .wrapping_add(report.joined);
+            let led = report
+                .calls
+                .wrapping_add(report.rehits)
+                .wrapping_add(report.left);
+            report.asked == asked && report.led == led
+        }
         None => false,
     }
 }

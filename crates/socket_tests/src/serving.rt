@@ -1,13 +1,16 @@
-//! Connections that end by themselves.
+//! Connections that end by themselves, of each server.
 
 use crate::clients::{
-    ASK, ASK_LAST, FOUND, FOUND_LAST, connect, exchange, exchange_and_end, is_text, listen, send,
+    ASK, ASK_LAST, FOUND, FOUND_LAST, connect, exchange, exchange_and_end, is_text, listen,
+    receive, send, served_client,
 };
-use crate::servers::{beside, has_asked, patient, settings_of};
-use peer_fill::OpenFault;
+use crate::plans::{Kind, Plan, plan_of};
+use crate::servers::{beside, has_asked, has_totals};
+use peer_fill::{OpenFault, Report};
 use peer_socket::{ServerFault, peer_server};
 use peer_source::DemoSource;
 use std::hash::RandomState;
+use std::net::{Net, SocketAddr, TcpListener, TcpStream};
 use std::test::Fail;
 
 // What is written is the one text and then the other.
@@ -21,31 +24,94 @@ const ASK_BOTH: &[u8] =
 
 #[test]
 fn a_client_asks_twice(rt: HostRuntime) -> Result<(), Fail> {
-    let (listener, address) = listen(&rt)?;
-    let settings = settings_of(&rt, 2, 1, 1, patient())?;
-    let (report, received) = beside(&rt, DemoSource, listener, &settings, || {
-        exchange(&rt, address, ASK_BOTH)
-    });
-    assert_eq!(rt;
-        [is_text(&received, BOTH), has_asked(&report, 2)],
-        [true; 2]
-    );
+    for (kind, cache_bytes) in [
+        (Kind::Usual, 1_048_576),
+        (Kind::Seats, 0),
+        (Kind::Loops(1), 0),
+        (Kind::Loops(1), 1_048_576),
+    ] {
+        let (listener, address) = listen(&rt)?;
+        let plan = Plan {
+            cache_bytes,
+            ..plan_of(&rt, 2, 1, 1)?
+        };
+        let (report, received) = beside(&rt, DemoSource, listener, kind, &plan, || {
+            is_text(&exchange(&rt, address, ASK_BOTH), BOTH)
+        });
+        assert_eq!(rt;
+            [received, has_asked(&report, 2), has_totals(&report)],
+            [true; 3],
+            "at {kind:?} {cache_bytes}"
+        );
+    }
+    Ok(())
+}
+
+// What is counted where one key was asked for twice, the second time behind its reply.
+const ONE_HIT: Report = Report {
+    asked: 2,
+    hits: 1,
+    led: 1,
+    joined: 0,
+    strangers: 0,
+    calls: 1,
+    rehits: 0,
+    left: 0,
+};
+
+// Whether a client that has its reply gets another one.
+fn ask_behind<H: AllocGlobal + Net<Listener = TcpListener, Stream = TcpStream>>(
+    rt: &H,
+    address: SocketAddr,
+) -> bool {
+    match served_client(rt, address) {
+        Some(stream) => {
+            send(&stream, ASK_LAST) && is_text(&receive(rt.alloc(), &stream), FOUND_LAST)
+        }
+        None => false,
+    }
+}
+
+#[test]
+fn a_value_that_was_served_is_in_the_cache(rt: HostRuntime) -> Result<(), Fail> {
+    for kind in [Kind::Usual, Kind::Seats, Kind::Loops(1)] {
+        let (listener, address) = listen(&rt)?;
+        let plan = Plan {
+            cache_bytes: 1_048_576,
+            ..plan_of(&rt, 2, 1, 1)?
+        };
+        let (report, served) = beside(&rt, DemoSource, listener, kind, &plan, || {
+            ask_behind(&rt, address)
+        });
+        assert!(rt; served, "at {kind:?}");
+        assert_eq!(rt; report, Some(ONE_HIT), "at {kind:?}");
+    }
     Ok(())
 }
 
 #[test]
-fn more_clients_than_seats(rt: HostRuntime) -> Result<(), Fail> {
-    let (listener, address) = listen(&rt)?;
-    let settings = settings_of(&rt, 1, 1, 3, patient())?;
-    let (report, seen) = beside(&rt, DemoSource, listener, &settings, || {
-        [
-            is_text(&exchange(&rt, address, ASK_LAST), FOUND_LAST),
-            is_text(&exchange_and_end(&rt, address, ASK), FOUND),
-            is_text(&exchange(&rt, address, ASK_BOTH), BOTH),
-        ]
-    });
-    assert_eq!(rt; seen, [true; 3]);
-    assert!(rt; has_asked(&report, 4));
+fn more_clients_than_connections(rt: HostRuntime) -> Result<(), Fail> {
+    for kind in [Kind::Seats, Kind::Loops(2)] {
+        let (listener, address) = listen(&rt)?;
+        let plan = plan_of(&rt, 1, 1, 3)?;
+        let (report, seen) = beside(&rt, DemoSource, listener, kind, &plan, || {
+            let (Some(one), Some(other)) = (connect(&rt, address), connect(&rt, address)) else {
+                return [false; 3];
+            };
+            let sent = send(&other, ASK_LAST) && send(&one, ASK_BOTH);
+            let first = sent && is_text(&receive(rt.alloc(), &one), BOTH);
+            drop(one);
+            let second = is_text(&receive(rt.alloc(), &other), FOUND_LAST);
+            drop(other);
+            [
+                first,
+                second,
+                is_text(&exchange_and_end(&rt, address, ASK), FOUND),
+            ]
+        });
+        assert_eq!(rt; seen, [true; 3], "at {kind:?}");
+        assert!(rt; has_asked(&report, 4), "at {kind:?}");
+    }
     Ok(())
 }
 
@@ -57,20 +123,23 @@ const ASK_LONG: &[u8] = b"GET /_groupcache/fill/1048576 HTTP/1.1\r\nHost: h\r\n\
 
 #[test]
 fn a_client_resets(rt: HostRuntime) -> Result<(), Fail> {
-    let (listener, address) = listen(&rt)?;
-    let settings = settings_of(&rt, 1, 1, 3, patient())?;
-    let (report, seen) = beside(&rt, DemoSource, listener, &settings, || {
-        let mut seen = [false; 3];
-        for resets in seen.iter_mut() {
-            *resets = match connect(&rt, address) {
-                Some(stream) => send(&stream, ASK_LONG),
-                None => false,
-            };
-        }
-        seen
-    });
-    assert_eq!(rt; seen, [true; 3]);
-    assert!(rt; report.is_some());
+    for kind in [Kind::Seats, Kind::Loops(1)] {
+        let (listener, address) = listen(&rt)?;
+        let plan = plan_of(&rt, 1, 1, 4)?;
+        let (report, seen) = beside(&rt, DemoSource, listener, kind, &plan, || {
+            let mut seen = [false; 3];
+            for resets in seen.iter_mut() {
+                *resets = match connect(&rt, address) {
+                    Some(stream) => send(&stream, ASK_LONG),
+                    None => false,
+                };
+            }
+            let served = is_text(&exchange(&rt, address, ASK_LAST), FOUND_LAST);
+            (seen, served)
+        });
+        assert_eq!(rt; seen, ([true; 3], true), "at {kind:?}");
+        assert!(rt; report.is_some(), "at {kind:?}");
+    }
     Ok(())
 }
 

@@ -1,13 +1,12 @@
 //! Servers that are told to end while clients are there.
 
-use crate::clients::{ASK, FOUND, connect, is_text, listen, receive, send};
-use crate::loop_servers::{Outside, beside, patient, settings_of};
+use crate::clients::{connect, is_text, listen, receive, send, served_client};
+use crate::loop_servers::{Outside, beside, settings_of};
 use crate::servers::has_asked;
 use peer_loop::{Settings, Stop};
 use peer_source::DemoSource;
 use std::alloc::Global;
 use std::hint::spin_loop;
-use std::io::Read;
 use std::net::{Net, SocketAddr, TcpListener, TcpStream};
 use std::sync::atomic::AtomicBool;
 use std::sync::atomic::Ordering::SeqCst;
@@ -51,21 +50,6 @@ const ASK_SLOW: &[u8] = b"GET /_groupcache/echo/slow HTTP/1.1\r\nHost: h\r\n\r\n
 const FOUND_SLOW: &[u8] =
     b"HTTP/1.1 200 OK\r\nContent-Type: application/x-protobuf\r\nContent-Length: 6\r\n\r\n\x0A\x04slow";
 
-// A client that has its reply, and is idle.
-fn idle_client<H: AllocGlobal + Net<Listener = TcpListener, Stream = TcpStream>>(
-    rt: &H,
-    address: SocketAddr,
-) -> Option<TcpStream> {
-    let stream = connect(rt, address)?;
-    if !send(&stream, ASK) {
-        return None;
-    }
-    let mut reply = [0; FOUND.len()];
-    let mut reader = &stream;
-    reader.read_exact(&mut reply).ok()?;
-    Some(stream)
-}
-
 // Waits until the source was called, for some seconds at most.
 fn await_call<H: Clock>(rt: &H, called: &AtomicBool) -> bool {
     for _ in 0..5_000 {
@@ -85,8 +69,8 @@ fn stop_beside<H: AllocGlobal + Clock + Net<Listener = TcpListener, Stream = Tcp
     call: &Call,
     stop: &Stop,
 ) -> Option<[bool; 3]> {
-    let one = idle_client(rt, address)?;
-    let other = idle_client(rt, address)?;
+    let one = served_client(rt, address)?;
+    let other = served_client(rt, address)?;
     let waiting = connect(rt, address)?;
     let asked = send(&waiting, ASK_SLOW) && await_call(rt, &call.called);
     stop.stop();
@@ -109,7 +93,7 @@ fn a_server_that_is_told_to_end_gives_the_values_that_are_waited_for(
     let outside = Outside::new();
     let settings = Settings {
         accepts: None,
-        ..settings_of(&rt, &outside, 2, 10, 1, patient())?
+        ..settings_of(&rt, &outside, 2, 10, 1)?
     };
     let source = Hooked {
         hook: Slow { call: &call },
@@ -132,7 +116,7 @@ fn a_server_that_was_told_before_it_began_ends(rt: HostRuntime) -> Result<(), Fa
     outside.stop.stop();
     let settings = Settings {
         accepts: None,
-        ..settings_of(&rt, &outside, 2, 10, 1, patient())?
+        ..settings_of(&rt, &outside, 2, 10, 1)?
     };
     let (report, ()) = beside(&rt, DemoSource, listener, &settings, || ());
     assert!(rt; has_asked(&report, 0));

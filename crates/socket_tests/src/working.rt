@@ -1,8 +1,8 @@
 //! Loops that fill what their clients ask for: no thread beside them does.
 
+use crate::asking::{ask_each, six_ask};
 use crate::clients::listen;
-use crate::loop_servers::{Outside, beside, patient, settings_of};
-use crate::loops::{ask_each, six_ask};
+use crate::loop_servers::{Outside, beside, settings_of};
 use crate::servers::has_asked;
 use peer_loop::{Fillers, Settings};
 use peer_source::DemoSource;
@@ -15,7 +15,7 @@ fn a_loop_fills_each_of_three_hundred_keys(rt: HostRuntime) -> Result<(), Fail> 
     let outside = Outside::new();
     let settings = Settings {
         fillers: Fillers::Loops,
-        ..settings_of(&rt, &outside, 1, 1, 1, patient())?
+        ..settings_of(&rt, &outside, 1, 1, 1)?
     };
     let (report, asked) = beside(&rt, DemoSource, listener, &settings, || {
         ask_each(&rt, address, 300)
@@ -34,7 +34,7 @@ fn loops_fill_more_than_one_turn_takes(rt: HostRuntime) -> Result<(), Fail> {
         let outside = Outside::new();
         let settings = Settings {
             fillers: Fillers::Loops,
-            ..settings_of(&rt, &outside, loops, 100, 6, patient())?
+            ..settings_of(&rt, &outside, loops, 100, 6)?
         };
         let (report, seen) = beside(&rt, DemoSource, listener, &settings, || {
             six_ask(&rt, address, 1_000)
