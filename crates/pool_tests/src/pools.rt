@@ -9,4 +9,5 @@ mod numbering;
 mod oldest;
 mod opening;
 mod refills;
+mod released;
 mod threads;

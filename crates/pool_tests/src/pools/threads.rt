@@ -220,6 +220,24 @@ fn one_worker_fills_three_hundred_keys(rt: HostRuntime) -> Result<(), Fail> {
     Ok(())
 }
 
+// No worker makes as many fills as tell of room: who waits for it is told that the queue is empty.
+#[test]
+fn sixteen_workers_fill_three_hundred_keys(rt: HostRuntime) -> Result<(), Fail> {
+    let setting = Setting {
+        workers: 16,
+        conns: 1,
+        plan: Plan {
+            rounds: 1,
+            keys: 300,
+        },
+        slow: Slow::Always,
+        together: 0,
+    };
+    let report = report_of::<Brand, HostRuntime>(&rt, rt.alloc(), setting, Blank::new(16));
+    assert_eq!(rt; report, Some(all_called(300)));
+    Ok(())
+}
+
 // What is the same in every run: the asks, the strangers and what is left, and whether each flight was called for.
 fn same_each_run(report: Report) -> (u64, u64, u64, bool) {
     (
