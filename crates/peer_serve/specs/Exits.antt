@@ -1,24 +1,19 @@
 -- How the program ends where one connection ended.
-use Rattle.std.specs.Prelude.{ℕ, List, [], codes}
+use Rattle.std.specs.Prelude.{◌≡◌, ℕ, List, codes, None, MatchOption}
 use Rattle.peer_conn.specs.declared.end.End.{End}
 use Rattle.peer_conn.specs.declared.end.End.TheVariants as end
+use Rattle.peer_serve.specs.declared.exit.Exit.{Exit}
 
--- the status
-abbrev pub status_of : End → ℕ
-status_of end.Clean = 0
-status_of end.Cut = 2
-status_of end.ReadFault = 3
-status_of end.WriteFault = 4
-status_of end.Memory = 5
-status_of end.Worn = 5
-status_of end.Spent = 6
+-- it ends with this status and this line on standard error
+abbrev pub Says : Exit → ℕ → List ℕ → Type 0
+Says exit status line = (exit.status ≡ status) × MatchOption exit.line ⊥ (λ said. said.now ≡ line)
 
--- the line on standard error
-abbrev pub line_of : End → List ℕ
-line_of end.Clean = []
-line_of end.Cut = codes "peer_serve: input ended inside a head"
-line_of end.ReadFault = codes "peer_serve: read failed"
-line_of end.WriteFault = codes "peer_serve: write failed"
-line_of end.Memory = codes "peer_serve: out of memory"
-line_of end.Worn = codes "peer_serve: out of memory"
-line_of end.Spent = codes "peer_serve: too many reads"
+-- how the program ends
+abbrev pub EndsAs : End → Exit → Type 0
+EndsAs end.Clean exit = (exit.status ≡ 0) × (exit.line ≡ None)
+EndsAs end.Cut exit = Says exit 2 (codes "peer_serve: input ended inside a head")
+EndsAs end.ReadFault exit = Says exit 3 (codes "peer_serve: read failed")
+EndsAs end.WriteFault exit = Says exit 4 (codes "peer_serve: write failed")
+EndsAs end.Memory exit = Says exit 5 (codes "peer_serve: out of memory")
+EndsAs end.Worn exit = Says exit 5 (codes "peer_serve: out of memory")
+EndsAs end.Spent exit = Says exit 6 (codes "peer_serve: too many reads")

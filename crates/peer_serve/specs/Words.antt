@@ -22,8 +22,7 @@ pub record AreNumbers (w c r : List ℕ) (workers conns rounds : ℕ) : Type 0 w
 abbrev pub IsServer : List ℕ → List ℕ → List ℕ → List ℕ → Bool → Option Mode → Type 0
 IsServer a w c r t None = (workers conns rounds : ℕ) → AreNumbers w c r workers conns rounds → ⊥
 IsServer a w c r t (Some mode.Pipe) = ⊥
-IsServer a w c r t (Some (mode.Server address workers conns rounds table)) =
-    (address.now ≡ a) × AreNumbers w c r workers conns rounds × (table ≡ t)
+IsServer a w c r t (Some (mode.Server s)) = (s.address.now ≡ a) × AreNumbers w c r s.workers s.conns s.rounds × (s.table ≡ t)
 
 -- what the words ask for: a pipe, a server, or a server with a table; nothing else is served
 abbrev pub ReadsAs : List (String Global) → Option Mode → Type 0

@@ -2,20 +2,26 @@
 ghost use Rattle.std.specs.Prelude.{◌≡◌, ℕ, IfSome, IsNone, string_bytes};
 ghost use Rattle.peer_serve.specs.Words.{IsNumber, IsServer, ReadsAs};
 
+/// A server, as the words ask for it.
+#[derive(Clone, Copy, Debug, PartialEq, Eq)]
+pub struct ServerWords<'w> {
+    pub address: &'w str,
+    pub workers: usize,
+    /// How many connections are served at a time, each by a seat.
+    pub conns: usize,
+    /// How many connections each seat takes, one after the other.
+    pub rounds: u64,
+    /// Whether a table on standard input is served, and not the source for demonstrations.
+    pub table: bool,
+}
+
 /// What the program is asked to do.
 #[derive(Clone, Copy, Debug, PartialEq, Eq)]
 pub enum Mode<'w> {
     /// To serve one connection on standard input and output.
     Pipe,
     /// To serve an address.
-    Server {
-        address: &'w str,
-        workers: usize,
-        conns: usize,
-        rounds: u64,
-        /// Whether a table on standard input is served, and not the source for demonstrations.
-        table: bool,
-    },
+    Server(ServerWords<'w>),
 }
 
 /// What the words behind the program's name ask for, or none where they are wrong.
@@ -43,13 +49,13 @@ fn server<'w>(
     ensures { IsServer (string_bytes address.now) (string_bytes workers.now)
         (string_bytes conns.now) (string_bytes rounds.now) table result }
 {
-    Some(Mode::Server {
+    Some(Mode::Server(ServerWords {
         address: address.as_str(),
         workers: read_number(workers.as_str(), 16)? as usize,
         conns: read_number(conns.as_str(), 16)? as usize,
         rounds: read_number(rounds.as_str(), 1_000_000_000)?,
         table,
-    })
+    }))
 }
 
 // The number from 1 to `most` that digits alone write.

@@ -17,9 +17,9 @@ mod table;
 mod tests;
 mod totals;
 
-use crate::args::{Mode, read_args};
+use crate::args::{Mode, ServerWords, read_args};
 use crate::bind::bind_at;
-use crate::exit::{NO_OUTPUT, OUT_OF_MEMORY, READ_FAILED, SERVED, USAGE, exit_of};
+use crate::exit::{Exit, NO_OUTPUT, OUT_OF_MEMORY, READ_FAILED, SERVED, USAGE, exit_of};
 use crate::pipe::peer_pipe;
 use crate::table::table_exit;
 use crate::totals::write_totals;
@@ -46,49 +46,25 @@ const TABLE_READS: u64 = 1_000_000;
 const CACHE_BYTES: u64 = 1_048_576;
 
 fn main(rt: HostRuntime) -> ExitCode {
-    let words = words_of(&rt);
-    let mode = match &words {
-        Ok(words) => read_args(words),
-        Err(_) => None,
-    };
-    let (status, line) = match mode {
-        Some(Mode::Pipe) => through_pipes(&rt),
-        Some(
-            Mode::Server {
-                address,
-                workers,
-                conns,
-                rounds,
-                table,
+    let exit = match words_of(&rt) {
+        Ok(words) => match read_args(&words) {
+            Some(Mode::Pipe) => serve_pipes(&rt),
+            Some(Mode::Server(words)) => match table_of(&rt, words) {
+                Ok(table) => serve(&rt, table, words),
+                Err(exit) => exit,
             },
-        ) => {
-            let numbers = Numbers {
-                workers,
-                conns,
-                rounds,
-            };
-            if table {
-                match table_of(&rt) {
-                    Ok(table) => serve(&rt, Some(table), address, numbers),
-                    Err(status) => (status, ""),
-                }
-            } else {
-                serve(&rt, None, address, numbers)
-            }
-        }
-        None => match &words {
-            Ok(_) => USAGE,
-            Err(exit) => *exit,
+            None => USAGE,
         },
+        Err(exit) => exit,
     };
-    if !line.is_empty() {
+    if let Some(line) = exit.line {
         let _ = eprintln!(rt; "{line}");
     }
-    ExitCode::from(status)
+    ExitCode::from(exit.status)
 }
 
-// The words behind the program's name, or the status and the line of a program that cannot have them.
-fn words_of(rt: &HostRuntime) -> Result<Vec<String>, (u8, &'static str)> {
+// The words behind the program's name, or how a program ends that cannot have them.
+fn words_of(rt: &HostRuntime) -> Result<Vec<String>, Exit> {
     let mut args = match env::args(rt) {
         Ok(args) => args,
         Err(error) if error.kind() == io::ErrorKind::OutOfMemory => return Err(OUT_OF_MEMORY),
@@ -105,7 +81,7 @@ fn words_of(rt: &HostRuntime) -> Result<Vec<String>, (u8, &'static str)> {
 }
 
 // Serves standard input and output.
-fn through_pipes(rt: &HostRuntime) -> (u8, &'static str) {
+fn serve_pipes(rt: &HostRuntime) -> Exit {
     let served = peer_pipe(
         rt.alloc(),
         StdReader::new(rt.stdin()),
@@ -114,21 +90,19 @@ fn through_pipes(rt: &HostRuntime) -> (u8, &'static str) {
     exit_of(&served.end)
 }
 
-// The table on standard input, or the status of the program, which has said why there is none.
-fn table_of(rt: &HostRuntime) -> Result<TableSource, u8> {
+// The table on standard input, where one is asked for, or how the program ends, which has said why there is none.
+fn table_of(rt: &HostRuntime, words: ServerWords<'_>) -> Result<Option<TableSource>, Exit> {
+    if !words.table {
+        return Ok(None);
+    }
     let mut input = StdReader::new(rt.stdin());
     match TableSource::read_from(rt.alloc(), &mut input, TABLE_READS) {
-        Ok(table) => Ok(table),
-        Err(fault) => Err(table_exit(&fault, &mut StdWriter::new(rt.stderr()))),
+        Ok(table) => Ok(Some(table)),
+        Err(fault) => Err(Exit {
+            status: table_exit(&fault, &mut StdWriter::new(rt.stderr())),
+            line: None,
+        }),
     }
-}
-
-// How many workers and connections a server has at a time, and how many connections each of its seats takes.
-#[derive(Clone, Copy, Drop)]
-struct Numbers {
-    workers: usize,
-    conns: usize,
-    rounds: u64,
 }
 
 // Where a server listens, and the seed of its caches.
@@ -148,11 +122,11 @@ fn serve<
         + Wait
         + Clock
         + Sync,
->(rt: &H, table: Option<TableSource>, address: &str, numbers: Numbers) -> (u8, &'static str) {
+>(rt: &H, table: Option<TableSource>, words: ServerWords<'_>) -> Exit {
     let Ok(seed) = RandomState::new(rt) else {
         return READ_FAILED;
     };
-    let listener = match bind_at(rt, address) {
+    let listener = match bind_at(rt, words.address) {
         Ok(listener) => listener,
         Err(exit) => return exit,
     };
@@ -161,8 +135,8 @@ fn serve<
     }
     let bound = Bound { listener, seed };
     let report = match table {
-        Some(table) => serve_table::<Brand, H>(rt, table, bound, numbers),
-        None => serve_source(rt, DemoSource, bound, numbers),
+        Some(table) => serve_table::<Brand, H>(rt, table, bound, words),
+        None => serve_source(rt, DemoSource, bound, words),
     };
     match report {
         Some(report) if say_totals(rt, &report) => SERVED,
@@ -180,10 +154,10 @@ fn serve_table<
         + Wait
         + Clock
         + Sync,
->(rt: &H, table: TableSource, bound: Bound, numbers: Numbers) -> Option<Report>
+>(rt: &H, table: TableSource, bound: Bound, words: ServerWords<'_>) -> Option<Report>
     requires { table ≡ T.text }
 {
-    serve_source(rt, NamedTable::<T>::new(table), bound, numbers)
+    serve_source(rt, NamedTable::<T>::new(table), bound, words)
 }
 
 // What the pool counted, or none where memory or a thread was refused.
@@ -195,15 +169,15 @@ fn serve_source<
         + Wait
         + Clock
         + Sync,
->(rt: &H, source: S, bound: Bound, numbers: Numbers) -> Option<Report> {
+>(rt: &H, source: S, bound: Bound, words: ServerWords<'_>) -> Option<Report> {
     let report = peer_server(
         rt,
         rt.alloc(),
         source,
         bound.listener,
-        numbers.workers,
-        numbers.conns,
-        numbers.rounds,
+        words.workers,
+        words.conns,
+        words.rounds,
         CACHE_BYTES,
         bound.seed,
     );

@@ -1,7 +1,7 @@
 //! One connection.
 ghost use Rattle.std.specs.Prelude.{◌≡◌, IfOk};
 
-use crate::exit::exit_of;
+use crate::exit::{Exit, exit_of};
 use crate::pipe::peer_pipe;
 use peer_conn::End;
 use peer_view::{MemReader, MemWriter};
@@ -53,15 +53,15 @@ fn fails_where_the_writer_fails(rt: HostRuntime) -> Result<(), Fail> {
 
 #[test]
 fn tells_each_end(rt: HostRuntime) {
-    for (end, exit) in [
-        (End::Clean, (0, "")),
-        (End::Cut, (2, "peer_serve: input ended inside a head")),
-        (End::ReadFault, (3, "peer_serve: read failed")),
-        (End::WriteFault, (4, "peer_serve: write failed")),
-        (End::Memory, (5, "peer_serve: out of memory")),
-        (End::Worn, (5, "peer_serve: out of memory")),
-        (End::Spent, (6, "peer_serve: too many reads")),
+    for (end, status, line) in [
+        (End::Clean, 0, None),
+        (End::Cut, 2, Some("peer_serve: input ended inside a head")),
+        (End::ReadFault, 3, Some("peer_serve: read failed")),
+        (End::WriteFault, 4, Some("peer_serve: write failed")),
+        (End::Memory, 5, Some("peer_serve: out of memory")),
+        (End::Worn, 5, Some("peer_serve: out of memory")),
+        (End::Spent, 6, Some("peer_serve: too many reads")),
     ] {
-        assert_eq!(rt; exit_of(&end), exit);
+        assert_eq!(rt; exit_of(&end), Exit { status, line });
     }
 }

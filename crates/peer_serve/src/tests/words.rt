@@ -1,7 +1,8 @@
 //! The words of a call, and the address among them.
 
-use crate::args::{Mode, read_args};
+use crate::args::{Mode, ServerWords, read_args};
 use crate::bind::bind_at;
+use crate::exit::Exit;
 use std::alloc::{AllocError, Global};
 use std::test::Fail;
 
@@ -16,13 +17,13 @@ fn words_of(alloc: Global, text: &str) -> Result<Vec<String>, AllocError> {
 
 // A server with these numbers on `127.0.0.1:0`.
 fn server(workers: usize, conns: usize, rounds: u64, table: bool) -> Option<Mode<'static>> {
-    Some(Mode::Server {
+    Some(Mode::Server(ServerWords {
         address: "127.0.0.1:0",
         workers,
         conns,
         rounds,
         table,
-    })
+    }))
 }
 
 #[test]
@@ -65,9 +66,9 @@ fn reads_no_words(rt: HostRuntime) {
 #[test]
 fn binds_addresses_alone(rt: HostRuntime) {
     assert!(rt; bind_at(&rt, "127.0.0.1:0").is_ok());
-    let refused = match bind_at(&rt, "x") {
-        Ok(_) => (0, ""),
-        Err(exit) => exit,
+    let refused = Exit {
+        status: 2,
+        line: Some("peer_serve: cannot bind"),
     };
-    assert_eq!(rt; refused, (2, "peer_serve: cannot bind"));
+    assert_eq!(rt; bind_at(&rt, "x").err(), Some(refused));
 }
