@@ -40,7 +40,37 @@ fn serve_planned<
     }
 }
 
-// Serves while the page is served, where one is asked for, and ends that behind it.
+// Serves while this work is done in a thread of its own, and has the work end behind the server.
+fn serve_beside<
+    W: FnOnce() + Send,
+    E: FnOnce(),
+    F: FnOnce() -> Result<Report, ServerFault>,
+    H: Threads + Wait + Sync,
+>(rt: &H, work: W, end: E, serve: F) -> Result<Report, ServerFault>
+    requires work { W.pre work }
+    requires end { E.pre end }
+    requires serve { F.pre serve }
+{
+    thread::scope(
+        thread::scope_env(),
+        rt,
+        move |scope| -> Result<Report, ServerFault>
+            requires work { W.pre work }
+            requires end { E.pre end }
+            requires serve { F.pre serve }
+        {
+            let Ok(working) = scope.spawn(work) else {
+                return Err(ServerFault::Refused);
+            };
+            let report = serve();
+            end();
+            working.join(rt);
+            report
+        },
+    )
+}
+
+// Serves while the page is served, where one is asked for.
 fn serve_paged<
     S: Source,
     H: AllocGlobal
@@ -63,25 +93,17 @@ fn serve_paged<
         return serve_planned(rt, source, listener, settings, plan);
     };
     let end = &end;
-    thread::scope(
-        thread::scope_env(),
+    serve_beside(
         rt,
-        move |scope| -> Result<Report, ServerFault>
+        move || server.run(rt, settings.counters, end),
+        move || end.end(),
+        move || -> Result<Report, ServerFault>
             requires { IfSome plan (Allows (S.answers source)) }
-        {
-            let serve = move || server.run(rt, settings.counters, end);
-            let Ok(paging) = scope.spawn(serve) else {
-                return Err(ServerFault::Refused);
-            };
-            let report = serve_planned(rt, source, listener, settings, plan);
-            end.end();
-            paging.join(rt);
-            report
-        },
+        { serve_planned(rt, source, listener, settings, plan) },
     )
 }
 
-// Serves by this plan while the names of its services are looked up again, and ends that behind it.
+// Serves by this plan while the names of its services are looked up again.
 fn serve_looking_up<
     S: Source,
     H: AllocGlobal
@@ -103,21 +125,13 @@ fn serve_looking_up<
     let end = End::new();
     let end = &end;
     let places = plan.places.each;
-    thread::scope(
-        thread::scope_env(),
+    serve_beside(
         rt,
-        move |scope| -> Result<Report, ServerFault>
+        move || look_up_names(rt, places, end),
+        move || end.tell(),
+        move || -> Result<Report, ServerFault>
             requires { Allows (S.answers source) plan }
-        {
-            let look_up = move || look_up_names(rt, places, end);
-            let Ok(looking) = scope.spawn(look_up) else {
-                return Err(ServerFault::Refused);
-            };
-            let report = serve_paged(rt, source, listener, settings, Some(plan), page);
-            end.tell();
-            looking.join(rt);
-            report
-        },
+        { serve_paged(rt, source, listener, settings, Some(plan), page) },
     )
 }
 
@@ -171,21 +185,12 @@ pub fn serve_watched<
 {
     let end = End::new();
     let end = &end;
-    let counters = settings.counters;
-    thread::scope(
-        thread::scope_env(),
+    serve_beside(
         rt,
-        move |scope| -> Result<Report, ServerFault>
+        move || tell_troubles(rt, settings.counters, end),
+        move || end.tell(),
+        move || -> Result<Report, ServerFault>
             requires { IfSome plan (Allows (S.answers source)) }
-        {
-            let tell = move || tell_troubles(rt, counters, end);
-            let Ok(telling) = scope.spawn(tell) else {
-                return Err(ServerFault::Refused);
-            };
-            let report = serve_named(rt, source, listener, settings, plan, page);
-            end.tell();
-            telling.join(rt);
-            report
-        },
+        { serve_named(rt, source, listener, settings, plan, page) },
     )
 }
