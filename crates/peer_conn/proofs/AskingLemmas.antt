@@ -1,13 +1,12 @@
 -- Laws of what an exchange asked and answered.
-use Rattle.std.proofs.Common.{Option, ◌≡◌, ◌∙◌, ℕ, ◌+◌, ◌≤◌, ◌^◌, min, Bool, true, false, cond, List, [], ◌∷◌, ◌++◌, refl, sym, ap, arith, append_assoc, append-nil, Ok, Err, leb, ◌||◌, length, length-append}
+use Rattle.std.proofs.Common.{Option, ◌≡◌, ◌∙◌, ℕ, ◌+◌, ◌≤◌, ◌^◌, min, Bool, true, false, List, [], ◌∷◌, ◌++◌, refl, sym, ap, arith, append_assoc, append-nil, Ok, Err, leb, ◌||◌, length, length-append}
 use Rattle.std.proofs.lemmas.Bool.{le-leb, true≢false}
 use Rattle.std.specs.VecDeque.{deque_len}
 use Rattle.peer_fill.specs.declared.counts.AskCounts.{AskCounts}
 use Rattle.peer_lane.specs.declared.ticket.Ticket.{Ticket}
 use Rattle.peer_reply.specs.declared.wish.Wish.{Wish}
 use Rattle.peer_conn.specs.Tickets.{asks_in_body, asks_in, wish_by, wishes_by}
-use Rattle.peer_conn.specs.Answering.{IsMadeGood}
-use Rattle.peer_conn.specs.AnsweringReady.{MadeGood, AnswersTicket, AnswersReady}
+use Rattle.peer_conn.specs.AnsweringReady.{AnswersTicket, AnswersReady}
 use Rattle.peer_conn.specs.Asking.{CountsAsks, AddsTicket, AddsTickets, IsJudgedThrough}
 use Rattle.peer_outbox.specs.Joins.{join}
 use Rattle.peer_outbox.specs.Windows.{window_after, window_behind}
@@ -15,6 +14,7 @@ use Rattle.peer_conn.specs.ExchangeStates.{unsent}
 use Rattle.peer_conn.specs.declared.exchange_state.ExchangeState.{ExchangeState}
 use Rattle.peer_conn.proofs.ExchangeLemmas.{went_well}
 use Rattle.peer_outbox.proofs.JoinLemmas.{join-append}
+use Rattle.peer_conn.proofs.StrangerLemmas.{flights-append}
 use Rattle.peer_conn.proofs.WriterSideLemmas.{wishes-append}
 
 asks_in-append : (ws vs : List Wish) → asks_in (ws ++ vs) ≡ asks_in ws + asks_in vs
@@ -68,18 +68,14 @@ module _ {S : Type 0} where
       is_full_not true q e f = true≢false f
       is_full_not false q e f = true≢false (sym e)
 
-  good-append : (ts : List (Ticket S)) (t : Ticket S) (n : ℕ) (good : Bool) → MadeGood ts n → IsMadeGood t.body good → MadeGood (ts ++ t ∷ []) (n + cond good 1 0)
-  good-append [] t n good h is = (good, 0, is, refl, omega (arith, h))
-  good-append (u ∷ us) t n good h is = (h.0, h.1 + cond good 1 0, h.2, good-append us t h.1 good h.3 is, omega (arith, h.4))
-
   pub answers_none : (e : ExchangeState S) (n : AskCounts) → n.strangers ≤ 2 ^ 56 → AnswersReady e e n n went_well
   answers_none e n le = record {
     answered = [];
     left = e.waiting.items;
     first = refl;
     wait = refl;
-    count = 0;
-    made_good = refl;
+    strangers = 0;
+    flights = omega arith;
     counted = ap (λ s. record n { strangers = s }) (none_more n.strangers (2 ^ 56) le);
     replies = [];
     one_each = refl;
@@ -88,19 +84,18 @@ module _ {S : Type 0} where
   }
 
   module _ {a b d : ExchangeState S} {l m n : AskCounts} where
-    pub answers_one : AnswersReady a b l m went_well → AnswersTicket b d m n → AnswersReady a d l n went_well
-    answers_one h k =
-        let more = cond k.made_good 1 0 in
+    pub answers_one : {strangers : ℕ} → AnswersReady a b l m went_well → AnswersTicket strangers b d m n → AnswersReady a d l n went_well
+    answers_one {strangers} h k =
         record {
           answered = h.answered ++ k.ticket ∷ [];
           left = d.waiting.items;
           first = h.first ∙ ap (λ ts. h.answered ++ ts) (sym h.wait ∙ k.taken) ∙ sym (append_assoc h.answered (k.ticket ∷ []) d.waiting.items);
           wait = refl;
-          count = h.count + more;
-          made_good = good-append h.answered k.ticket h.count k.made_good h.made_good k.is_made_good;
+          strangers = h.strangers + strangers;
+          flights = omega (arith, h.flights, k.flight, flights-append h.answered (k.ticket ∷ []));
           counted =
-              k.counted ∙ ap {A = AskCounts} (λ q. record q { strangers = min (q.strangers + more) (2 ^ 56) }) h.counted
-              ∙ ap (λ s. record l { strangers = s }) (capped l.strangers h.count more (2 ^ 56));
+              k.counted ∙ ap {A = AskCounts} (λ q. record q { strangers = min (q.strangers + strangers) (2 ^ 56) }) h.counted
+              ∙ ap (λ s. record l { strangers = s }) (capped l.strangers h.strangers strangers (2 ^ 56));
           replies = h.replies ++ k.reply ∷ [];
           one_each = omega (arith, h.one_each, length-append h.replies (k.reply ∷ []), length-append h.answered (k.ticket ∷ []));
           put = one_put (unsent a) (unsent b) (unsent d) k.reply h.replies k.put h.put;
@@ -113,8 +108,8 @@ module _ {S : Type 0} where
       left = h.left;
       first = h.first;
       wait = same ∙ h.wait;
-      count = h.count;
-      made_good = h.made_good;
+      strangers = h.strangers;
+      flights = h.flights;
       counted = k ∙ h.counted;
       replies = h.replies;
       one_each = h.one_each;
@@ -123,4 +118,4 @@ module _ {S : Type 0} where
     }
 
     pub answers_lost : {T E : Type 0} {x : E} → AnswersReady a b l m went_well → n ≡ m → AnswersReady {T = T} {E = E} a d l n (Err x)
-    answers_lost h k = record { answered = h.answered; left = h.left; first = h.first; wait = tt; count = h.count; made_good = h.made_good; counted = k ∙ h.counted; replies = h.replies; one_each = h.one_each; put = tt; window = tt }
+    answers_lost h k = record { answered = h.answered; left = h.left; first = h.first; wait = tt; strangers = h.strangers; flights = h.flights; counted = k ∙ h.counted; replies = h.replies; one_each = h.one_each; put = tt; window = tt }

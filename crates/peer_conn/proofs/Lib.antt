@@ -11,6 +11,7 @@ pub mod ReaderSideLemmas
 pub mod RequestLemmas
 pub mod ResponseLemmas
 pub mod SendLemmas
+pub mod StrangerLemmas
 pub mod WholeLemmas
 pub mod WishLemmas
 pub mod WriterSideLemmas

@@ -17,12 +17,14 @@ use Rattle.peer_reply.specs.declared.wish.WishBody.{WishBody}
 use Rattle.peer_conn.specs.Tickets.{body_by, wishes_by, wishes_put, asks_in, asks_in_body}
 use Rattle.peer_conn.specs.Requests.{Stops, reading_of}
 use Rattle.peer_conn.specs.ReaderSides.{PutsTickets}
+use Rattle.peer_conn.specs.Strangers.{flights_in, flights_in_body, flights_of}
 use Rattle.peer_conn.specs.declared.reader_side.ReaderSide.{ReaderSide}
 use Rattle.peer_conn.specs.declared.requests.Requests.{Requests}
 use Rattle.peer_conn.specs.declared.end.ReaderStop.{ReaderStop}
 use Rattle.peer_conn.specs.declared.end.ReaderStop.TheVariants as stop
 use Rattle.peer_conn.proofs.WishLemmas.{first_of}
 use Rattle.peer_conn.proofs.RequestLemmas.{firsts}
+use Rattle.peer_conn.proofs.StrangerLemmas.{flights-append}
 use Rattle.peer_conn.proofs.WriterSideLemmas.{wishes-append}
 
 asks_in-append : (ws vs : List Wish) → asks_in (ws ++ vs) ≡ asks_in ws + asks_in vs
@@ -38,6 +40,7 @@ module _ {S L : Type 0} {g : Source.Ghosts S} {h : Ledger.Ghosts L} {pool : Pool
     same = ((refl, refl, refl, refl), refl);
     put = sym (append-nil (wishes_put lane));
     asked = omega arith;
+    flights = refl;
   }
 
   pub puts_then : {a b c : ConnSeat S L g} {x y z : LaneIn S g} {ws vs : List Wish} → PutsTickets pool a b x y ws → PutsTickets pool b c y z vs → PutsTickets pool a c x z (ws ++ vs)
@@ -48,6 +51,7 @@ module _ {S L : Type 0} {g : Source.Ghosts S} {h : Ledger.Ghosts L} {pool : Pool
     same = ((k.same.0.0 ∙ h.same.0.0, k.same.0.1 ∙ h.same.0.1, k.same.0.2 ∙ h.same.0.2, k.same.0.3 ∙ h.same.0.3), k.same.1 ∙ h.same.1);
     put = k.put ∙ ap (λ v. v ++ vs) h.put ∙ append_assoc (wishes_put x) ws vs;
     asked = omega (arith, h.asked, k.asked, asks_in-append ws vs);
+    flights = omega (arith, h.flights, k.flights);
   }
 
   -- no ticket more
@@ -55,9 +59,9 @@ module _ {S L : Type 0} {g : Source.Ghosts S} {h : Ledger.Ghosts L} {pool : Pool
   puts_on {a} {b} {c} {x} {y} {z} {ws} h k = subst (PutsTickets pool a c x z) (append-nil ws) (puts_then h k)
 
   -- one ticket more, behind an ask for its wish where that has group and key
-  pub puts_one : {R : Type 0} {k : Read.Ghosts R} {a m : ReaderSide S L R g k} {seat : ConnSeat S L g} {lane : LaneIn S g} (w : Wish) (body : Body S) → m ≡ record a { seat = seat } → IsConnSeatOf pool seat → conn_parts seat ≡ conn_parts a.seat → (asks_of seat).strangers ≡ (asks_of a.seat).strangers →
+  pub puts_one : {R : Type 0} {k : Read.Ghosts R} {a m : ReaderSide S L R g k} {seat : ConnSeat S L g} {lane : LaneIn S g} (w : Wish) (body : Body S) → m ≡ record a { seat = seat } → IsConnSeatOf pool seat → conn_parts seat ≡ conn_parts a.seat → (asks_of seat).strangers ≡ (asks_of a.seat).strangers → flights_of (asks_of seat) ≡ flights_of (asks_of a.seat) + flights_in_body body →
       (asks_of seat).asked ≡ (asks_of a.seat).asked + asks_in_body w.body → IsSameIn m.lane lane → tickets_put lane ≡ tickets_put m.lane ++ record { closing = w.closing; bare = w.bare; body = body } ∷ [] → body_by body ≡ w.body → PutsTickets pool a.seat m.seat a.lane lane (w ∷ [])
-  puts_one {R} {k} {a} {m} {seat} {lane} w body is own parts strangers asked same put answers =
+  puts_one {R} {k} {a} {m} {seat} {lane} w body is own parts strangers flights asked same put answers =
       let t : Ticket S = record { closing = w.closing; bare = w.bare; body = body } in
       let P : ReaderSide S L R g k → Type 0 = λ s. IsSameIn s.lane lane → tickets_put lane ≡ tickets_put s.lane ++ t ∷ [] → PutsTickets pool a.seat s.seat a.lane lane (w ∷ []) in
       let wish : WishBody → Wish = λ b. record w { body = b } in
@@ -68,6 +72,7 @@ module _ {S L : Type 0} {g : Source.Ghosts S} {h : Ledger.Ghosts L} {pool : Pool
         same = same;
         put = ap wishes_by put ∙ wishes-append (tickets_put a.lane) (t ∷ []) ∙ ap (λ b. wishes_put a.lane ++ wish b ∷ []) answers;
         asked = omega (arith, asked);
+        flights = let n = ap flights_in put in omega (arith, flights, flights-append (tickets_put a.lane) (t ∷ []));
       }) same put
 
 -- the last wishes were not put

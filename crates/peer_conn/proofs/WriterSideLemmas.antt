@@ -1,5 +1,5 @@
--- Laws of what the writer's side of a connection did, and of the tickets that it made good.
-use Rattle.std.proofs.Common.{◌≡◌, ◌∙◌, ℕ, ◌+◌, ◌^◌, ◌<◌, List, [], ◌∷◌, ◌++◌, length, min, refl, sym, ap, subst, arith, append-nil, append_assoc, length-append}
+-- Laws of what the writer's side of a connection did, and of the strangers that it counted.
+use Rattle.std.proofs.Common.{◌≡◌, ◌∙◌, ℕ, ◌+◌, List, [], ◌∷◌, ◌++◌, length, refl, sym, ap, subst, arith, append-nil, append_assoc}
 use Rattle.peer_source.specs.Answers.{Answer}
 use Rattle.peer_source.specs.declared.source.Source as Source
 use Rattle.peer_view.specs.declared.writer.PeerWrite as Write
@@ -9,9 +9,10 @@ use Rattle.peer_lane.specs.declared.ticket.Ticket.{Ticket}
 use Rattle.peer_reply.specs.declared.wish.Wish.{Wish}
 use Rattle.peer_conn.specs.Tickets.{wish_by, wishes_by, wishes_taken}
 use Rattle.peer_conn.specs.Responses.{PutsReplies}
-use Rattle.peer_conn.specs.Strangers.{CountsStrangers}
-use Rattle.peer_conn.specs.WriterSides.{AnswersTickets, MakesGood}
+use Rattle.peer_conn.specs.Strangers.{Rises, flights_in_body}
+use Rattle.peer_conn.specs.WriterSides.{AnswersTickets}
 use Rattle.peer_conn.specs.declared.writer_side.WriterSide.{WriterSide}
+use Rattle.peer_conn.proofs.StrangerLemmas.{counts_same, counts_then, counts_one}
 use Rattle.peer_conn.proofs.ResponseLemmas.{replies_none, replies_on, replies_then}
 
 pub wishes-append : {S : Type 0} (ts us : List (Ticket S)) → wishes_by (ts ++ us) ≡ wishes_by ts ++ wishes_by us
@@ -22,19 +23,6 @@ wishes-append (t ∷ ts) us = ap (λ v. wish_by t ∷ v) (wishes-append ts us)
 same_out : {S : Type 0} {G : Source.Ghosts S} (a b c : LaneOut S G) → IsSameOut a b → IsSameOut b c → IsSameOut a c
 same_out a b c h k = ((k.0.0 ∙ h.0.0, k.0.1 ∙ h.0.1, k.0.2 ∙ h.0.2, k.0.3 ∙ h.0.3), k.1 ∙ h.1)
 
-pub none_good : {n : ℕ} → n < 2 ^ 64 → MakesGood n n
-none_good {n} h = record { made_good = []; counted = omega (arith, h) }
-
-pub strangers_then : {most a b c : ℕ} → CountsStrangers most a b → CountsStrangers most b c → CountsStrangers most a c
-strangers_then {most} {a} {b} {c} h k = record {
-  made_good = h.made_good ++ k.made_good;
-  counted = omega (arith, h.counted, k.counted, length-append h.made_good k.made_good);
-}
-
--- what a seat counts of the tickets that a writer made good, which began with none
-pub seat_counts : {n n' a b c : ℕ} → n ≡ 0 → MakesGood n n' → b ≡ a → c ≡ min (b + n') (2 ^ 56) → CountsStrangers (2 ^ 56) a c
-seat_counts {n} {n'} {a} {b} {c} none h same e = record { made_good = h.made_good; counted = omega (arith, none, h.counted, same, e) }
-
 module _ {S W : Type 0} {g : Source.Ghosts S} {k : Write.Ghosts W} {answers : ℕ → List ℕ → Answer → Type 0} where
   pub tickets_none : {a : WriterSide S W g k} → AnswersTickets answers a a
   tickets_none {a} = record {
@@ -42,7 +30,7 @@ module _ {S W : Type 0} {g : Source.Ghosts S} {k : Write.Ghosts W} {answers : �
     wishes = [];
     taken = sym (append-nil (wishes_taken a.lane));
     replies = replies_none a.responses;
-    made_good = none_good a.strangers_fit;
+    strangers = counts_same refl refl;
   }
 
   -- no ticket more
@@ -52,18 +40,18 @@ module _ {S W : Type 0} {g : Source.Ghosts S} {k : Write.Ghosts W} {answers : �
     wishes = h.wishes;
     taken = ap wishes_by kept ∙ h.taken;
     replies = replies_on h.replies replies;
-    made_good = subst (MakesGood a.strangers) (sym strangers) h.made_good;
+    strangers = counts_then h.strangers (counts_same kept strangers);
   }
 
   -- one ticket more
   pub tickets_more : {a b d : WriterSide S W g k} (c : WriterSide S W g k) (t : Ticket S) → AnswersTickets answers a b → IsSameOut b.lane c.lane → tickets_taken c.lane ≡ tickets_taken b.lane ++ t ∷ [] → PutsReplies answers b.responses c.responses [] → c.strangers ≡ b.strangers →
-      d.lane ≡ c.lane → PutsReplies answers c.responses d.responses (wish_by t ∷ []) → MakesGood c.strangers d.strangers → AnswersTickets answers a d
-  tickets_more {a} {b} {d} c t h same taken flushed strangers lane replies made_good = record {
+      d.lane ≡ c.lane → PutsReplies answers c.responses d.responses (wish_by t ∷ []) → Rises (flights_in_body t.body) c.strangers d.strangers → AnswersTickets answers a d
+  tickets_more {a} {b} {d} c t h same taken flushed strangers lane replies rises = record {
     same = subst (λ l. IsSameOut a.lane l) (sym lane) (same_out a.lane b.lane c.lane h.same same);
     wishes = h.wishes ++ wish_by t ∷ [];
     taken = ap wishes_taken lane ∙ ap wishes_by taken ∙ wishes-append (tickets_taken b.lane) (t ∷ []) ∙ ap (λ v. v ++ wish_by t ∷ []) h.taken ∙ append_assoc (wishes_taken a.lane) h.wishes (wish_by t ∷ []);
     replies = replies_then h.replies (replies_then flushed replies);
-    made_good = strangers_then (subst (MakesGood a.strangers) (sym strangers) h.made_good) made_good;
+    strangers = counts_then h.strangers (counts_one t (ap tickets_taken lane ∙ taken) (subst (λ n. Rises (flights_in_body t.body) n d.strangers) strangers rises));
   }
 
 -- a lane that was emptied

@@ -1,8 +1,6 @@
 -- What became of a ticket: its reply was put behind the bytes that wait to be sent, or nothing was.
-use Rattle.std.specs.Prelude.{◌≡◌, ℕ, Bool, true, false, List, ◌++◌, None, Some, Result, Ok, Err}
+use Rattle.std.specs.Prelude.{◌≡◌, ℕ, Bool, true, false, List, ◌++◌, Result, Ok, Err}
 use Rattle.peer_source.specs.Answers.{Answer, Filled}
-use Rattle.peer_flight.specs.Claims.{Looked, claim_place}
-use Rattle.peer_flight.specs.SingleFlight.{place_of}
 use Rattle.peer_flight.specs.declared.claim.Claim.{Claim}
 use Rattle.peer_flight.specs.declared.claim.Claim.TheVariants as claim
 use Rattle.peer_lane.specs.declared.ticket.Body.{Body}
@@ -10,6 +8,7 @@ use Rattle.peer_lane.specs.declared.ticket.Body.TheVariants as ticket
 use Rattle.peer_lane.specs.declared.ticket.Ticket.{Ticket}
 use Rattle.peer_reply.specs.declared.wish.Wish.{Wish}
 use Rattle.peer_conn.specs.Replies.{IsReply}
+use Rattle.peer_conn.specs.Strangers.{IsOwn}
 use Rattle.peer_conn.specs.Tickets.{claim_wish, wish_by}
 use Rattle.peer_conn.specs.declared.outgoing.Answered.{Answered}
 use Rattle.peer_conn.specs.declared.outgoing.Answered.TheVariants as answered
@@ -40,28 +39,26 @@ module _ {S : Type 0} where
   waits_on_flight (ticket.Fault f) = false
   waits_on_flight (ticket.Claim c) = is_pending c
 
-  -- the fill that came for a claim is of another place than was asked for, or it is not
-  pub record IsStranger (c : Claim S) (strange : Bool) : Type 0 where
-    pub fill : Filled
-    pub came : Looked c None (Some fill) (Some fill)
-    pub own : strange ≡ false → claim_place c ≡ place_of fill.group fill.key
-    pub other : strange ≡ true → ¬ (claim_place c ≡ place_of fill.group fill.key)
+  -- this fill came for the claim, and a reply to the claim's wish was put: it was made good exactly where the fill is of
+  -- another place; or memory was refused
+  abbrev pub AnswersFilled : {E : Type 0} → (ℕ → List ℕ → Answer → Type 0) → Claim S → Filled → Bool → Bool → List ℕ → List ℕ → Result Answered E → Type 0
+  AnswersFilled answers c fill closing bare old new (Ok answered.Put) = IsReplyPut answers (claim_wish c closing bare) old new × IsOwn c fill
+  AnswersFilled answers c fill closing bare old new (Ok answered.MadeGood) = IsReplyPut answers (claim_wish c closing bare) old new × ¬ (IsOwn c fill)
+  AnswersFilled answers c fill closing bare old new (Ok answered.Waits) = ⊥
+  AnswersFilled answers c fill closing bare old new (Err fault) = new ≡ old
 
-  -- a ticket whose fill is a stranger is made good
-  abbrev pub IsMadeGood : Body S → Bool → Type 0
-  IsMadeGood (ticket.Fault f) made_good = made_good ≡ false
-  IsMadeGood (ticket.Claim c) made_good = IsStranger c made_good
-
-  -- a reply to the wish of this claim was put, or its fill is not there yet, or memory was refused
+  -- a reply to the wish of this claim was put, and made good only where it is a flight; or its fill is not there yet, or
+  -- memory was refused
   abbrev pub AnswersClaim : {E : Type 0} → (ℕ → List ℕ → Answer → Type 0) → Claim S → Bool → Bool → List ℕ → List ℕ → Result Answered E → Type 0
-  AnswersClaim answers c closing bare old new (Ok answered.Put) = IsReplyPut answers (claim_wish c closing bare) old new × IsStranger c false
-  AnswersClaim answers c closing bare old new (Ok answered.MadeGood) = IsReplyPut answers (claim_wish c closing bare) old new × IsStranger c true
+  AnswersClaim answers c closing bare old new (Ok answered.Put) = IsReplyPut answers (claim_wish c closing bare) old new
+  AnswersClaim answers c closing bare old new (Ok answered.MadeGood) = IsReplyPut answers (claim_wish c closing bare) old new × (is_pending c ≡ true)
   AnswersClaim answers c closing bare old new (Ok answered.Waits) = (new ≡ old) × (is_pending c ≡ true)
   AnswersClaim answers c closing bare old new (Err fault) = new ≡ old
 
-  -- a reply to this ticket was put, or its fill is not there yet, or memory was refused
+  -- a reply to this ticket was put, and made good only where it is of a flight; or its fill is not there yet, or memory was
+  -- refused
   abbrev pub Answers : {E : Type 0} → (ℕ → List ℕ → Answer → Type 0) → Ticket S → List ℕ → List ℕ → Result Answered E → Type 0
-  Answers answers t old new (Ok answered.Put) = IsReplyPut answers (wish_by t) old new × IsMadeGood t.body false
-  Answers answers t old new (Ok answered.MadeGood) = IsReplyPut answers (wish_by t) old new × IsMadeGood t.body true
+  Answers answers t old new (Ok answered.Put) = IsReplyPut answers (wish_by t) old new
+  Answers answers t old new (Ok answered.MadeGood) = IsReplyPut answers (wish_by t) old new × (waits_on_flight t.body ≡ true)
   Answers answers t old new (Ok answered.Waits) = (new ≡ old) × (waits_on_flight t.body ≡ true)
   Answers answers t old new (Err fault) = new ≡ old

@@ -7,11 +7,12 @@ use Rattle.peer_fill.specs.Pools.{IsConnSeatOf}
 use Rattle.peer_fill.specs.Seats.{asks_of, conn_parts}
 use Rattle.peer_fill.specs.declared.pool.Pool.{Pool}
 use Rattle.peer_fill.specs.declared.seats.ConnSeat.{ConnSeat}
-use Rattle.peer_lane.specs.Lanes.{IsSameIn}
+use Rattle.peer_lane.specs.Lanes.{IsSameIn, tickets_put}
 use Rattle.peer_lane.specs.declared.lane_in.LaneIn.{LaneIn}
 use Rattle.peer_reply.specs.declared.wish.Wish.{Wish}
 use Rattle.peer_conn.specs.Tickets.{wishes_put, asks_in}
 use Rattle.peer_conn.specs.Requests.{Stops}
+use Rattle.peer_conn.specs.Strangers.{flights_in, flights_of}
 use Rattle.peer_conn.specs.declared.reader_side.ReaderSide.{ReaderSide}
 use Rattle.peer_conn.specs.declared.end.ReaderStop.{ReaderStop}
 
@@ -25,6 +26,7 @@ module _ {S L : Type 0} {g : Source.Ghosts S} {h : Ledger.Ghosts L} where
     pub same : IsSameIn lane lane'
     pub put : wishes_put lane' ≡ wishes_put lane ++ ws
     pub asked : (asks_of seat').asked ≡ (asks_of seat).asked + asks_in ws
+    pub flights : flights_of (asks_of seat') + flights_in (tickets_put lane) ≡ flights_of (asks_of seat) + flights_in (tickets_put lane')
 
   -- these requests came, their tickets were put, and then this stopped it
   pub record TakesRequests {R : Type 0} {k : Read.Ghosts R} (numbers : List ℕ → Option ℕ) (pool : Pool S L g h)

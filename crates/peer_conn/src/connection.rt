@@ -10,7 +10,7 @@ ghost use Rattle.peer_conn.specs.Connects.{allows};
 ghost use Rattle.peer_conn.specs.Sides.{AreNewSides, ServesSides};
 ghost use Rattle.peer_conn.specs.ReaderSides.{TakesRequests};
 ghost use Rattle.peer_conn.specs.WriterSides.{AnswersTickets};
-ghost use Rattle.peer_conn.specs.Strangers.{CountsStrangers};
+ghost use Rattle.peer_conn.specs.Strangers.{CountsFew};
 
 use crate::end::{Served, end_of, refused};
 use crate::reader_side::{ReaderSide, StoppedReader};
@@ -53,7 +53,7 @@ pub fn serve_connection<
     requires failures { W.failures writer < 2 ^ 64 - 1 }
     ensures seat { IsConnSeatOf pool.now result.1 }
     ensures parts { conn_parts result.1 ≡ conn_parts seat }
-    ensures strangers { CountsStrangers (2 ^ 56) (asks_of seat).strangers (asks_of result.1).strangers }
+    ensures strangers { CountsFew (asks_of seat) (asks_of result.1) }
     ensures connects { CallConnects R.PeerRead W.PeerWrite reader writer result.0 (S.number_of (source_of pool.now))
         (allows S.allowed) reads seat result.1 }
     ensures writes_replies { CallWrites R.PeerRead W.PeerWrite reader writer result.0 (S.number_of (source_of pool.now))
@@ -108,7 +108,7 @@ pub fn serve_connection_functional<
     requires failures { W.failures writer < 2 ^ 64 - 1 }
     ensures seat { IsConnSeatOf pool.now result.1 }
     ensures parts { conn_parts result.1 ≡ conn_parts seat }
-    ensures strangers { CountsStrangers (2 ^ 56) (asks_of seat).strangers (asks_of result.1).strangers }
+    ensures strangers { CountsFew (asks_of seat) (asks_of result.1) }
     ensures connects { CallConnects R.PeerRead W.PeerWrite reader writer result.0 S.the_number (only S.the_answer) reads seat result.1 }
     ensures writes_replies { CallWrites R.PeerRead W.PeerWrite reader writer result.0 S.the_number (only S.the_answer) }
 {
@@ -132,7 +132,7 @@ fn serve_sides<
     requires sides { AreNewSides reader writer }
     ensures seat { IsConnSeatOf pool.now result.1 }
     ensures parts { conn_parts result.1 ≡ conn_parts reader.seat }
-    ensures strangers { CountsStrangers (2 ^ 56) (asks_of reader.seat).strangers (asks_of result.1).strangers }
+    ensures strangers { CountsFew (asks_of reader.seat) (asks_of result.1) }
     ensures serves { ServesSides (S.number_of (source_of pool.now)) (allows S.allowed) reader writer result.0 (asks_of result.1).asked }
 {
     let signal = Signal::new();

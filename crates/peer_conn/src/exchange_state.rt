@@ -288,19 +288,21 @@ impl<S: Source> ExchangeState<S> {
     {
         loop {
             match self.answer_first(pool, seat) {
-                Ok(true) => {}
-                Ok(false) => return Ok(()),
+                Ok(Answered::Put) => {}
+                Ok(Answered::MadeGood) => {}
+                Ok(Answered::Waits) => return Ok(()),
                 Err(why) => return Err(why),
             }
         }
     }
 
-    // Puts the reply of the first ticket, where its fill is there. Whether it did.
+    // Puts the reply of the first ticket, where its fill is there and little output waits, and counts a stranger where it
+    // was made good. `Waits` also where there is no ticket.
     fn answer_first<L: Ledger>(
         &mut self,
         pool: &Pool<S, L>,
         seat: &mut ConnSeat<S, L>,
-    ) -> Result<bool, GivenUp>
+    ) -> Result<Answered, GivenUp>
         requires { IsConnSeatOf pool.now seat.old }
         ensures seat { IsConnSeatOf pool.now seat.new }
         ensures parts { conn_parts seat.new ≡ conn_parts seat.old }
@@ -308,25 +310,25 @@ impl<S: Source> ExchangeState<S> {
         ensures answers { AnswersFirst self.old self.new (asks_of seat.old) (asks_of seat.new) result }
     {
         if self.has_much_output() {
-            return Ok(false);
+            return Ok(Answered::Waits);
         }
         let Some(ticket) = self.waiting.front() else {
-            return Ok(false);
+            return Ok(Answered::Waits);
         };
         let before = self.outgoing.out.len();
         match self.outgoing.answer(pool, ticket) {
             Ok(Answered::Put) => {
                 drop_first(&mut self.waiting);
                 self.window.put(self.outgoing.out.len() - before);
-                Ok(true)
+                Ok(Answered::Put)
             }
             Ok(Answered::MadeGood) => {
                 seat.add_strangers(1);
                 drop_first(&mut self.waiting);
                 self.window.put(self.outgoing.out.len() - before);
-                Ok(true)
+                Ok(Answered::MadeGood)
             }
-            Ok(Answered::Waits) => Ok(false),
+            Ok(Answered::Waits) => Ok(Answered::Waits),
             Err(AllocError) => {
                 self.give_up(GivenUp::Memory);
                 Err(GivenUp::Memory)

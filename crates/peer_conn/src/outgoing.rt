@@ -9,7 +9,7 @@ ghost use Rattle.peer_flight.specs.Claims.{Looked};
 ghost use Rattle.peer_conn.specs.Connects.{allows};
 ghost use Rattle.peer_conn.specs.Tickets.{claim_wish, fill_wish};
 ghost use Rattle.peer_conn.specs.Holdings.{CameFor};
-ghost use Rattle.peer_conn.specs.Answering.{Answers, AnswersClaim, PutsReplyTo, PutsText, is_pending};
+ghost use Rattle.peer_conn.specs.Answering.{Answers, AnswersClaim, AnswersFilled, PutsReplyTo, PutsText, is_pending};
 
 use peer_fill::Pool;
 use peer_flight::Claim;
@@ -129,7 +129,7 @@ impl Outgoing {
         self.put_filled(pool, claim, fill, closing, bare)
     }
 
-    // Puts the reply of a claim whose fill came. A fill of another place than the claim's is not put.
+    // Puts the reply of a claim whose fill came, which is made good where the fill is of another place than the claim's.
     fn put_filled<S: Source, L: Ledger>(
         &mut self,
         pool: &Pool<S, L>,
@@ -138,8 +138,7 @@ impl Outgoing {
         closing: bool,
         bare: bool,
     ) -> Result<Answered, AllocError>
-        requires { Looked claim.now None (Some fill.now) (Some fill.now) }
-        ensures { AnswersClaim (allows S.allowed) claim.now closing bare self.old.out.bytes self.new.out.bytes result }
+        ensures { AnswersFilled (allows S.allowed) claim.now fill.now closing bare self.old.out.bytes self.new.out.bytes result }
     {
         match pool.refill(self.alloc, claim, fill) {
             Ok(None) => match self.put_fill(fill, closing, bare) {

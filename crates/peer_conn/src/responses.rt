@@ -23,7 +23,7 @@ pub(crate) struct Responses<W: PeerWrite> {
 }
 
 impl<W: PeerWrite> Responses<W> {
-    ghost use Rattle.std.specs.Prelude.{◌≡◌, ◌-◌, ◌^◌, ◌<◌, [], Some, None, option_map, IfOk, IfErr};
+    ghost use Rattle.std.specs.Prelude.{◌≡◌, ◌-◌, ◌^◌, ◌<◌, false, [], Some, None, option_map, IfOk, IfErr};
     ghost use Rattle.peer_reply.specs.Texts.{fault_reply, answer_reply};
     ghost use Rattle.peer_conn.specs.WriterStates.{is_active};
     ghost use Rattle.peer_conn.specs.Responses.{AreNewResponses, PutsReply, IsFlushed};
@@ -73,7 +73,8 @@ impl<W: PeerWrite> Responses<W> {
 
     /// Puts no more replies, since memory was refused for one.
     pub(crate) fn refuse(&mut self)
-        ensures { PutsReply self.old self.new None }
+        ensures puts { PutsReply self.old self.new None }
+        ensures stopped { is_active self.new.state ≡ false }
     {
         if let WriterState::Active = self.state {
             self.state = WriterState::Memory;

@@ -53,6 +53,7 @@ impl<S: Source, W: PeerWrite + Drop> WriterSide<S, W> {
     ghost use Rattle.peer_conn.specs.Connects.{allows};
     ghost use Rattle.peer_conn.specs.Responses.{PutsReplies};
     ghost use Rattle.peer_conn.specs.WriterSides.{AnswersTickets, AnswersLeft, KeepsTickets};
+    ghost use Rattle.peer_conn.specs.Strangers.{CountsFill, flight_count, flights_in_body};
 
     /// Takes tickets until no more are put, and puts their replies.
     pub(crate) fn run<L: Ledger, H: Wait>(&mut self, rt: &H, pool: &Pool<S, L>, signal: &Signal)
@@ -113,7 +114,7 @@ impl<S: Source, W: PeerWrite + Drop> WriterSide<S, W> {
     // Puts the reply of a ticket, and lets the ticket go.
     fn put<L: Ledger, H: Wait>(&mut self, rt: &H, pool: &Pool<S, L>, ticket: Ticket<S>)
         ensures replies { PutsReplies (allows S.allowed) self.old.responses self.new.responses (wish_by ticket ∷ []) }
-        ensures others { KeepsTickets self.old self.new }
+        ensures others { KeepsTickets (flights_in_body ticket.body) self.old self.new }
     {
         match &ticket.body {
             Body::Fault(fault) => self.responses.put_fault(fault, ticket.closing, ticket.bare),
@@ -132,7 +133,7 @@ impl<S: Source, W: PeerWrite + Drop> WriterSide<S, W> {
         bare: bool,
     )
         ensures replies { PutsReplies (allows S.allowed) self.old.responses self.new.responses (claim_wish claim.now closing bare ∷ []) }
-        ensures others { KeepsTickets self.old self.new }
+        ensures others { KeepsTickets (flight_count claim.now) self.old self.new }
     {
         if !self.responses.is_active() {
             return;
@@ -147,7 +148,7 @@ impl<S: Source, W: PeerWrite + Drop> WriterSide<S, W> {
         }
     }
 
-    // Puts the reply of a claim whose fill came. A fill of another place than the claim's is not written.
+    // Puts the reply of a claim whose fill came. A fill of another place than the claim's is counted, and not written.
     fn put_filled<L: Ledger>(
         &mut self,
         pool: &Pool<S, L>,
@@ -157,7 +158,8 @@ impl<S: Source, W: PeerWrite + Drop> WriterSide<S, W> {
         bare: bool,
     )
         ensures replies { PutsReplies (allows S.allowed) self.old.responses self.new.responses (claim_wish claim.now closing bare ∷ []) }
-        ensures others { KeepsTickets self.old self.new }
+        ensures lane { self.new.lane ≡ self.old.lane }
+        ensures counts { CountsFill claim.now fill.now self.new.responses.state self.old.strangers self.new.strangers }
     {
         match pool.refill(self.alloc, claim, fill) {
             Ok(None) => self.put_fill(fill, closing, bare),

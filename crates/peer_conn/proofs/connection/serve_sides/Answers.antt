@@ -1,13 +1,17 @@
-use Rattle.std.proofs.Common.{◌∙◌, ap, refl}
+use Rattle.std.proofs.Common.{◌∙◌, ap, arith, refl}
+use Rattle.peer_fill.specs.Seats.{asks_of}
+use Rattle.peer_conn.specs.Strangers.{flights_in}
 use Rattle.peer_conn.proofs.EndLemmas.{answers_all}
-use Rattle.peer_conn.proofs.WriterSideLemmas.{strangers_then, seat_counts}
+use Rattle.peer_conn.proofs.StrangerLemmas.{counts_then, seat_counts}
 use Rattle.peer_conn.proofs.connection.serve_sides.Goals as goal
 
 pub returns-clause-strangers : goal.returns-clause-strangers
 returns-clause-strangers g c =
     let sides = c.run_sides-read.ensures in
-    let made_good = strangers_then sides.wrote.made_good c.write_left.ensures.left.made_good in
-    seat_counts c.requires.sides.3 made_good sides.read.puts.strangers (ap (λ a. a.strangers) c.add_strangers.ensures.counts)
+    let puts = sides.read.puts in
+    let none = ap flights_in c.requires.sides.1 in
+    seat_counts (asks_of c.args.reader.seat) _ _ c.requires.sides.3 c.requires.sides.2 (counts_then sides.wrote.strangers c.write_left.ensures.left.strangers) puts.strangers
+    (omega (arith, puts.flights, none)) c.args.reader.seat.most_strangers c.add_strangers.ensures.counts
 
 pub returns-clause-serves : goal.returns-clause-serves
 returns-clause-serves g c =

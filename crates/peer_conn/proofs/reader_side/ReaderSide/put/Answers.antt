@@ -3,7 +3,9 @@ use Rattle.peer_reply.specs.declared.wish.WishBody.TheVariants as wish
 use Rattle.peer_flight.specs.SingleFlight.{Place}
 use Rattle.peer_reply.specs.declared.wish.WishBody.{WishBody}
 use Rattle.peer_conn.specs.Tickets.{body_by, asks_in_body}
+use Rattle.peer_conn.specs.Strangers.{flights_in_body}
 use Rattle.peer_conn.proofs.ReaderSideLemmas.{puts_one}
+use Rattle.peer_conn.proofs.StrangerLemmas.{flights_of_ask}
 use Rattle.peer_conn.proofs.reader_side.ReaderSide.put.Goals as goal
 use Rattle.peer_conn.proofs.reader_side.ReaderSide.put.Goals.{in-Fault, in-Get+in_ok-ask-in-Get}
 
@@ -11,9 +13,10 @@ pub returns-clause-put : goal.returns-clause-put
 returns-clause-put g c =
     let lane = c.put_waiting.ensures in
     elim c.match-body.branch [
-      | in-Fault w ↦ puts_one c.args.wish c.match-body.body w.self-is c.requires.seat refl refl (let n = ap asks_in_body w.in-Fault.is in omega (arith, n)) lane.lane lane.put (ap body_by w.body-is ∙ sym w.in-Fault.is)
+      | in-Fault w ↦ puts_one c.args.wish c.match-body.body w.self-is c.requires.seat refl refl (let n = ap flights_in_body w.body-is in omega (arith, n)) (let n = ap asks_in_body w.in-Fault.is in omega (arith, n)) lane.lane lane.put (ap body_by w.body-is ∙ sym w.in-Fault.is)
       | in-Get+in_ok-ask-in-Get w ↦
           let asked = w.in_ok-ask-in-Get.ensures in
           let wish_at : Place → WishBody = λ p. wish.Get (record { number = p.group }) p.key in
-          puts_one c.args.wish c.match-body.body w.self-is asked.seat asked.parts asked.counted.strangers (let n = ap asks_in_body w.in-Get.is in omega (arith, n, asked.counted.asked)) lane.lane lane.put (ap body_by w.body-is ∙ ap wish_at asked.place ∙ sym w.in-Get.is)
+          puts_one c.args.wish c.match-body.body w.self-is asked.seat asked.parts asked.counted.strangers
+          (let n = ap flights_in_body w.body-is in omega (arith, n, flights_of_ask asked.counted)) (let n = ap asks_in_body w.in-Get.is in omega (arith, n, asked.counted.asked)) lane.lane lane.put (ap body_by w.body-is ∙ ap wish_at asked.place ∙ sym w.in-Get.is)
     ]
