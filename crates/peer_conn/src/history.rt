@@ -17,6 +17,9 @@ impl Model for History {
     ghost also_owns = { λ _. ftrue };
 }
 
+// It owns nothing, so that what has one goes to another thread where its other fields do.
+unsafe impl Send for History {}
+
 impl History {
     /// No bytes.
     pub(crate) fn none() -> History
