@@ -1,2 +1,3 @@
+pub mod Dealings
 pub mod Parts
 pub mod Serving

@@ -3,10 +3,10 @@
 //! Where no more connections can be had, new clients wait in the backlog of the system until one ends. Once the server was
 //! told to stop, it accepts no more.
 
+use crate::listening::Listening;
 use crate::site::Site;
 use crate::stop::Stop;
-use mio::net::{TcpListener, TcpStream};
-use mio::{Events, Poll};
+use mio::net::TcpStream;
 use std::io::ErrorKind;
 use std::sync::Wait;
 use std::thread;
@@ -16,9 +16,7 @@ use std::time::Clock;
 /// Where a server gets its clients.
 #[derive(Drop)]
 pub struct Acceptor<'a> {
-    pub listener: TcpListener,
-    pub poll: Poll,
-    pub events: Events,
+    pub listening: Listening,
     pub site: Site<'a>,
     pub stop: &'a Stop,
     /// How many connections are accepted yet, none where there is no end.
@@ -33,7 +31,7 @@ impl<'a> Acceptor<'a> {
 
     // Waits for clients, or for room.
     fn wait<H: Threads + Wait + Clock>(&mut self, rt: &H) {
-        if self.poll.poll(&mut self.events, None).is_err() {
+        if !self.listening.wait() {
             self.pause(rt);
         }
     }
@@ -54,6 +52,16 @@ impl<'a> Acceptor<'a> {
         unreachable!()
     }
 
+    // Waits for clients where there was none, and else for some time.
+    fn wait_behind<H: Threads + Wait + Clock>(&mut self, rt: &H, kind: ErrorKind) {
+        if kind == ErrorKind::WouldBlock {
+            self.wait(rt);
+        } else {
+            self.site.counters.accepts().count_failed();
+            self.pause(rt);
+        }
+    }
+
     // Accepts one stream, or waits, and says whether there was one.
     fn accept<H: Threads + Wait + Clock>(&mut self, rt: &H, turn: usize) -> bool {
         if self.site.occupancy.is_full() {
@@ -63,7 +71,7 @@ impl<'a> Acceptor<'a> {
             }
             return false;
         }
-        match self.listener.accept() {
+        match self.listening.listener.accept() {
             Ok((stream, _)) => {
                 self.site.counters.accepts().count_accepted();
                 if stream.set_nodelay(true).is_ok() {
@@ -72,13 +80,7 @@ impl<'a> Acceptor<'a> {
                 true
             }
             Err(error) => {
-                match error.kind() {
-                    ErrorKind::WouldBlock => self.wait(rt),
-                    _ => {
-                        self.site.counters.accepts().count_failed();
-                        self.pause(rt);
-                    }
-                }
+                self.wait_behind(rt, error.kind());
                 false
             }
         }

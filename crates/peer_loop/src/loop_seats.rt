@@ -2,10 +2,10 @@
 //!
 //! A loop is handed a connection's seat, and one that fills where the loops fill. It gives back both with their parts, so the
 //! lists have all parts again once all loops are joined.
-ghost use Rattle.std.specs.Prelude.{◌≡◌, ◌+◌, ◌≤◌, All, IfNone, IfSome, sum_by, vec_len, vec_capacity};
+ghost use Rattle.std.specs.Prelude.{◌≡◌, ◌+◌, ◌≤◌, All, IfSome, sum_by, vec_len, vec_capacity};
 ghost use Rattle.peer_fill.specs.Pools.{IsConnSeatOf, IsFillSeatOf};
 ghost use Rattle.peer_fill.specs.Seats.{conn_parts, fill_parts};
-ghost use Rattle.peer_loop.specs.Parts.{AreOf, KeepsParts, filling_parts, handed_conns, handed_fills};
+ghost use Rattle.peer_loop.specs.Parts.{AreOf, AreSeatsOf, KeepsParts, filling_parts, Takes, TakesBack};
 
 use peer_fill::{ConnSeat, FillSeat, Pool, pop_conn, pop_fill};
 use peer_source::Source;
@@ -58,22 +58,10 @@ pub fn pop_loop<S: Source, L: Ledger>(
     pool: &Pool<S, L>,
     seats: &mut Seats<S, L>,
 ) -> Option<LoopSeats<S, L>>
-    requires conns { All (IsConnSeatOf pool.now) seats.old.conns.items }
-    requires fills { All (IsFillSeatOf pool.now) seats.old.fills.items }
+    requires { AreSeatsOf pool.now seats.old }
     ensures of { IfSome result (AreOf pool.now) }
-    ensures conns { All (IsConnSeatOf pool.now) seats.new.conns.items }
-    ensures fills { All (IsFillSeatOf pool.now) seats.new.fills.items }
-    ensures none { IfNone result ((vec_len seats.new.conns ≡ 0) × (sum_by conn_parts seats.new.conns.items ≡ 0)) }
-    ensures conn { IfSome result (λ own. sum_by conn_parts seats.old.conns.items
-        ≡ sum_by conn_parts seats.new.conns.items + conn_parts own.conn) }
-    ensures fill { IfSome result (λ own. sum_by fill_parts seats.old.fills.items
-        ≡ sum_by fill_parts seats.new.fills.items + filling_parts own.fill) }
-    ensures same_conn { IfNone result (sum_by conn_parts seats.new.conns.items ≡ sum_by conn_parts seats.old.conns.items) }
-    ensures same_fill { IfNone result (sum_by fill_parts seats.new.fills.items ≡ sum_by fill_parts seats.old.fills.items) }
-    ensures fewer { IfSome result (λ own. vec_len seats.old.conns ≡ vec_len seats.new.conns + 1) }
-    ensures no_more { vec_len seats.new.fills ≤ vec_len seats.old.fills }
-    ensures conn_room { vec_capacity seats.new.conns ≡ vec_capacity seats.old.conns }
-    ensures fill_room { vec_capacity seats.new.fills ≡ vec_capacity seats.old.fills }
+    ensures left { AreSeatsOf pool.now seats.new }
+    ensures takes { Takes seats.old seats.new result }
 {
     let conn = pop_conn(pool, &mut seats.conns)?;
     let fill = pop_fill(pool, &mut seats.fills);
@@ -129,16 +117,10 @@ pub fn join_loops<'a, S: Source, L: Ledger, H: Threads>(
     seats: &mut Seats<S, L>,
 )
     requires serving { All (λ h. h.promise.pool.now ≡ pool.now) serving.items }
-    requires conns { All (IsConnSeatOf pool.now) seats.old.conns.items }
-    requires fills { All (IsFillSeatOf pool.now) seats.old.fills.items }
+    requires of { AreSeatsOf pool.now seats.old }
     requires conn_room { vec_len seats.old.conns + vec_len serving ≤ vec_capacity seats.old.conns }
     requires fill_room { vec_len seats.old.fills + vec_len serving ≤ vec_capacity seats.old.fills }
-    ensures conns { All (IsConnSeatOf pool.now) seats.new.conns.items }
-    ensures fills { All (IsFillSeatOf pool.now) seats.new.fills.items }
-    ensures conn { sum_by conn_parts seats.new.conns.items
-        ≡ sum_by conn_parts seats.old.conns.items + handed_conns serving.entry.items }
-    ensures fill { sum_by fill_parts seats.new.fills.items
-        ≡ sum_by fill_parts seats.old.fills.items + handed_fills serving.entry.items }
+    ensures { TakesBack pool.now seats.old seats.new serving.entry }
 {
     while let Some(handle) = serving.pop() {
         let LoopSeats { conn, fill } = handle.join(rt);

@@ -1,31 +1,22 @@
 //! The peer server on event loops.
-ghost use Rattle.std.specs.Prelude.{◌≡◌, ◌+◌, ◌↔◌, All, IfOk, IfSome, IsErrOf, sum_by};
+ghost use Rattle.std.specs.Prelude.{◌≡◌, ◌+◌, ◌↔◌, All, IfOk, IfSome, IsErrOf};
 ghost use Rattle.peer_fill.specs.Opens.{IsOutside, IsWithin};
 ghost use Rattle.peer_fill.specs.Pools.{source_of, IsConnSeatOf, IsFillSeatOf};
-ghost use Rattle.peer_fill.specs.Seats.{conn_parts, fill_parts, HaveAllConns, HaveAllFills};
+ghost use Rattle.peer_fill.specs.Seats.{HaveAllConns, HaveAllFills};
 ghost use Rattle.peer_fetch.specs.Threads.{Allows};
-ghost use Rattle.peer_loop.specs.Serving.{seats_of};
+ghost use Rattle.peer_loop.specs.Parts.{AreSeatsOf, ComeBack};
+ghost use Rattle.peer_loop.specs.Serving.{fill_seats, seats_of};
 
 use crate::acceptor::Acceptor;
-use crate::bells::Bells;
-use crate::event_loop::Waits;
-use crate::fillers::Fillers;
-use crate::limits::{Limits, MAX_EVENTS, MAX_READ};
 use crate::loop_seats::Seats;
-use crate::mailbox::Mailbox;
-use crate::mailboxes::Mailboxes;
-use crate::occupancy::Occupancy;
+use crate::opening::{ServerParts, open_parts};
+use crate::settings::{Orders, Settings};
 use crate::site::Site;
-use crate::stop::Stop;
-use crate::threads::{LoopParts, ThreadParts, use_loops, use_threads};
-use mio::net::TcpListener;
-use mio::{Events, Interest, Poll, Token};
-use peer_fetch::{FetchParts, FetchPlan};
+use crate::threads::use_threads;
+use peer_fetch::FetchPlan;
 use peer_fill::{OpenFault, Opened, Pool, Report};
 use peer_source::Source;
-use peer_stats::Counters;
 use std::alloc::Global;
-use std::hash::RandomState;
 use std::marker::Brand;
 use std::net;
 use std::net::Net;
@@ -46,89 +37,42 @@ pub enum ServerFault {
     Refused,
 }
 
-/// How a server serves.
-#[derive(Clone, Copy)]
-pub struct Settings<'a> {
-    /// Which threads fill what is asked for.
-    pub fillers: Fillers,
-    /// How many threads serve connections, from 1 to 16.
-    pub loops: usize,
-    /// How many connections are open at most. Further clients wait in the backlog.
-    pub connections: usize,
-    /// How many bytes of replies and values all clients together may hold, those not counted that hold 64 KiB at most. Where
-    /// it is more, a client's next requests wait until it holds nothing.
-    pub memory: usize,
-    /// How many connections are accepted before the server ends by itself, none where it does not.
-    pub accepts: Option<u64>,
-    /// How many bytes of keys and values the cache of each group keeps at most.
-    pub cache_bytes: u64,
-    /// The seed of the caches' maps.
-    pub seed: RandomState,
-    /// How long clients are waited for.
-    pub limits: Limits,
-    /// Where its threads publish what they count.
-    pub counters: &'a Counters,
-    /// By what it is told to end.
-    pub stop: &'a Stop,
-}
-
-// What loops need beside their seats, and a mailbox for each. None where memory or a descriptor was refused.
-fn open_loops<H: Net>(rt: &H, alloc: Global, count: usize) -> Option<(Vec<LoopParts>, Mailboxes)> {
-    let mut loops = Vec::new(alloc);
-    let mut each = Vec::new(alloc);
-    for _ in 0..count {
-        let poll = Poll::new(rt).ok()?;
-        let events = Events::with_capacity(alloc, MAX_EVENTS).ok()?;
-        each.push(Mailbox::new(alloc, &poll)?).ok()?;
-        let buffer = vec![in alloc; 0; MAX_READ].ok()?;
-        let waits = Waits { poll, events };
-        loops.push(LoopParts { waits, buffer }).ok()?;
-    }
-    Some((loops, Mailboxes { each }))
-}
-
-// Has the listener's clients reported. None where the system refuses that.
-fn watch(listener: net::TcpListener, poll: &Poll) -> Option<TcpListener> {
-    listener.set_nonblocking(true).ok()?;
-    let mut listener = TcpListener::from_std(listener);
-    poll.registry()
-        .register(&mut listener, Token(0), Interest::READABLE)
-        .ok()?;
-    Some(listener)
-}
-
-// What threads that fetch need beside their seats, and a bell for each. None where memory or the system refuses it.
-fn open_fetchers<H: Net>(
+// Serves over a pool that was opened, with what the system gave. None where memory or a thread was refused.
+fn serve_parts<
+    S: Source,
+    L: Ledger + Send + Sync,
+    H: Threads + Wait + Clock + Net<Listener = net::TcpListener, Stream = net::TcpStream> + Sync,
+>(
     rt: &H,
     alloc: Global,
-    count: usize,
-    origins: usize,
-) -> Option<(Vec<FetchParts>, Bells)> {
-    let mut fetchers = Vec::new(alloc);
-    let mut each = Vec::new(alloc);
-    for _ in 0..count {
-        let (parts, bell) = FetchParts::new(rt, alloc, origins)?;
-        fetchers.push(parts).ok()?;
-        each.push(bell).ok()?;
-    }
-    Some((fetchers, Bells { each }))
-}
-
-// How a server serves, and what its threads fetch, where they do.
-#[derive(Clone, Copy)]
-struct Orders<'a> {
-    settings: &'a Settings<'a>,
-    plan: Option<FetchPlan<'a>>,
-}
-
-impl<'a> Orders<'a> {
-    // How many threads fetch, and from how many origins.
-    fn fetchers(&self) -> (usize, usize) {
-        match (self.plan, self.settings.fillers) {
-            (Some(plan), Fillers::Threads(count)) => (count, plan.places.each.len()),
-            _ => (0, 0),
-        }
-    }
+    pool: &Pool<S, L>,
+    seats: Seats<S, L>,
+    parts: ServerParts<'_>,
+    settings: &Settings<'_>,
+) -> Option<Seats<S, L>>
+    requires of { AreSeatsOf pool.now seats }
+    requires allows { IfSome parts.threads.fillers.plan (Allows (S.answers (source_of pool.now))) }
+    ensures { IfSome result (ComeBack pool.now seats) }
+{
+    let ServerParts {
+        threads,
+        shared,
+        listening,
+    } = parts;
+    let site = Site {
+        mailboxes: &shared.mailboxes,
+        bells: &shared.bells,
+        occupancy: &shared.occupancy,
+        limits: &settings.limits,
+        counters: settings.counters,
+    };
+    let acceptor = Acceptor {
+        listening,
+        site,
+        stop: settings.stop,
+        left: settings.accepts,
+    };
+    use_threads(rt, alloc, pool, seats, threads, acceptor)
 }
 
 // Serves over a pool that was opened. None where memory, a thread or a descriptor was refused.
@@ -144,47 +88,13 @@ fn serve_seats<
     listener: net::TcpListener,
     orders: Orders<'_>,
 ) -> Option<Seats<S, L>>
-    requires fills { All (IsFillSeatOf pool.now) seats.fills.items }
-    requires conns { All (IsConnSeatOf pool.now) seats.conns.items }
+    requires of { AreSeatsOf pool.now seats }
     requires allows { IfSome orders.plan (Allows (S.answers (source_of pool.now))) }
-    ensures fills { IfSome result (λ back. All (IsFillSeatOf pool.now) back.fills.items) }
-    ensures conns { IfSome result (λ back. All (IsConnSeatOf pool.now) back.conns.items) }
-    ensures fill { IfSome result (λ back. sum_by fill_parts back.fills.items ≡ sum_by fill_parts seats.fills.items) }
-    ensures conn { IfSome result (λ back. sum_by conn_parts back.conns.items ≡ sum_by conn_parts seats.conns.items) }
+    ensures { IfSome result (ComeBack pool.now seats) }
 {
-    let Orders { settings, plan } = orders;
-    let (loops, mailboxes) = open_loops(rt, alloc, settings.loops)?;
-    let (count, origins) = orders.fetchers();
-    let (fetchers, bells) = open_fetchers(rt, alloc, count, origins)?;
-    let poll = Poll::new(rt).ok()?;
-    let events = Events::with_capacity(alloc, MAX_EVENTS).ok()?;
-    let occupancy = Occupancy::new(&poll, settings.connections, settings.memory)?;
-    let listener = watch(listener, &poll)?;
-    settings.stop.watch(&poll)?;
-    let site = Site {
-        mailboxes: &mailboxes,
-        bells: &bells,
-        occupancy: &occupancy,
-        limits: &settings.limits,
-        counters: settings.counters,
-    };
-    let acceptor = Acceptor {
-        listener,
-        poll,
-        events,
-        site,
-        stop: settings.stop,
-        left: settings.accepts,
-    };
-    let parts = ThreadParts {
-        loops,
-        fetchers,
-        plan,
-    };
-    match settings.fillers {
-        Fillers::Threads(_) => use_threads(rt, alloc, pool, seats, parts, acceptor),
-        Fillers::Loops => use_loops(rt, alloc, pool, seats, parts.loops, acceptor),
-    }
+    let settings = orders.settings;
+    let parts = open_parts(rt, alloc, listener, orders)?;
+    serve_parts(rt, alloc, pool, seats, parts, settings)
 }
 
 // Serves over a pool that was opened, and closes it.
@@ -234,14 +144,12 @@ fn over_pool<
     requires name { blank.name ≡ L.name }
     requires parts { (blank.parts ≡ L.parts) × (blank.parts ≡ 16) }
     requires allows { IfSome orders.plan (Allows (S.answers source)) }
-    ensures workers { IsErrOf result (ServerFault.Open OpenFault.Workers)
-        ↔ IsOutside 16 (seats_of orders.entry.settings.now.fillers orders.entry.settings.now.loops) }
+    ensures workers { IsErrOf result (ServerFault.Open OpenFault.Workers) ↔ IsOutside 16 (fill_seats orders.entry.settings.now) }
     ensures loops { IsErrOf result (ServerFault.Open OpenFault.Conns)
-        ↔ (IsWithin 16 (seats_of orders.entry.settings.now.fillers orders.entry.settings.now.loops)
-        × IsOutside 16 orders.entry.settings.now.loops) }
+        ↔ (IsWithin 16 (fill_seats orders.entry.settings.now) × IsOutside 16 orders.entry.settings.now.loops) }
     ensures groups { IsErrOf result (ServerFault.Open OpenFault.Groups)
-        ↔ (IsWithin 16 (seats_of orders.entry.settings.now.fillers orders.entry.settings.now.loops)
-        × IsWithin 16 orders.entry.settings.now.loops × IsOutside 64 (S.count source)) }
+        ↔ (IsWithin 16 (fill_seats orders.entry.settings.now) × IsWithin 16 orders.entry.settings.now.loops
+        × IsOutside 64 (S.count source)) }
     ensures each_ask { IfOk result (λ report. report.asked ≡ report.hits + report.led + report.joined) }
     ensures each_flight { IfOk result (λ report. report.led ≡ report.calls + report.rehits + report.left) }
 {
@@ -258,10 +166,7 @@ fn over_pool<
         Ok(opened) => opened,
         Err(fault) => return Err(ServerFault::Open(fault)),
     };
-    match serve_opened(rt, alloc, opened, listener, orders) {
-        Some(report) => Ok(report),
-        None => Err(ServerFault::Refused),
-    }
+    serve_opened(rt, alloc, opened, listener, orders).ok_or(ServerFault::Refused)
 }
 
 /// Serves the listener's clients until so many connections as the settings say were accepted and have ended, or until it

@@ -1,8 +1,7 @@
-use Rattle.std.proofs.Common.{◌≡◌, arith, subst}
-use Rattle.peer_fill.specs.Pools.{IsConnSeatOf, IsFillSeatOf}
-use Rattle.peer_fill.specs.Seats.{conn_parts, fill_parts}
-use Rattle.peer_fill.proofs.Lasts.{of_front, of_last, sum_last}
-use Rattle.peer_loop.specs.Parts.{filling_parts, handed_conns, handed_fills}
+use Rattle.std.proofs.Common.{◌≡◌, arith}
+use Rattle.peer_fill.specs.Seats.{conn_parts}
+use Rattle.peer_fill.proofs.Lasts.{of_front, sum_last}
+use Rattle.peer_loop.specs.Parts.{filling_parts}
 use Rattle.peer_loop.proofs.loop_seats.join_loops.Goals as goal
 
 pub loop-handle-preserved : goal.loop-handle-preserved
@@ -14,10 +13,23 @@ loop-handle-preserved g c =
     let fill = c.put_fill.ensures in
     record {
       serving = of_front (λ h. h.promise.pool.now ≡ pool) _ _ _ last i.serving;
-      conns = conn.conns;
-      fills = fill.fills;
+      of = record { conns = conn.conns; fills = fill.fills };
       conn_room = omega (arith, c.in-Some.ensures.cases, conn.len, conn.room, i.conn_room);
       fill_room = omega (arith, c.in-Some.ensures.cases, fill.len, fill.room, i.fill_room);
-      conn = omega (arith, conn.parts, c.join-conn.ensures.1.0, i.conn, sum_last (λ h. conn_parts h.promise.seats.value.conn) _ _ _ last);
-      fill = omega (arith, fill.parts, c.join-conn.ensures.1.1, i.fill, sum_last (λ h. filling_parts h.promise.seats.value.fill) _ _ _ last);
+      conn = omega (
+        arith,
+        conn.parts,
+        c.join-conn.ensures.1.0,
+        i.conn,
+        sum_last (λ h. conn_parts h.promise.seats.value.conn) _ _ _ last,
+      );
+      fill = omega (
+        arith,
+        fill.parts,
+        c.join-conn.ensures.1.1,
+        i.fill,
+        sum_last (λ h. filling_parts h.promise.seats.value.fill) _ _ _ last,
+      );
+      len = omega (arith, c.in-Some.ensures.cases, fill.len, i.len);
+      room = omega (arith, fill.room, i.room);
     }

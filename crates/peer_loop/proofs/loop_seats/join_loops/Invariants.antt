@@ -1,20 +1,17 @@
-use Rattle.std.specs.Prelude.{◌≡◌, ◌+◌, ◌≤◌, All, sum_by, vec_len, vec_capacity}
-use Rattle.peer_fill.specs.Pools.{IsConnSeatOf, IsFillSeatOf}
-use Rattle.peer_fill.specs.Seats.{conn_parts, fill_parts}
-use Rattle.peer_loop.specs.Parts.{handed_conns, handed_fills}
+use Rattle.std.specs.Prelude.{◌≡◌, ◌+◌, ◌≤◌, All, vec_len, vec_capacity}
+use Rattle.peer_loop.specs.Parts.{all_conn_parts, all_fill_parts, handed_conns, handed_fills, AreSeatsOf}
 use Rattle.peer_loop.proofs.loop_seats.join_loops.Given as goal
 
 abbrev pub invariant-loop-handle : goal.invariant-loop-handle
 invariant-loop-handle g l = record {
   serving : All (λ h. h.promise.pool.now ≡ l.pool) l.serving.items;
-  conns : All (IsConnSeatOf l.pool) l.seats.conns.items;
-  fills : All (IsFillSeatOf l.pool) l.seats.fills.items;
+  of : AreSeatsOf l.pool l.seats;
   conn_room : vec_len l.seats.conns + vec_len l.serving ≤ vec_capacity l.seats.conns;
   fill_room : vec_len l.seats.fills + vec_len l.serving ≤ vec_capacity l.seats.fills;
-  conn : sum_by conn_parts l.seats.conns.items + handed_conns l.serving.items
-      ≡ sum_by conn_parts l.fn.seats.conns.items + handed_conns l.initial.serving.items;
-  fill : sum_by fill_parts l.seats.fills.items + handed_fills l.serving.items
-      ≡ sum_by fill_parts l.fn.seats.fills.items + handed_fills l.initial.serving.items;
+  conn : all_conn_parts l.seats + handed_conns l.serving.items ≡ all_conn_parts l.fn.seats + handed_conns l.initial.serving.items;
+  fill : all_fill_parts l.seats + handed_fills l.serving.items ≡ all_fill_parts l.fn.seats + handed_fills l.initial.serving.items;
+  len : vec_len l.seats.fills + vec_len l.serving ≤ vec_len l.fn.seats.fills + vec_len l.initial.serving;
+  room : vec_capacity l.fn.seats.fills ≤ vec_capacity l.seats.fills;
 }
 
 abbrev pub decreases-loop-handle : goal.decreases-loop-handle

@@ -1,0 +1,51 @@
+//! How a server serves.
+
+use crate::fillers::Fillers;
+use crate::limits::Limits;
+use crate::stop::Stop;
+use peer_fetch::FetchPlan;
+use peer_stats::Counters;
+use std::hash::RandomState;
+
+/// How a server serves.
+#[derive(Clone, Copy)]
+pub struct Settings<'a> {
+    /// Which threads fill what is asked for.
+    pub fillers: Fillers,
+    /// How many threads serve connections, from 1 to 16.
+    pub loops: usize,
+    /// How many connections are open at most. Further clients wait in the backlog.
+    pub connections: usize,
+    /// How many bytes of replies and values all clients together may hold, those not counted that hold 64 KiB at most. Where
+    /// it is more, a client's next requests wait until it holds nothing.
+    pub memory: usize,
+    /// How many connections are accepted before the server ends by itself, none where it does not.
+    pub accepts: Option<u64>,
+    /// How many bytes of keys and values the cache of each group keeps at most.
+    pub cache_bytes: u64,
+    /// The seed of the caches' maps.
+    pub seed: RandomState,
+    /// How long clients are waited for.
+    pub limits: Limits,
+    /// Where its threads publish what they count.
+    pub counters: &'a Counters,
+    /// By what it is told to end.
+    pub stop: &'a Stop,
+}
+
+/// How a server serves, and what its threads fetch, where they do.
+#[derive(Clone, Copy)]
+pub struct Orders<'a> {
+    pub settings: &'a Settings<'a>,
+    pub plan: Option<FetchPlan<'a>>,
+}
+
+impl<'a> Orders<'a> {
+    /// How many threads fetch, and from how many origins.
+    pub fn fetchers(&self) -> (usize, usize) {
+        match (self.plan, self.settings.fillers) {
+            (Some(plan), Fillers::Threads(count)) => (count, plan.places.each.len()),
+            _ => (0, 0),
+        }
+    }
+}

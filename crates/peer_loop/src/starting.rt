@@ -1,0 +1,211 @@
+//! How the threads of a server are started: one for each loop, and one for each seat that fills beside them.
+ghost use Rattle.std.specs.Prelude.{◌≡◌, All, IfSome, Some};
+ghost use Rattle.peer_fill.specs.Pools.{source_of, IsFillSeatOf};
+ghost use Rattle.peer_fill.specs.Seats.{fill_parts};
+ghost use Rattle.peer_fetch.specs.Threads.{Allows};
+ghost use Rattle.peer_loop.specs.Parts.{AreOf, KeepsParts};
+ghost use Rattle.peer_loop.specs.Dealings.{IsFillWorkOf, RunFillers, RunLoops};
+
+use crate::dealing::{FillWork, LoopParts, LoopWork};
+use crate::event_loop::EventLoop;
+use crate::facts::Facts;
+use crate::filler::run_filler;
+use crate::filling::Filling;
+use crate::loop_seats::{KeepsLoop, LoopSeats};
+use crate::seat::LoopSeat;
+use crate::site::LoopSite;
+use peer_fill::{FillSeat, KeepsFill, Pool};
+use peer_source::Source;
+use std::alloc::Global;
+use std::marker::{Brand, PhantomData};
+use std::net::{Net, TcpListener, TcpStream};
+use std::sync::Wait;
+use std::sync::ledger::Ledger;
+use std::thread::{PromisedHandle, Scope, Threads};
+use std::time::Clock;
+
+/// The thread of a loop.
+pub type LoopHandle<'a, S, L> = PromisedHandle<LoopSeats<S, L>, KeepsLoop<'a, S, L>>;
+
+/// A thread that fills.
+pub type FillHandle<'a, S, L> = PromisedHandle<FillSeat<S, L>, KeepsFill<'a, S, L>>;
+
+/// All threads of a server.
+#[derive(Drop)]
+pub struct Started<'a, S: Source, L: Ledger> {
+    pub serving: Vec<LoopHandle<'a, S, L>>,
+    pub working: Vec<FillHandle<'a, S, L>>,
+}
+
+// Runs a loop whose contracts know its source.
+fn run_known<S: Source, L: Ledger, F: Facts<S>, H: Threads + Wait + Clock>(
+    rt: &H,
+    alloc: Global,
+    pool: &Pool<S, L>,
+    seats: LoopSeats<S, L>,
+    parts: LoopParts,
+    own: LoopSite<'_>,
+) -> LoopSeats<S, L>
+    requires of { AreOf pool.now seats }
+    requires source { F.source ≡ Some (source_of pool.now) }
+    ensures of { AreOf pool.now result }
+    ensures parts { KeepsParts seats result }
+{
+    let LoopParts { mut waits, buffer } = parts;
+    let mut seat = LoopSeat::<S, L, F> {
+        pool,
+        seats,
+        buffer,
+        filling: Filling::new(own.site.bells, own.site.gate(own.number)),
+        of: PhantomData,
+    };
+    let mut serving = EventLoop::new(alloc, own);
+    serving.run(rt, &mut seat, &mut waits);
+    seat.seats
+}
+
+// Runs a loop until no more streams are given and its clients are gone.
+fn run_loop<S: Source, L: Ledger, H: Threads + Wait + Clock>(
+    rt: &H,
+    alloc: Global,
+    pool: &Pool<S, L>,
+    seats: LoopSeats<S, L>,
+    parts: LoopParts,
+    own: LoopSite<'_>,
+) -> LoopSeats<S, L>
+    requires { AreOf pool.now seats }
+    ensures of { AreOf pool.now result }
+    ensures parts { KeepsParts seats result }
+{
+    run_known::<S, L, Brand, H>(rt, alloc, pool, seats, parts, own)
+}
+
+// Starts the thread of a loop. None where it was refused.
+fn start_loop<'s, E, S: Source, L: Ledger + Send + Sync, H: Threads + Wait + Clock + Sync>(
+    scope: &Scope<'s, E>,
+    rt: &'s H,
+    alloc: Global,
+    pool: &'s Pool<S, L>,
+    work: LoopWork<'s, S, L>,
+) -> Option<LoopHandle<'s, S, L>>
+    requires { AreOf pool.now work.seats }
+    ensures pool { IfSome result (λ x. x.promise.pool.now ≡ pool.now) }
+    ensures seats { IfSome result (λ x. x.promise.seats.value ≡ work.entry.seats) }
+{
+    let LoopWork { seats, parts, site } = work;
+    let promise = KeepsLoop::new(pool, &seats);
+    let serve = move || -> LoopSeats<S, L>
+        requires { AreOf pool.now seats }
+        ensures of { AreOf pool.entry.now result }
+        ensures parts { KeepsParts seats result }
+    { run_loop(rt, alloc, pool, seats, parts, site) };
+    match scope.spawn_with(promise, serve) {
+        Ok(handle) => Some(handle),
+        Err(_) => None,
+    }
+}
+
+// Starts the threads of all loops. None where memory or a thread was refused.
+fn start_loops<'s, E, S: Source, L: Ledger + Send + Sync, H: Threads + Wait + Clock + Sync>(
+    scope: &Scope<'s, E>,
+    rt: &'s H,
+    alloc: Global,
+    pool: &'s Pool<S, L>,
+    mut works: Vec<LoopWork<'s, S, L>>,
+) -> Option<Vec<LoopHandle<'s, S, L>>>
+    requires { All (λ w. AreOf pool.now w.seats) works.items }
+    ensures { IfSome result (RunLoops pool.now works.entry) }
+{
+    let mut serving = Vec::with_capacity(alloc, works.len()).ok()?;
+    while let Some(work) = works.pop() {
+        let handle = start_loop(scope, rt, alloc, pool, work)?;
+        serving.push_reserved(handle);
+    }
+    Some(serving)
+}
+
+// Starts a thread that fills. None where it was refused.
+fn start_filler<
+    's,
+    E,
+    S: Source,
+    L: Ledger + Send + Sync,
+    H: Net<Listener = TcpListener, Stream = TcpStream> + Threads + Wait + Clock + Sync,
+>(
+    scope: &Scope<'s, E>,
+    rt: &'s H,
+    alloc: Global,
+    pool: &'s Pool<S, L>,
+    work: FillWork<'s, S, L>,
+) -> Option<FillHandle<'s, S, L>>
+    requires { IsFillWorkOf pool.now work }
+    ensures pool { IfSome result (λ x. x.promise.pool.now ≡ pool.now) }
+    ensures seat { IfSome result (λ x. x.promise.seat.value ≡ work.entry.seat) }
+{
+    let FillWork {
+        seat,
+        fetcher,
+        gate,
+    } = work;
+    let promise = KeepsFill::new(pool, &seat);
+    let fill = move || -> FillSeat<S, L>
+        requires seat { IsFillSeatOf pool.now seat }
+        requires allows { IfSome fetcher (λ f. Allows (S.answers (source_of pool.now)) f.thread.plan) }
+        ensures seat { IsFillSeatOf pool.entry.now result }
+        ensures parts { fill_parts result ≡ fill_parts seat }
+    { run_filler(rt, alloc, pool, seat, fetcher, &gate) };
+    match scope.spawn_with(promise, fill) {
+        Ok(handle) => Some(handle),
+        Err(_) => None,
+    }
+}
+
+// Starts all threads that fill. None where memory or a thread was refused.
+fn start_fillers<
+    's,
+    E,
+    S: Source,
+    L: Ledger + Send + Sync,
+    H: Net<Listener = TcpListener, Stream = TcpStream> + Threads + Wait + Clock + Sync,
+>(
+    scope: &Scope<'s, E>,
+    rt: &'s H,
+    alloc: Global,
+    pool: &'s Pool<S, L>,
+    mut works: Vec<FillWork<'s, S, L>>,
+) -> Option<Vec<FillHandle<'s, S, L>>>
+    requires { All (IsFillWorkOf pool.now) works.items }
+    ensures { IfSome result (RunFillers pool.now works.entry) }
+{
+    let mut working = Vec::with_capacity(alloc, works.len()).ok()?;
+    while let Some(work) = works.pop() {
+        let handle = start_filler(scope, rt, alloc, pool, work)?;
+        working.push_reserved(handle);
+    }
+    Some(working)
+}
+
+/// Starts the threads that fill, and then the loops. None where memory or a thread was refused.
+pub fn start<
+    's,
+    E,
+    S: Source,
+    L: Ledger + Send + Sync,
+    H: Net<Listener = TcpListener, Stream = TcpStream> + Threads + Wait + Clock + Sync,
+>(
+    scope: &Scope<'s, E>,
+    rt: &'s H,
+    alloc: Global,
+    pool: &'s Pool<S, L>,
+    loops: Vec<LoopWork<'s, S, L>>,
+    fillers: Vec<FillWork<'s, S, L>>,
+) -> Option<Started<'s, S, L>>
+    requires loops { All (λ w. AreOf pool.now w.seats) loops.items }
+    requires fillers { All (IsFillWorkOf pool.now) fillers.items }
+    ensures loops { IfSome result (λ started. RunLoops pool.now loops.entry started.serving) }
+    ensures fillers { IfSome result (λ started. RunFillers pool.now fillers.entry started.working) }
+{
+    let working = start_fillers(scope, rt, alloc, pool, fillers)?;
+    let serving = start_loops(scope, rt, alloc, pool, loops)?;
+    Some(Started { serving, working })
+}
