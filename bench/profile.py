@@ -1,7 +1,7 @@
 #!/usr/bin/env python3
 """Where the built server's processor time goes under a load, and how often its threads are put to sleep and woken.
 
-    (cd crates/peer_serve && rt run < stdin > /dev/null)    # builds the server
+    (cd crates/peer_front && rt run -- --version)      # builds the server; or peer_serve, by (cd crates/peer_serve && rt run < stdin)
     apt-get install gcc linux-perf
     python3 bench/profile.py [--seconds 3] [SERVER]
 
@@ -14,7 +14,7 @@ import re
 import subprocess
 import tempfile
 
-from net import OUT, built, program, run, started
+from net import OUT, WORDS, built, program, run, started
 
 LOADS = [("echo", key, c, d) for key in ("hot:k", "unique") for c, d in ((1, 1), (4, 16), (1, 64), (16, 64))]
 # What a function is for, by the first pattern that its name has.
@@ -65,13 +65,13 @@ def counted(load, address, process, cell, seconds):
 
 def main():
     parser = argparse.ArgumentParser()
-    parser.add_argument("server", nargs="?", default="crates/peer_serve/out/peer_serve")
+    parser.add_argument("server", nargs="?", default="crates/peer_front/out/peer_front")
     parser.add_argument("--seconds", type=float, default=3)
     given = parser.parse_args()
     server = program(given.server)
     os.makedirs(OUT, exist_ok=True)
     load = built("load", ["gcc", "-O2", "-o", "{out}/load", "load.c", "-lpthread"], ".")
-    address, process = started([server, "{addr}", "2", "16", "1000000"])
+    address, process = started([server, *WORDS[os.path.basename(server)]])
     names = [*(name for name, _ in GROUPS), "the rest"]
     print(f"| load | us for one | {' | '.join(names)} | task switches, futex, send, receive for one |\n{'|---' * (len(names) + 3)}|")
     try:
