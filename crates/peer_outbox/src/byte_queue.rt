@@ -11,7 +11,7 @@ use std::alloc::{AllocError, Global};
 use std::marker::Model;
 
 /// How much memory is kept while no byte is there.
-const KEPT: usize = 1024;
+const KEPT: usize = 2048;
 
 /// A queue of bytes. Those that went lie before the others for a while.
 #[derive(Drop)]
@@ -116,9 +116,7 @@ fn empty(bytes: &mut Vec<u8>)
     ensures { bytes.new.items ≡ [] }
 {
     bytes.clear();
-    if bytes.capacity() > KEPT {
-        bytes.shrink_to_fit();
-    }
+    bytes.shrink_to(KEPT);
 }
 
 // Forgets the first `n` bytes.
