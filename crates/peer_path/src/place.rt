@@ -5,7 +5,7 @@ ghost use Rattle.std.specs.Cow.{cow_slice_items};
 use crate::escape::decode_path;
 use crate::fault::PathFault;
 use crate::target::{before_query, path_of};
-use memchr::memchr;
+use memchr::{memchr, memchr2};
 use std::alloc::Global;
 use std::borrow::CowSlice;
 use std::marker::Model;
@@ -72,8 +72,19 @@ impl<'t> Place<'t> {
     }
 }
 
-ghost use Rattle.peer_path.specs.Places.{place_of};
+ghost use Rattle.std.specs.Bool.{OnTrue};
+ghost use Rattle.peer_path.specs.Places.{place_of, place_below_base};
 ghost use Rattle.peer_path.specs.Faults.{IsFaultOf};
+
+// Whether a target is its own decoded path: an origin form with neither a query nor an escape.
+fn is_plain(target: &[u8]) -> bool
+    ensures { OnTrue result (place_of target.now ≡ place_below_base target.now) }
+{
+    if target.starts_with(b"/") {
+        return memchr2(b'?', b'%', target).is_none();
+    }
+    false
+}
 
 /// The place that a request target names, or the first reason why it names none.
 ///
@@ -83,6 +94,9 @@ pub fn locate<'t>(alloc: Global, target: &'t [u8]) -> Result<Place<'t>, PathFaul
     ensures place { IfOk result (λ p. place_of target.now ≡ Ok p) }
     ensures fault { IfErr result (IsFaultOf target.now) }
 {
+    if is_plain(target) {
+        return Place::of_path(CowSlice::Borrowed(target));
+    }
     let Some(path) = path_of(before_query(target)) else {
         return Err(PathFault::Target);
     };
