@@ -2,7 +2,7 @@
 -- and 5), by the grammar that httparse states for its default configuration. Refused beside it are
 -- a CR or an LF alone (section 2.2), bytes of a target that are not visible ASCII (section 3.2), and
 -- more than 64 fields, a limit of our own.
-use Rattle.std.specs.Prelude.{◌≡◌, ◌≢◌, ℕ, ◌+◌, ◌≤◌, List, [], length, map, slice_index, All}
+use Rattle.std.specs.Prelude.{◌≡◌, ◌≢◌, ◌==◌, ℕ, ◌+◌, ◌≤◌, ◌<◌, List, [], length, map, slice_index, All}
 use Rattle.httparse.specs.Grammar.{RequestHead, ReadsRequest, Field, field_value}
 
 -- a field: its name, and its value without the white space around it
@@ -30,6 +30,11 @@ pub record IsPaired (bytes : List ℕ) : Type 0 where
   pub cr : (i : ℕ) → slice_index bytes i ≡ 13 → slice_index bytes (i + 1) ≡ 10
   pub lf : (i : ℕ) → slice_index bytes (i + 1) ≡ 10 → slice_index bytes i ≡ 13
   pub first : slice_index bytes 0 ≢ 10
+
+-- each byte from a place up to another is a CR exactly where the next is an LF
+abbrev pub NeighboursMatch : List ℕ → ℕ → ℕ → Type 0
+NeighboursMatch bytes from to =
+    (k : ℕ) → from ≤ k → k < to → (slice_index bytes k == 13) ≡ (slice_index bytes (k + 1) == 10)
 
 -- a byte of visible ASCII
 abbrev pub IsVisible : ℕ → Type 0

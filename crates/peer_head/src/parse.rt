@@ -2,8 +2,8 @@
 //!
 //! `httparse` also takes a line that ends in LF alone, a target past ASCII and empty lines in front;
 //! the tests here refuse these.
-ghost use Rattle.std.specs.Prelude.{◌≡◌, ◌↔◌, length, All, IsTrue, MatchOption};
-ghost use Rattle.peer_head.specs.Heads.{IsPaired, IsVisible, HasNoHead};
+ghost use Rattle.std.specs.Prelude.{◌≡◌, ◌↔◌, ◌+◌, ◌<◌, length, All, IsTrue, MatchOption};
+ghost use Rattle.peer_head.specs.Heads.{IsPaired, NeighboursMatch, IsVisible, HasNoHead};
 ghost use Rattle.peer_head.specs.Views.{IsHeadAt};
 
 use httparse::Status;
@@ -33,19 +33,43 @@ pub fn parse_head(block: &[u8], fields: &mut [HeaderSpan]) -> Option<RequestSpan
     }
 }
 
+/// How many bytes are compared with the next at once.
+const STEP: usize = 32;
+
 /// Whether each CR and each LF stands in a pair CR LF.
 ///
-/// It has no early way out, so that a compiler may compare many bytes at once.
+/// The last bytes are compared once more, so that a compiler has none left to compare alone.
 fn is_paired(bytes: &[u8]) -> bool
     ensures { IsTrue result ↔ IsPaired bytes.now }
 {
-    let mut is_odd = false;
-    let mut after_cr = false;
-    for b in bytes {
-        is_odd = is_odd | ((*b == b'\n') != after_cr);
-        after_cr = *b == b'\r';
+    if bytes.is_empty() {
+        return true;
     }
-    !(is_odd | after_cr)
+    let last = bytes.len() - 1;
+    if bytes[0] == b'\n' {
+        return false;
+    }
+    if bytes[last] == b'\r' {
+        return false;
+    }
+    if last < STEP {
+        return is_matching(bytes, 0, last);
+    }
+    is_matching(bytes, 0, last / STEP * STEP) & is_matching(bytes, last - STEP, STEP)
+}
+
+/// Whether each of so many bytes from a place on is a CR exactly where the next is an LF.
+///
+/// It has no early way out, so that a compiler may compare many bytes at once.
+fn is_matching(bytes: &[u8], from: usize, count: usize) -> bool
+    requires { from + count < length bytes.now }
+    ensures { IsTrue result ↔ NeighboursMatch bytes.now from (from + count) }
+{
+    let mut matching = true;
+    for i in 0..count {
+        matching = matching & ((bytes[from + i] == b'\r') == (bytes[from + i + 1] == b'\n'));
+    }
+    matching
 }
 
 /// Whether each byte is visible ASCII, again with no early way out.
