@@ -6,6 +6,7 @@ ghost use Rattle.peer_fill.specs.Seats.{conn_parts};
 use crate::client::Client;
 use crate::limits::Limits;
 use crate::occupancy::Occupancy;
+use crate::rounds::Rounds;
 use crate::start::Start;
 use crate::stream::serve_client;
 use peer_fill::{ConnSeat, Pool};
@@ -14,7 +15,6 @@ use std::alloc::Global;
 use std::net::{TcpListener, TcpStream};
 use std::sync::Wait;
 use std::sync::ledger::Ledger;
-use std::thread;
 use std::thread::Threads;
 use std::time::Clock;
 
@@ -66,34 +66,33 @@ fn serve_stream<S: Source, L: Ledger + Send + Sync, H: Threads + Wait + Clock + 
     }
 }
 
-// Accepts one connection and serves it. An accept that fails is over after a pause.
-fn serve_next<S: Source, L: Ledger + Send + Sync, H: Threads + Wait + Clock + Sync>(
+// Accepts and serves, until no round is left.
+fn serve_rounds<S: Source, L: Ledger + Send + Sync, H: Threads + Wait + Clock + Sync>(
     rt: &H,
     alloc: Global,
     pool: &Pool<S, L>,
     seat: ConnSeat<S, L>,
     acceptor: &Acceptor<'_>,
+    rounds: &mut Rounds<'_>,
 ) -> ConnSeat<S, L>
     requires { IsConnSeatOf pool.now seat }
     ensures seat { IsConnSeatOf pool.now result }
     ensures parts { conn_parts result ≡ conn_parts seat }
+    ensures all { rounds.new.left ≡ 0 }
 {
-    match acceptor.listener.accept() {
-        Ok((stream, _)) => {
+    let mut seat = seat;
+    while rounds.left() > 0 {
+        if let Some(stream) = rounds.accept(rt) {
             acceptor.occupancy.enter();
-            let seat = serve_stream(rt, alloc, pool, seat, acceptor, &stream);
+            seat = serve_stream(rt, alloc, pool, seat, acceptor, &stream);
             acceptor.occupancy.leave();
-            seat
-        }
-        Err(_) => {
-            thread::sleep(rt, acceptor.limits.pause);
-            seat
         }
     }
+    seat
 }
 
 /// Accepts and serves all rounds, once all threads have been started. After them the seat counts as taken.
-pub fn serve_rounds<S: Source, L: Ledger + Send + Sync, H: Threads + Wait + Clock + Sync>(
+pub fn serve_accepted<S: Source, L: Ledger + Send + Sync, H: Threads + Wait + Clock + Sync>(
     rt: &H,
     alloc: Global,
     pool: &Pool<S, L>,
@@ -106,9 +105,8 @@ pub fn serve_rounds<S: Source, L: Ledger + Send + Sync, H: Threads + Wait + Cloc
 {
     let mut seat = seat;
     if acceptor.start.wait(rt) {
-        for _ in 0..acceptor.rounds {
-            seat = serve_next(rt, alloc, pool, seat, acceptor);
-        }
+        let mut rounds = Rounds::new(&*acceptor);
+        seat = serve_rounds(rt, alloc, pool, seat, acceptor, &mut rounds);
     }
     acceptor.occupancy.enter();
     seat

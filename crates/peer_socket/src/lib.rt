@@ -12,6 +12,7 @@ mod client_writer;
 mod closing;
 mod limits;
 mod occupancy;
+mod rounds;
 mod server;
 mod start;
 mod stream;

@@ -69,9 +69,8 @@ fn serve_opened<S: Source, L: Ledger + Send + Sync, H: Threads + Wait + Clock + 
         settings.conns as u64,
         settings.rounds,
     );
-    let Some(Seats { fills, conns }) = use_seats(rt, alloc, &pool, fills, conns, &acceptor) else {
-        return None;
-    };
+    let seats = Seats { fills, conns };
+    let Seats { fills, conns } = use_seats(rt, alloc, &pool, seats, &acceptor)?;
     match pool.close(rt, fills, conns) {
         Ok(report) => Some(report),
         Err(_) => unreachable!(),

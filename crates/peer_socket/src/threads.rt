@@ -1,9 +1,10 @@
 //! The threads of a server: one for each worker and each connection seat, and all are joined.
-ghost use Rattle.std.specs.Prelude.{◌≡◌, ◌+◌, All, IfSome};
+ghost use Rattle.std.specs.Prelude.{◌≡◌, All, IfSome};
 ghost use Rattle.peer_fill.specs.Pools.{IsConnSeatOf, IsFillSeatOf};
-ghost use Rattle.peer_fill.specs.Seats.{conn_parts, fill_parts, HaveAllConns, HaveAllFills};
+ghost use Rattle.peer_fill.specs.Seats.{conn_parts, fill_parts};
+ghost use Rattle.peer_socket.specs.Threads.{AreSeatsOf, ComeBack, ServeWith, WorkWith};
 
-use crate::acceptor::{Acceptor, serve_rounds};
+use crate::acceptor::{Acceptor, serve_accepted};
 use peer_fill::{
     ConnSeat, FillSeat, KeepsConn, KeepsFill, NoGate, Pool, join_conns, join_fills, pop_conn,
     pop_fill,
@@ -13,7 +14,7 @@ use std::alloc::Global;
 use std::sync::Wait;
 use std::sync::ledger::Ledger;
 use std::thread;
-use std::thread::Threads;
+use std::thread::{PromisedHandle, Scope, Threads};
 use std::time::Clock;
 
 /// The seats of a server.
@@ -23,108 +24,145 @@ pub struct Seats<S: Source, L: Ledger> {
     pub conns: Vec<ConnSeat<S, L>>,
 }
 
-// Each seat serves connections in a thread of its own. No connection is accepted before all threads have been started
-// and there is room for all that comes back. None where a thread or memory was refused: then none was accepted.
-fn use_conns<S: Source, L: Ledger + Send + Sync, H: Threads + Wait + Clock + Sync>(
-    rt: &H,
+type WorkerHandle<'a, S, L> = PromisedHandle<FillSeat<S, L>, KeepsFill<'a, S, L>>;
+
+type ConnHandle<'a, S, L> = PromisedHandle<ConnSeat<S, L>, KeepsConn<'a, S, L>>;
+
+// Starts the thread of a worker. None where it was refused.
+fn start_worker<'s, E, S: Source, L: Ledger + Send + Sync, H: Threads + Wait + Sync>(
+    scope: &Scope<'s, E>,
+    rt: &'s H,
     alloc: Global,
-    pool: &Pool<S, L>,
-    mut conns: Vec<ConnSeat<S, L>>,
-    acceptor: &Acceptor<'_>,
-) -> Option<Vec<ConnSeat<S, L>>>
-    requires of { All (IsConnSeatOf pool.now) conns.items }
-    requires all { HaveAllConns conns.items }
-    ensures of { IfSome result (λ seats. All (IsConnSeatOf pool.now) seats.items) }
-    ensures all { IfSome result (λ seats. HaveAllConns seats.items) }
+    pool: &'s Pool<S, L>,
+    seat: FillSeat<S, L>,
+) -> Option<WorkerHandle<'s, S, L>>
+    requires { IsFillSeatOf pool.now seat }
+    ensures pool { IfSome result (λ x. x.promise.pool.now ≡ pool.now) }
+    ensures seat { IfSome result (λ x. x.promise.seat.value ≡ seat) }
 {
-    thread::scope(
-        thread::scope_env(),
-        rt,
-        move |scope| -> Option<Vec<ConnSeat<S, L>>>
-            requires of { All (IsConnSeatOf pool.now) conns.items }
-            requires all { HaveAllConns conns.items }
-            ensures of { IfSome result (λ seats. All (IsConnSeatOf pool.entry.now) seats.items) }
-            ensures all { IfSome result (λ seats. HaveAllConns seats.items) }
-        {
-            let mut serving = Vec::with_capacity(alloc, conns.len()).ok()?;
-            let mut served = Vec::with_capacity(alloc, conns.len()).ok()?;
-            while let Some(seat) = pop_conn(pool, &mut conns) {
-                let promise = KeepsConn::new(pool, &seat);
-                let serve = move ||
-                    requires { IsConnSeatOf pool.now seat }
-                    ensures seat { IsConnSeatOf pool.entry.now result }
-                    ensures parts { conn_parts result ≡ conn_parts seat }
-                { serve_rounds(rt, alloc, pool, seat, acceptor) };
-                let Ok(handle) = scope.spawn_with(promise, serve) else {
-                    acceptor.start.cancel(rt);
-                    return None;
-                };
-                serving.push_reserved(handle);
-            }
-            acceptor.start.begin(rt);
-            join_conns(rt, pool, serving, &mut served);
-            Some(served)
-        },
-    )
+    let promise = KeepsFill::new(pool, &seat);
+    let work = move || -> FillSeat<S, L>
+        requires { IsFillSeatOf pool.now seat }
+        ensures seat { IsFillSeatOf pool.entry.now result }
+        ensures parts { fill_parts result ≡ fill_parts seat }
+    { pool.run_worker(rt, alloc, seat, &NoGate) };
+    match scope.spawn_with(promise, work) {
+        Ok(handle) => Some(handle),
+        Err(_) => None,
+    }
 }
 
-/// Each worker works in a thread of its own while connections are served. None where a thread or memory was refused:
-/// then no connection was accepted.
+// Starts the threads of all workers. None where memory or a thread was refused.
+fn start_workers<'s, E, S: Source, L: Ledger + Send + Sync, H: Threads + Wait + Sync>(
+    scope: &Scope<'s, E>,
+    rt: &'s H,
+    alloc: Global,
+    pool: &'s Pool<S, L>,
+    seats: &mut Vec<FillSeat<S, L>>,
+) -> Option<Vec<WorkerHandle<'s, S, L>>>
+    requires { All (IsFillSeatOf pool.now) seats.old.items }
+    ensures left { All (IsFillSeatOf pool.now) seats.new.items }
+    ensures work { IfSome result (WorkWith pool.now seats.old seats.new) }
+{
+    let mut working = Vec::with_capacity(alloc, seats.len()).ok()?;
+    while let Some(seat) = pop_fill(pool, seats) {
+        let handle = start_worker(scope, rt, alloc, pool, seat)?;
+        working.push_reserved(handle);
+    }
+    Some(working)
+}
+
+// Starts the thread of a connection seat, which waits until it may serve. None where it was refused.
+fn start_conn<'s, E, S: Source, L: Ledger + Send + Sync, H: Threads + Wait + Clock + Sync>(
+    scope: &Scope<'s, E>,
+    rt: &'s H,
+    alloc: Global,
+    pool: &'s Pool<S, L>,
+    seat: ConnSeat<S, L>,
+    acceptor: &'s Acceptor<'s>,
+) -> Option<ConnHandle<'s, S, L>>
+    requires { IsConnSeatOf pool.now seat }
+    ensures pool { IfSome result (λ x. x.promise.pool.now ≡ pool.now) }
+    ensures seat { IfSome result (λ x. x.promise.seat.value ≡ seat) }
+{
+    let promise = KeepsConn::new(pool, &seat);
+    let serve = move || -> ConnSeat<S, L>
+        requires { IsConnSeatOf pool.now seat }
+        ensures seat { IsConnSeatOf pool.entry.now result }
+        ensures parts { conn_parts result ≡ conn_parts seat }
+    { serve_accepted(rt, alloc, pool, seat, acceptor) };
+    match scope.spawn_with(promise, serve) {
+        Ok(handle) => Some(handle),
+        Err(_) => None,
+    }
+}
+
+// Starts the threads of all connection seats. None where memory or a thread was refused.
+fn start_conns<'s, E, S: Source, L: Ledger + Send + Sync, H: Threads + Wait + Clock + Sync>(
+    scope: &Scope<'s, E>,
+    rt: &'s H,
+    alloc: Global,
+    pool: &'s Pool<S, L>,
+    seats: &mut Vec<ConnSeat<S, L>>,
+    acceptor: &'s Acceptor<'s>,
+) -> Option<Vec<ConnHandle<'s, S, L>>>
+    requires { All (IsConnSeatOf pool.now) seats.old.items }
+    ensures left { All (IsConnSeatOf pool.now) seats.new.items }
+    ensures serve { IfSome result (ServeWith pool.now seats.old seats.new) }
+{
+    let mut serving = Vec::with_capacity(alloc, seats.len()).ok()?;
+    while let Some(seat) = pop_conn(pool, seats) {
+        let handle = start_conn(scope, rt, alloc, pool, seat, acceptor)?;
+        serving.push_reserved(handle);
+    }
+    Some(serving)
+}
+
+// Starts all threads, lets them serve, and joins them. None where a thread or memory was refused: then no connection was
+// accepted, and the threads that were started end.
+fn run_threads<'s, E, S: Source, L: Ledger + Send + Sync, H: Threads + Wait + Clock + Sync>(
+    scope: &Scope<'s, E>,
+    rt: &'s H,
+    alloc: Global,
+    pool: &'s Pool<S, L>,
+    mut seats: Seats<S, L>,
+    acceptor: &'s Acceptor<'s>,
+) -> Option<Seats<S, L>>
+    requires { AreSeatsOf pool.now seats }
+    ensures { IfSome result (ComeBack pool.now seats) }
+{
+    let working = start_workers(scope, rt, alloc, pool, &mut seats.fills);
+    let serving = start_conns(scope, rt, alloc, pool, &mut seats.conns, acceptor);
+    let (Some(working), Some(serving)) = (working, serving) else {
+        acceptor.start.cancel(rt);
+        pool.stop();
+        return None;
+    };
+    acceptor.start.begin(rt);
+    join_conns(rt, pool, serving, &mut seats.conns);
+    pool.stop();
+    join_fills(rt, pool, working, &mut seats.fills);
+    Some(seats)
+}
+
+/// Each worker works, and each connection seat serves, in a thread of its own. No connection is accepted before all threads
+/// have been started. None where a thread or memory was refused: then none was accepted.
 pub fn use_seats<S: Source, L: Ledger + Send + Sync, H: Threads + Wait + Clock + Sync>(
     rt: &H,
     alloc: Global,
     pool: &Pool<S, L>,
-    mut fills: Vec<FillSeat<S, L>>,
-    conns: Vec<ConnSeat<S, L>>,
+    seats: Seats<S, L>,
     acceptor: &Acceptor<'_>,
 ) -> Option<Seats<S, L>>
-    requires fills { All (IsFillSeatOf pool.now) fills.items }
-    requires conns { All (IsConnSeatOf pool.now) conns.items }
-    requires all_fills { HaveAllFills fills.items }
-    requires all_conns { HaveAllConns conns.items }
-    ensures fills { IfSome result (λ seats. All (IsFillSeatOf pool.now) seats.fills.items) }
-    ensures conns { IfSome result (λ seats. All (IsConnSeatOf pool.now) seats.conns.items) }
-    ensures all_fills { IfSome result (λ seats. HaveAllFills seats.fills.items) }
-    ensures all_conns { IfSome result (λ seats. HaveAllConns seats.conns.items) }
+    requires { AreSeatsOf pool.now seats }
+    ensures { IfSome result (ComeBack pool.now seats) }
 {
     thread::scope(
         thread::scope_env(),
         rt,
         move |scope| -> Option<Seats<S, L>>
-            requires fills { All (IsFillSeatOf pool.now) fills.items }
-            requires conns { All (IsConnSeatOf pool.now) conns.items }
-            requires all_fills { HaveAllFills fills.items }
-            requires all_conns { HaveAllConns conns.items }
-            ensures fills { IfSome result (λ seats. All (IsFillSeatOf pool.entry.now) seats.fills.items) }
-            ensures conns { IfSome result (λ seats. All (IsConnSeatOf pool.entry.now) seats.conns.items) }
-            ensures all_fills { IfSome result (λ seats. HaveAllFills seats.fills.items) }
-            ensures all_conns { IfSome result (λ seats. HaveAllConns seats.conns.items) }
-        {
-            let mut working = Vec::with_capacity(alloc, fills.len()).ok()?;
-            let mut worked = Vec::with_capacity(alloc, fills.len()).ok()?;
-            while let Some(seat) = pop_fill(pool, &mut fills) {
-                let promise = KeepsFill::new(pool, &seat);
-                let work = move ||
-                    requires { IsFillSeatOf pool.now seat }
-                    ensures seat { IsFillSeatOf pool.entry.now result }
-                    ensures parts { fill_parts result ≡ fill_parts seat }
-                { pool.run_worker(rt, alloc, seat, &NoGate) };
-                let Ok(handle) = scope.spawn_with(promise, work) else {
-                    pool.stop();
-                    return None;
-                };
-                working.push_reserved(handle);
-            }
-            let conns = use_conns(rt, alloc, pool, conns, acceptor);
-            pool.stop();
-            join_fills(rt, pool, working, &mut worked);
-            match conns {
-                Some(conns) => Some(Seats {
-                    fills: worked,
-                    conns,
-                }),
-                None => None,
-            }
-        },
+            requires { AreSeatsOf pool.now seats }
+            ensures { IfSome result (ComeBack pool.entry.now seats) }
+        { run_threads(scope, rt, alloc, pool, seats, acceptor) },
     )
 }
