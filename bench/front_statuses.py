@@ -120,7 +120,7 @@ STARTS = [
     (["--table", GOOD, "--workers", "0"], "1 group at ADDR, 10000 connections at most, on 2 loops"),
     (["--demo", "--workers", "1", "--loops", "1"], "3 groups at ADDR, 10000 connections at most, on 1 loop and 1 worker"),
     (["--table", GOOD, "--workers", "16", "--loops", "16"], "1 group at ADDR, 10000 connections at most, on 16 loops and 16 workers"),
-    (["g=" + URL], "1 group at ADDR, 10000 connections at most, on 2 loops, and fetches on 1 thread, 512 values under way on each"),
+    (["g=" + URL], "1 group at ADDR, 10000 connections at most, on 2 loops, and fetches on 1 thread, 1024 values under way on each"),
     (["g=" + URL, "--workers", "0", "--fetchers", "4", "--under-way", "1024", "--connections", "1"],
      "1 group at ADDR, 1 connection at most, on 2 loops, and fetches on 4 threads, 1024 values under way on each"),
     (["--table", GOOD, "--demo", "g=" + URL, "--fetchers", "2", "--under-way", "1"],
@@ -130,9 +130,9 @@ STARTS = [
 # how many files the program may open, the words, how many it would need, and what it serves then
 FEW_FILES = [
     (1024, ["--demo"], 10100, "3 groups at ADDR, 924 connections at most, on 2 loops"),
-    (1024, ["g=" + URL], 11124,
+    (1024, ["g=" + URL], 12148,
      "1 group at ADDR, 462 connections at most, on 2 loops, and fetches on 1 thread, 231 values under way on each"),
-    (4096, ["g=" + URL, "--fetchers", "4", "--connections", "65536"], 69732,
+    (4096, ["g=" + URL, "--fetchers", "4", "--connections", "65536"], 73828,
      "1 group at ADDR, 2004 connections at most, on 2 loops, and fetches on 4 threads, 249 values under way on each"),
     (60, ["--demo", "--loops", "1"], 10100, "3 groups at ADDR, 1 connection at most, on 1 loop"),
 ]

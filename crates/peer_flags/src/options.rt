@@ -111,7 +111,7 @@ fn with_fetching<'a>(alloc: Global, command: Command<'a>) -> Result<Command<'a>,
             alloc,
             "under-way",
             "N",
-            "512",
+            "1024",
             "Values of services that each of them has under way, 1 to 1024",
         ))?
         .arg(flag(

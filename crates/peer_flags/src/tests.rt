@@ -151,14 +151,14 @@ fn few_files_leave_less_room(rt: HostRuntime) -> Result<(), Fail> {
     let fetchers = ["peer_front", "--listen", "127.0.0.1:1", "--fetchers", "4"];
     let mut right = true;
     for (words, files, has_services, connections, under_way, most) in [
-        (usual.as_slice(), 11_124, true, 10_000, 512, 11_124),
-        (usual.as_slice(), 11_123, true, 9_999, 512, 11_124),
-        (usual.as_slice(), 1_024, true, 462, 231, 11_124),
-        (usual.as_slice(), 1_024, false, 924, 512, 10_100),
-        (usual.as_slice(), 100, true, 1, 1, 11_124),
-        (usual.as_slice(), 10_100, false, 10_000, 512, 10_100),
-        (fetchers.as_slice(), 20_000, true, 10_000, 512, 14_196),
-        (fetchers.as_slice(), 1_024, true, 468, 57, 14_196),
+        (usual.as_slice(), 12_148, true, 10_000, 1_024, 12_148),
+        (usual.as_slice(), 12_147, true, 9_999, 1_024, 12_148),
+        (usual.as_slice(), 1_024, true, 462, 231, 12_148),
+        (usual.as_slice(), 1_024, false, 924, 1_024, 10_100),
+        (usual.as_slice(), 100, true, 1, 1, 12_148),
+        (usual.as_slice(), 10_100, false, 10_000, 1_024, 10_100),
+        (fetchers.as_slice(), 20_000, true, 10_000, 1_024, 18_292),
+        (fetchers.as_slice(), 1_024, true, 468, 57, 18_292),
     ] {
         let seen = room(rt.alloc(), words, files, has_services)?;
         right &= seen
