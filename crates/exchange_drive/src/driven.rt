@@ -2,7 +2,7 @@
 ghost use Rattle.std.specs.Prelude.{◌≡◌, All};
 ghost use Rattle.peer_fill.specs.Pools.{source_of, IsConnSeatOf, IsFillSeatOf};
 
-use peer_conn::{End, Exchange};
+use peer_exchange::{End, Exchange};
 use peer_fill::{ConnSeat, FillSeat, NoGate, Pool, TakenJob, pop_conn, pop_fill};
 use peer_source::DemoSource;
 use std::alloc::{AllocError, Global};

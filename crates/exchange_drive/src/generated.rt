@@ -2,7 +2,7 @@
 ghost use Rattle.std.specs.Prelude.{◌≡◌};
 
 use crate::driven::{Driven, Steps};
-use peer_conn::End;
+use peer_exchange::End;
 use peer_source::DemoSource;
 use std::alloc::{AllocError, Global};
 use std::sync::Wait;

@@ -1,41 +1,20 @@
--- What holds under a relation of answers holds under any that has the same replies.
-use Rattle.std.proofs.Common.{◌≡◌, ◌∙◌, ap, subst, ℕ, Bool, List, [], ◌∷◌, Option}
-use mathlib.Core.Logic.{∥∥₁_elim}
-use base.Stored.{Coded-set}
-use Rattle.std.specs.Coded.{coded_ℕ, coded_list}
+-- What holds of a connection under a relation of answers holds under any that has the same replies.
+use Rattle.std.proofs.Common.{◌≡◌, subst, ℕ, Bool, List, Option}
 use Rattle.peer_source.specs.Answers.{Answer}
-use Rattle.peer_reply.specs.Texts.{answer_reply}
 use Rattle.peer_reply.specs.declared.wish.Wish.{Wish}
-use Rattle.peer_reply.specs.declared.wish.WishBody.{WishBody}
-use Rattle.peer_reply.specs.declared.wish.WishBody.TheVariants as body
-use Rattle.peer_conn.specs.Replies.{RepliesTo, Replies, AreReplies, AreFrontOfReplies}
+use Rattle.peer_wish.specs.Replies.{AreReplies, AreFrontOfReplies}
+use Rattle.peer_wish.specs.declared.end.End.{End}
+use Rattle.peer_wish.specs.declared.end.End.TheVariants as end
+use Rattle.peer_wish.proofs.ReplyLemmas.{IsReplyOf, replies}
 use Rattle.peer_conn.specs.Ends.{Reading, Writing, EndsAs, Serves}
 use Rattle.peer_conn.specs.Connects.{Connects}
-use Rattle.peer_conn.specs.declared.end.End.{End}
-use Rattle.peer_conn.specs.declared.end.End.TheVariants as end
-
--- a reply to one of the answers that a relation gives
-abbrev pub IsReplyOf : (ℕ → List ℕ → Answer → Type 0) → Bool → Bool → ℕ → List ℕ → List ℕ → Type 0
-IsReplyOf answers closing bare g k r = (a : Answer) × answers g k a × (r ≡ answer_reply closing bare a)
-
--- what is merely the one answer has its reply, since replies are texts
-pub merely_its_reply : (closing bare : Bool) (P : Type 0) (a b : Answer) (r : List ℕ) → ∥ P ∥₁ → (P → a ≡ b) → r ≡ answer_reply closing bare a → r ≡ answer_reply closing bare b
-merely_its_reply closing bare P a b r h same e = ∥∥₁_elim h (Coded-set (coded_list coded_ℕ) r (answer_reply closing bare b)) (λ p. e ∙ ap (answer_reply closing bare) (same p))
 
 module _ (A B : ℕ → List ℕ → Answer → Type 0) (carries : (closing bare : Bool) (g : ℕ) (k r : List ℕ) → IsReplyOf A closing bare g k r → IsReplyOf B closing bare g k r) where
-  pub replies_to : (closing bare : Bool) (b : WishBody) (r : List ℕ) → RepliesTo A closing bare b r → RepliesTo B closing bare b r
-  replies_to closing bare (body.Fault f) r h = h
-  replies_to closing bare (body.Get group key) r h = carries closing bare group.number key r h
-
-  pub replies : (ws : List Wish) (rs : List (List ℕ)) → Replies A ws rs → Replies B ws rs
-  replies [] rs h = h
-  replies (w ∷ ws) rs h = (h.0, h.1, h.2, replies_to w.closing w.bare w.body h.0 h.3, replies ws h.1 h.4)
-
   whole : (ws : List Wish) (o : List ℕ) → AreReplies A ws o → AreReplies B ws o
-  whole ws o h = record { replies = h.replies; each = replies ws h.replies h.each; all = h.all }
+  whole ws o h = record { replies = h.replies; each = replies A B carries ws h.replies h.each; all = h.all }
 
   front : (ws : List Wish) (o : List ℕ) → AreFrontOfReplies A ws o → AreFrontOfReplies B ws o
-  front ws o h = record { replies = h.replies; each = replies ws h.replies h.each; rest = h.rest; front = h.front }
+  front ws o h = record { replies = h.replies; each = replies A B carries ws h.replies h.each; rest = h.rest; front = h.front }
 
   module _ (numbers : List ℕ → Option ℕ) (reads : ℕ) (r : Reading) (w : Writing) where
     pub ends : (t o : List ℕ) (e : End) → EndsAs numbers A reads r w t o e → EndsAs numbers B reads r w t o e

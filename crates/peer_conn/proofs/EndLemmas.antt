@@ -6,14 +6,18 @@ use Rattle.peer_source.specs.Answers.{Answer}
 use Rattle.peer_view.specs.declared.reader.PeerRead as Read
 use Rattle.peer_view.specs.declared.writer.PeerWrite as Write
 use Rattle.peer_reply.specs.declared.wish.Wish.{Wish}
-use Rattle.peer_conn.specs.Wishes.{AreFirst}
-use Rattle.peer_conn.specs.Replies.{AreReplies, AreFrontOfReplies}
+use Rattle.peer_wish.specs.Wishes.{AreFirst}
+use Rattle.peer_wish.specs.Replies.{AreReplies, AreFrontOfReplies}
+use Rattle.peer_wish.specs.Tickets.{wishes_by, asks_in}
+use Rattle.peer_wish.specs.declared.end.End.{End}
+use Rattle.peer_wish.specs.declared.end.End.TheVariants as end
+use Rattle.peer_wish.proofs.WishLemmas.{Open-none, first_of}
 use Rattle.peer_conn.specs.Sending.{Sent, Broke, Answered}
 use Rattle.peer_conn.specs.Stops.{StopsAs, IsRead}
 use Rattle.peer_conn.specs.WriterStates.{RepliesFrom}
 use Rattle.peer_conn.specs.Ends.{Reading, Writing, reading, writing, EndsAs, Serves}
 use Rattle.peer_conn.specs.Connects.{end_for, AreAsked, Connects}
-use Rattle.peer_conn.specs.Tickets.{wishes_by, wishes_taken, wishes_put, asks_in}
+use Rattle.peer_conn.specs.LaneWishes.{wishes_taken, wishes_put}
 use Rattle.peer_conn.specs.Sides.{ServesSides}
 use Rattle.peer_conn.specs.ReaderSides.{TakesRequests}
 use Rattle.peer_conn.specs.WriterSides.{AnswersTickets, AnswersLeft}
@@ -31,13 +35,10 @@ use Rattle.peer_conn.specs.Responses.{AreNewResponses, IsFlushed, PutsReplies}
 use Rattle.peer_conn.specs.Exchanges.{Exchanges}
 use Rattle.peer_conn.specs.declared.requests.Requests.{Requests}
 use Rattle.peer_conn.specs.declared.responses.Responses.{Responses}
-use Rattle.peer_conn.specs.declared.end.End.{End}
-use Rattle.peer_conn.specs.declared.end.End.TheVariants as end
 use Rattle.peer_conn.specs.declared.end.ReaderStop.{ReaderStop}
 use Rattle.peer_conn.specs.declared.end.ReaderStop.TheVariants as stop
 use Rattle.peer_conn.specs.declared.end.WriterState.{WriterState}
 use Rattle.peer_conn.specs.declared.end.WriterState.TheVariants as state
-use Rattle.peer_conn.proofs.WishLemmas.{Open-none, first_of}
 use Rattle.peer_conn.proofs.SendLemmas.{sending_by, sent_none, answered_none}
 use Rattle.peer_conn.proofs.RequestLemmas.{firsts}
 use Rattle.peer_conn.proofs.ResponseLemmas.{replies_on, replies_then, replies_flushed}

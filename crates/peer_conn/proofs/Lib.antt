@@ -1,17 +1,9 @@
 pub mod AnswerLemmas
-pub mod AskingLemmas
 pub mod EndLemmas
-pub mod ExchangeEndLemmas
-pub mod ExchangeLemmas
 pub mod HeadlineLemmas
-pub mod HoldingLemmas
-pub mod IntakeLemmas
-pub mod KnownLemmas
 pub mod ReaderSideLemmas
 pub mod RequestLemmas
 pub mod ResponseLemmas
 pub mod SendLemmas
 pub mod StrangerLemmas
-pub mod WholeLemmas
-pub mod WishLemmas
 pub mod WriterSideLemmas

@@ -14,22 +14,19 @@ use Rattle.peer_lane.specs.declared.ticket.Body.{Body}
 use Rattle.peer_lane.specs.declared.ticket.Ticket.{Ticket}
 use Rattle.peer_reply.specs.declared.wish.Wish.{Wish}
 use Rattle.peer_reply.specs.declared.wish.WishBody.{WishBody}
-use Rattle.peer_conn.specs.Tickets.{body_by, wishes_by, wishes_put, asks_in, asks_in_body}
+use Rattle.peer_wish.specs.Tickets.{body_by, wishes_by, asks_in_body}
+use Rattle.peer_wish.specs.Strangers.{flights_in, flights_in_body}
+use Rattle.peer_wish.proofs.WishLemmas.{first_of}
+use Rattle.peer_wish.proofs.TicketLemmas.{asks_in-append, flights-append, wishes-append}
+use Rattle.peer_conn.specs.LaneWishes.{wishes_put}
 use Rattle.peer_conn.specs.Requests.{Stops, reading_of}
 use Rattle.peer_conn.specs.ReaderSides.{PutsTickets}
-use Rattle.peer_conn.specs.Strangers.{flights_in, flights_in_body, flights_of}
+use Rattle.peer_conn.specs.Strangers.{flights_of}
 use Rattle.peer_conn.specs.declared.reader_side.ReaderSide.{ReaderSide}
 use Rattle.peer_conn.specs.declared.requests.Requests.{Requests}
 use Rattle.peer_conn.specs.declared.end.ReaderStop.{ReaderStop}
 use Rattle.peer_conn.specs.declared.end.ReaderStop.TheVariants as stop
-use Rattle.peer_conn.proofs.WishLemmas.{first_of}
 use Rattle.peer_conn.proofs.RequestLemmas.{firsts}
-use Rattle.peer_conn.proofs.StrangerLemmas.{flights-append}
-use Rattle.peer_conn.proofs.WriterSideLemmas.{wishes-append}
-
-asks_in-append : (ws vs : List Wish) → asks_in (ws ++ vs) ≡ asks_in ws + asks_in vs
-asks_in-append [] vs = omega arith
-asks_in-append (w ∷ ws) vs = let h = asks_in-append ws vs in omega arith
 
 module _ {S L : Type 0} {g : Source.Ghosts S} {h : Ledger.Ghosts L} {pool : Pool S L g h} where
   pub puts_none : {seat : ConnSeat S L g} {lane : LaneIn S g} → IsConnSeatOf pool seat → PutsTickets pool seat seat lane lane []

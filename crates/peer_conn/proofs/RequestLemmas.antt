@@ -5,15 +5,15 @@ use Rattle.std.proofs.KnownBytes.{Appends-nil, Appends-trans}
 use Rattle.peer_head.specs.Blocks.{Begins}
 use Rattle.peer_view.specs.declared.reader.PeerRead.{Ghosts}
 use Rattle.peer_reply.specs.declared.wish.Wish.{Wish}
-use Rattle.peer_conn.specs.Wishes.{closes_after, OpenWishes, ClosedWishes, AreFirst, AreAll}
-use Rattle.peer_conn.specs.Nexts.{IsNextWish}
+use Rattle.peer_wish.specs.Wishes.{closes_after, OpenWishes, ClosedWishes, AreFirst, AreAll}
+use Rattle.peer_wish.specs.Nexts.{IsNextWish}
+use Rattle.peer_wish.proofs.WishLemmas.{Open-none, Open-extend, Open-one, Open-append, Closed-one, Closed-append, First-append, next_closes, next_stays}
 use Rattle.peer_conn.specs.Stops.{StopsAs}
 use Rattle.peer_conn.specs.Ends.{Reading}
 use Rattle.peer_conn.specs.Requests.{Receives, Stops, reading_of}
 use Rattle.peer_conn.specs.declared.requests.Requests.{Requests}
 use Rattle.peer_conn.specs.declared.end.ReaderStop.{ReaderStop}
 use Rattle.peer_conn.specs.declared.end.ReaderStop.TheVariants as stop
-use Rattle.peer_conn.proofs.WishLemmas.{Open-none, Open-extend, Open-one, Open-append, Closed-one, Closed-append, First-append, next_closes, next_stays}
 
 -- what a reader gave before it stopped are first wishes
 pub firsts : (numbers : List ℕ → Option ℕ) (n reads : ℕ) (r : Reading) (t : List ℕ) (ws : List Wish) (c : ReaderStop) → StopsAs numbers n reads r t ws c → AreFirst numbers n t ws

@@ -6,8 +6,8 @@ use Rattle.peer_view.specs.declared.writer.PeerWrite.{Ghosts}
 use Rattle.peer_reply.specs.Texts.{fault_reply, answer_reply}
 use Rattle.peer_reply.specs.declared.fault.Fault.{Fault}
 use Rattle.peer_reply.specs.declared.wish.Wish.{Wish}
-use Rattle.peer_conn.specs.Wishes.{refusal, get_wish}
-use Rattle.peer_conn.specs.Replies.{IsReply}
+use Rattle.peer_wish.specs.Wishes.{refusal, get_wish}
+use Rattle.peer_wish.specs.Replies.{IsReply}
 use Rattle.peer_conn.specs.Sending.{Sending, Sent, Broke}
 use Rattle.peer_conn.specs.WriterStates.{PutsFrom, RepliesFrom, is_active}
 use Rattle.peer_conn.specs.Responses.{sending_of, PutsReply, IsFlushed, PutsReplies}

@@ -4,7 +4,8 @@ use Rattle.peer_source.specs.Answers.{Answer}
 use Rattle.peer_view.specs.Moves.{Moves}
 use Rattle.peer_view.proofs.MovingLemmas.{Moves-along, Moves-more, Moves-none, Moves-trans}
 use Rattle.peer_reply.specs.declared.wish.Wish.{Wish}
-use Rattle.peer_conn.specs.Replies.{Replies, IsReply}
+use Rattle.peer_wish.specs.Replies.{IsReply}
+use Rattle.peer_wish.proofs.ReplyLemmas.{Replies-append}
 use Rattle.peer_outbox.specs.Joins.{join}
 use Rattle.peer_outbox.proofs.JoinLemmas.{join-append}
 use Rattle.peer_conn.specs.Sending.{Sending, Sent, Broke, Answered}
@@ -37,10 +38,6 @@ first_before : {P Q : List Wish → Type 0} (ws vs : List Wish) → ((front : Li
 first_before ws vs leads h = record { front = h.front; left = h.left ++ vs; cut = sym (append_assoc h.front h.left vs) ∙ ap (λ v. v ++ vs) h.cut; fact = leads h.front h.fact }
 
 module _ (answers : ℕ → List ℕ → Answer → Type 0) where
-  pub Replies-append : (ws vs : List Wish) (rs ss : List (List ℕ)) → Replies answers ws rs → Replies answers vs ss → Replies answers (ws ++ vs) (rs ++ ss)
-  Replies-append [] vs rs ss h k = subst (λ x. Replies answers vs (x ++ ss)) (sym h) k
-  Replies-append (w ∷ ws) vs rs ss h k = (h.0, h.1 ++ ss, ap (λ x. x ++ ss) h.2, h.3, Replies-append ws vs h.1 ss h.4 k)
-
   -- no reply
   pub answered_none : (P : List ℕ → Type 0) → P [] → Answered answers P []
   answered_none P h = record { replies = []; each = refl; out = h }
@@ -57,7 +54,7 @@ module _ (answers : ℕ → List ℕ → Answer → Type 0) where
   answered_then : (P Q R : List ℕ → Type 0) → ((p q : List ℕ) → P p → Q q → R (p ++ q)) → (ws vs : List Wish) → Answered answers P ws → Answered answers Q vs → Answered answers R (ws ++ vs)
   answered_then P Q R both ws vs h k = record {
     replies = h.replies ++ k.replies;
-    each = Replies-append ws vs h.replies k.replies h.each k.each;
+    each = Replies-append answers ws vs h.replies k.replies h.each k.each;
     out = subst R (join-append h.replies k.replies) (both (join h.replies) (join k.replies) h.out k.out);
   }
 

@@ -1,22 +1,16 @@
 -- Laws of the strangers that a connection counts.
-use Rattle.std.proofs.Common.{◌≡◌, inl, inr, ℕ, ◌+◌, ◌^◌, ◌<◌, ◌≤◌, Bool, List, [], ◌∷◌, ◌++◌, Some, None, Result, Ok, Err, min, refl, sym, ap, arith}
-use Rattle.peer_source.specs.Answers.{Answer, Filled}
+use Rattle.std.proofs.Common.{◌≡◌, inl, inr, ℕ, ◌+◌, ◌^◌, ◌<◌, ◌≤◌, List, [], ◌∷◌, ◌++◌, Some, None, min, refl, ap, arith}
+use Rattle.peer_source.specs.Answers.{Filled}
 use Rattle.peer_fill.specs.Asks.{CountsAsk, hit_count}
 use Rattle.peer_fill.specs.declared.counts.AskCounts.{AskCounts}
-use Rattle.peer_flight.specs.Claims.{Looked, claim_place}
-use Rattle.peer_flight.specs.SingleFlight.{place_of}
+use Rattle.peer_flight.specs.Claims.{Looked}
 use Rattle.peer_flight.specs.declared.claim.Claim.{Claim}
 use Rattle.peer_flight.specs.declared.claim.Claim.TheVariants as claim
 use Rattle.peer_lane.specs.declared.ticket.Ticket.{Ticket}
-use Rattle.peer_conn.specs.Answering.{AnswersClaim, AnswersFilled}
-use Rattle.peer_conn.specs.Strangers.{CountsAmong, CountsFew, CountsFill, IsOwn, Rises, flight_count, flights_in, flights_in_body, flights_of}
+use Rattle.peer_wish.specs.Strangers.{flight_count, flights_in, flights_in_body}
+use Rattle.peer_wish.proofs.TicketLemmas.{flights-append, own_of_ready}
+use Rattle.peer_conn.specs.Strangers.{CountsAmong, CountsFew, CountsFill, Rises, flights_of}
 use Rattle.peer_conn.specs.declared.end.WriterState.{WriterState}
-use Rattle.peer_conn.specs.declared.outgoing.Answered.{Answered}
-use Rattle.peer_conn.specs.declared.outgoing.Answered.TheVariants as answered
-
-pub flights-append : {S : Type 0} (ts us : List (Ticket S)) → flights_in (ts ++ us) ≡ flights_in ts + flights_in us
-flights-append [] us = omega arith
-flights-append (t ∷ ts) us = omega (arith, flights-append ts us)
 
 -- a claim that is ready is no flight
 hit_or_flight : {S : Type 0} (c : Claim S) → hit_count c + flight_count c ≡ 1
@@ -27,12 +21,6 @@ hit_or_flight (claim.Pending flight) = refl
 pub flights_of_ask : {S : Type 0} {c : Claim S} {old new : AskCounts} → CountsAsk c old new → flights_of new ≡ flights_of old + flight_count c
 flights_of_ask {S} {c} h = omega (arith, h.flights, hit_or_flight c)
 
--- the fill of a claim that is ready is its own
-own_of_ready : (f fill : Filled) → Some fill ≡ Some f → place_of f.group f.key ≡ place_of fill.group fill.key
-own_of_ready f fill same =
-    let e : fill ≡ f = cc in
-    ap (λ v. place_of v.group v.key) (sym e)
-
 pub rises_none : {n a b : ℕ} → b ≡ a → Rises n a b
 rises_none e = record { least = omega (arith, e); most = omega (arith, e) }
 
@@ -42,15 +30,6 @@ counts_fill c fill state fits came (inl h) = rises_none h.1
 counts_fill (claim.Ready f) fill state fits came (inr (inl h)) = absurd (h.0 (own_of_ready f fill came))
 counts_fill (claim.Pending flight) fill state fits came (inr (inl h)) = record { least = omega (arith, h.1, fits); most = omega (arith, h.1) }
 counts_fill c fill state fits came (inr (inr h)) = rises_none h.1
-
--- only the fill of a flight may be made good
-pub answers_filled : {S E : Type 0} (answers : ℕ → List ℕ → Answer → Type 0) (c : Claim S) (fill : Filled) (closing bare : Bool) (old new : List ℕ) (r : Result Answered E) →
-    Looked c None (Some fill) (Some fill) → AnswersFilled answers c fill closing bare old new r → AnswersClaim answers c closing bare old new r
-answers_filled answers c fill closing bare old new (Ok answered.Put) came h = h.0
-answers_filled answers (claim.Ready f) fill closing bare old new (Ok answered.MadeGood) came h = absurd (h.1 (own_of_ready f fill came))
-answers_filled answers (claim.Pending flight) fill closing bare old new (Ok answered.MadeGood) came h = (h.0, refl)
-answers_filled answers c fill closing bare old new (Ok answered.Waits) came h = absurd h
-answers_filled answers c fill closing bare old new (Err fault) came h = h
 
 -- no ticket more
 pub counts_same : {S : Type 0} {ts us : List (Ticket S)} {a b : ℕ} → us ≡ ts → b ≡ a → CountsAmong ts us a b

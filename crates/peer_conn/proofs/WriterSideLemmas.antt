@@ -7,17 +7,16 @@ use Rattle.peer_lane.specs.Lanes.{IsSameOut, tickets_taken, tickets_known}
 use Rattle.peer_lane.specs.declared.lane_out.LaneOut.{LaneOut}
 use Rattle.peer_lane.specs.declared.ticket.Ticket.{Ticket}
 use Rattle.peer_reply.specs.declared.wish.Wish.{Wish}
-use Rattle.peer_conn.specs.Tickets.{wish_by, wishes_by, wishes_taken}
+use Rattle.peer_wish.specs.Tickets.{wish_by, wishes_by}
+use Rattle.peer_wish.proofs.TicketLemmas.{wishes-append}
+use Rattle.peer_wish.specs.Strangers.{flights_in_body}
+use Rattle.peer_conn.specs.LaneWishes.{wishes_taken}
 use Rattle.peer_conn.specs.Responses.{PutsReplies}
-use Rattle.peer_conn.specs.Strangers.{Rises, flights_in_body}
+use Rattle.peer_conn.specs.Strangers.{Rises}
 use Rattle.peer_conn.specs.WriterSides.{AnswersTickets}
 use Rattle.peer_conn.specs.declared.writer_side.WriterSide.{WriterSide}
 use Rattle.peer_conn.proofs.StrangerLemmas.{counts_same, counts_then, counts_one}
 use Rattle.peer_conn.proofs.ResponseLemmas.{replies_none, replies_on, replies_then}
-
-pub wishes-append : {S : Type 0} (ts us : List (Ticket S)) → wishes_by (ts ++ us) ≡ wishes_by ts ++ wishes_by us
-wishes-append [] us = refl
-wishes-append (t ∷ ts) us = ap (λ v. wish_by t ∷ v) (wishes-append ts us)
 
 -- the end of a lane stays that end
 same_out : {S : Type 0} {G : Source.Ghosts S} (a b c : LaneOut S G) → IsSameOut a b → IsSameOut b c → IsSameOut a c

@@ -11,10 +11,6 @@ use Rattle.peer_conn.specs.Ends.{EndsAs, Serves, reading, writing}
 use Rattle.peer_conn.specs.Headline.{WritesReplies}
 use Rattle.peer_conn.specs.declared.end.Served.{Served}
 
--- answers that are the one answer for each group and key
-abbrev pub only : (ℕ → List ℕ → Answer) → ℕ → List ℕ → Answer → Type 0
-only the_answer group key answer = answer ≡ the_answer group key
-
 module _ {R W : Type 0} (G : Read.Ghosts R) (H : Write.Ghosts W) (r : R) (w : W) (served : Served R W)
     (numbers : List ℕ → Option ℕ) (answers : ℕ → List ℕ → Answer → Type 0) where
   -- it served, with at most `reads` reads

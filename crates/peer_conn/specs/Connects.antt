@@ -3,20 +3,16 @@ use Rattle.std.specs.Prelude.{◌≡◌, ℕ, ◌+◌, List, Option}
 use Rattle.peer_source.specs.Answers.{Answer}
 use Rattle.peer_flight.specs.declared.table.AskFault.TheVariants as ask
 use Rattle.peer_reply.specs.declared.wish.Wish.{Wish}
-use Rattle.peer_conn.specs.Wishes.{AreFirst}
-use Rattle.peer_conn.specs.Laws.{IsWhole}
-use Rattle.peer_conn.specs.Tickets.{asks_in}
+use Rattle.peer_wish.specs.Wishes.{AreFirst}
+use Rattle.peer_wish.specs.Laws.{IsWhole}
+use Rattle.peer_wish.specs.Tickets.{asks_in}
+use Rattle.peer_wish.specs.declared.end.End.{End}
+use Rattle.peer_wish.specs.declared.end.End.TheVariants as end
 use Rattle.peer_conn.specs.Ends.{Reading, Writing, Serves}
-use Rattle.peer_conn.specs.declared.end.End.{End}
-use Rattle.peer_conn.specs.declared.end.End.TheVariants as end
 use Rattle.peer_conn.specs.declared.end.ReaderStop.{ReaderStop}
 use Rattle.peer_conn.specs.declared.end.ReaderStop.TheVariants as stop
 use Rattle.peer_conn.specs.declared.end.WriterState.{WriterState}
 use Rattle.peer_conn.specs.declared.end.WriterState.TheVariants as state
-
--- the answers that some source of a type may give
-abbrev pub allows : (ℕ → List ℕ → Answer → Type 0) → ℕ → List ℕ → Answer → Type 0
-allows allowed group key answer = ∥ allowed group key answer ∥₁
 
 -- the end, by how the writer stands and what stopped the reader
 abbrev pub end_for : WriterState → ReaderStop → End

@@ -10,9 +10,11 @@ use Rattle.peer_fill.specs.declared.seats.ConnSeat.{ConnSeat}
 use Rattle.peer_lane.specs.Lanes.{IsSameIn, tickets_put}
 use Rattle.peer_lane.specs.declared.lane_in.LaneIn.{LaneIn}
 use Rattle.peer_reply.specs.declared.wish.Wish.{Wish}
-use Rattle.peer_conn.specs.Tickets.{wishes_put, asks_in}
+use Rattle.peer_wish.specs.Tickets.{asks_in}
+use Rattle.peer_wish.specs.Strangers.{flights_in}
+use Rattle.peer_conn.specs.LaneWishes.{wishes_put}
 use Rattle.peer_conn.specs.Requests.{Stops}
-use Rattle.peer_conn.specs.Strangers.{flights_in, flights_of}
+use Rattle.peer_conn.specs.Strangers.{flights_of}
 use Rattle.peer_conn.specs.declared.reader_side.ReaderSide.{ReaderSide}
 use Rattle.peer_conn.specs.declared.end.ReaderStop.{ReaderStop}
 

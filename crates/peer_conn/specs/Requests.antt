@@ -5,7 +5,8 @@ use Rattle.peer_flight.specs.declared.table.AskFault.TheVariants as ask
 use Rattle.peer_head.specs.Blocks.{IsUnfinished}
 use Rattle.peer_view.specs.declared.reader.PeerRead.{Ghosts}
 use Rattle.peer_reply.specs.declared.wish.Wish.{Wish}
-use Rattle.peer_conn.specs.Wishes.{OpenWishes}
+use Rattle.peer_wish.specs.Known.{IsKnown}
+use Rattle.peer_wish.specs.Wishes.{OpenWishes}
 use Rattle.peer_conn.specs.Stops.{StopsAs}
 use Rattle.peer_conn.specs.Ends.{Reading, reading}
 use Rattle.peer_conn.specs.declared.requests.Requests.{Requests}
@@ -53,3 +54,10 @@ module _ {R : Type 0} {G : Ghosts R} where
   abbrev pub Reads : (List ℕ → Option ℕ) → Requests R G → Requests R G → Result Unit ReaderStop → Type 0
   Reads numbers old new (Ok done) = Receives numbers old new []
   Reads numbers old new (Err stop) = Stops numbers old new [] stop
+
+-- the request that was given, if one was, asks for a group that is one of so many
+abbrev pub GivesKnown : ℕ → NextRequest → Type 0
+GivesKnown count (given.Request w) = IsKnown count w.body
+GivesKnown count (given.Last w) = IsKnown count w.body
+GivesKnown count given.Need = Unit {0}
+GivesKnown count given.NoMemory = Unit {0}

@@ -7,7 +7,7 @@ use Rattle.peer_view.specs.declared.writer.PeerWrite as Write
 use Rattle.peer_fill.specs.Seats.{asks_of}
 use Rattle.peer_lane.specs.Lanes.{IsLane, tickets_put, tickets_taken}
 use Rattle.peer_reply.specs.declared.wish.Wish.{Wish}
-use Rattle.peer_conn.specs.Tickets.{asks_in}
+use Rattle.peer_wish.specs.Tickets.{asks_in}
 use Rattle.peer_conn.specs.Requests.{Stops}
 use Rattle.peer_conn.specs.Responses.{PutsReplies}
 use Rattle.peer_conn.specs.Connects.{end_for}

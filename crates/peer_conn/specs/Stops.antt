@@ -3,7 +3,7 @@ use Rattle.std.specs.Prelude.{◌≡◌, ℕ, ◌+◌, ◌<◌, ◌≤◌, ⊤, 
 use Rattle.std.specs.Io.KnownBytes.{Appends}
 use Rattle.peer_head.specs.Pairs.{ArePairs}
 use Rattle.peer_reply.specs.declared.wish.Wish.{Wish}
-use Rattle.peer_conn.specs.Wishes.{ClosedWishes, AreFirst, AreAll}
+use Rattle.peer_wish.specs.Wishes.{ClosedWishes, AreFirst, AreAll}
 use Rattle.peer_conn.specs.Ends.{Reading}
 use Rattle.peer_conn.specs.declared.end.ReaderStop.{ReaderStop}
 use Rattle.peer_conn.specs.declared.end.ReaderStop.TheVariants as stop

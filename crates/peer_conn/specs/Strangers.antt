@@ -1,42 +1,20 @@
--- Strangers: fills that came of another group or key than was asked for.
-use Rattle.std.specs.Prelude.{◌≡◌, ◌≤◌, ◌⊎◌, ℕ, ◌+◌, ◌-◌, ◌^◌, min, false, List, [], ◌∷◌}
+-- How many strangers a connection counts.
+use Rattle.std.specs.Prelude.{◌≡◌, ◌≤◌, ◌⊎◌, ℕ, ◌+◌, ◌-◌, ◌^◌, min, false, List}
 use Rattle.peer_source.specs.Answers.{Filled}
 use Rattle.peer_fill.specs.declared.counts.AskCounts.{AskCounts}
-use Rattle.peer_flight.specs.Claims.{claim_place}
-use Rattle.peer_flight.specs.SingleFlight.{place_of}
 use Rattle.peer_flight.specs.declared.claim.Claim.{Claim}
-use Rattle.peer_flight.specs.declared.claim.Claim.TheVariants as claim
-use Rattle.peer_lane.specs.declared.ticket.Body.{Body}
-use Rattle.peer_lane.specs.declared.ticket.Body.TheVariants as ticket
 use Rattle.peer_lane.specs.declared.ticket.Ticket.{Ticket}
+use Rattle.peer_wish.specs.Strangers.{IsOwn, flights_in}
 use Rattle.peer_conn.specs.WriterStates.{is_active}
 use Rattle.peer_conn.specs.declared.end.WriterState.{WriterState}
 
 module _ {S : Type 0} where
-  -- the fill is of the group and key that the claim is of
-  abbrev pub IsOwn : Claim S → Filled → Type 0
-  IsOwn c fill = claim_place c ≡ place_of fill.group fill.key
-
   -- this fill came for the claim: a writer counts one stranger more exactly where it is of another place, unless memory was
   -- refused for a fill in its place and the writer puts no more
   abbrev pub CountsFill : Claim S → Filled → WriterState → ℕ → ℕ → Type 0
   CountsFill c fill state old new = IsOwn c fill × (new ≡ old)
       ⊎ (¬ (IsOwn c fill)) × (new ≡ min (old + 1) (2 ^ 64 - 1))
       ⊎ (¬ (IsOwn c fill)) × (new ≡ old) × (is_active state ≡ false)
-
-  -- 1 where the claim is a flight: only its fill may be a stranger
-  abbrev pub flight_count : Claim S → ℕ
-  flight_count (claim.Ready fill) = 0
-  flight_count (claim.Pending flight) = 1
-
-  abbrev pub flights_in_body : Body S → ℕ
-  flights_in_body (ticket.Fault f) = 0
-  flights_in_body (ticket.Claim c) = flight_count c
-
-  -- how many of the tickets are of flights
-  abbrev pub flights_in : List (Ticket S) → ℕ
-  flights_in [] = 0
-  flights_in (t ∷ ts) = flights_in_body t.body + flights_in ts
 
   -- a count did not fall, and rose at most by the flights among the tickets that came behind the first ones
   pub record CountsAmong (before after : List (Ticket S)) (old new : ℕ) : Type 0 where

@@ -6,7 +6,7 @@ use Rattle.peer_view.specs.declared.writer.PeerWrite as Write
 use Rattle.peer_lane.specs.Lanes.{IsSameOut, tickets_put, tickets_taken}
 use Rattle.peer_lane.specs.declared.lane_in.LaneIn.{LaneIn}
 use Rattle.peer_reply.specs.declared.wish.Wish.{Wish}
-use Rattle.peer_conn.specs.Tickets.{wishes_taken, wishes_put}
+use Rattle.peer_conn.specs.LaneWishes.{wishes_taken, wishes_put}
 use Rattle.peer_conn.specs.Responses.{PutsReplies}
 use Rattle.peer_conn.specs.Strangers.{CountsAmong, Rises}
 use Rattle.peer_conn.specs.declared.writer_side.WriterSide.{WriterSide}

@@ -5,8 +5,8 @@
 ghost use Rattle.std.specs.Prelude.{◌≡◌, ℕ, ◌+◌, ◌-◌, ◌^◌, ◌<◌};
 ghost use Rattle.peer_fill.specs.Pools.{source_of, IsConnSeatOf};
 ghost use Rattle.peer_fill.specs.Seats.{asks_of, conn_parts};
-ghost use Rattle.peer_conn.specs.Calls.{CallConnects, CallWrites, only};
-ghost use Rattle.peer_conn.specs.Connects.{allows};
+ghost use Rattle.peer_wish.specs.Allowed.{only, allows};
+ghost use Rattle.peer_conn.specs.Calls.{CallConnects, CallWrites};
 ghost use Rattle.peer_conn.specs.Sides.{AreNewSides, ServesSides};
 ghost use Rattle.peer_conn.specs.ReaderSides.{TakesRequests};
 ghost use Rattle.peer_conn.specs.WriterSides.{AnswersTickets};

@@ -4,7 +4,7 @@
 //! order, each that has group and key after it was asked for; nothing is read behind a request that closes.
 ghost use Rattle.std.specs.Prelude.{◌≡◌, [], ◌∷◌, OnOk, OnErr};
 ghost use Rattle.peer_fill.specs.Pools.{source_of, IsConnSeatOf};
-ghost use Rattle.peer_conn.specs.Known.{IsKnown};
+ghost use Rattle.peer_wish.specs.Known.{IsKnown};
 ghost use Rattle.peer_conn.specs.ReaderSides.{PutsTickets, TakesRequests};
 
 use crate::end::ReaderStop;

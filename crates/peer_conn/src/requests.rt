@@ -1,16 +1,16 @@
 //! The requests of a connection: bytes from a reader, and what the heads among them ask for.
 //!
-//! It stands on the heads of `peer_head` and the readers of `peer_view`. It promises the requests of the bytes that came,
-//! each once, in order, and says why there is no other.
+//! It stands on the heads of `peer_head`, the wishes of `peer_wish` and the readers of `peer_view`. It promises the requests
+//! of the bytes that came, each once, in order, and says why there is no other.
 ghost use Rattle.std.specs.Prelude.{◌≡◌, ℕ, ◌+◌, ◌^◌, ◌<◌};
 ghost use Rattle.peer_flight.specs.Events.{REPLIES};
 
 use crate::end::ReaderStop;
-use crate::wish::{closes_after, next_kept};
 use peer_head::{FieldPlaces, HeadBuf};
 use peer_reply::Wish;
 use peer_source::{Names, Source};
 use peer_view::{PeerRead, ReadFailed};
+use peer_wish::{closes_after, next_kept};
 use std::alloc::Global;
 
 /// What the bytes held give.
@@ -44,8 +44,7 @@ impl<R: PeerRead> Requests<R> {
     ghost use Rattle.std.specs.Prelude.{◌≡◌, ℕ, ◌+◌, ◌^◌, ◌<◌, List, Option, IfOk, IfErr, OnOk};
     ghost use Rattle.peer_head.specs.Blocks.{IsUnfinished};
     ghost use Rattle.peer_conn.specs.Stops.{IsEndOfReads};
-    ghost use Rattle.peer_conn.specs.Known.{GivesKnown};
-    ghost use Rattle.peer_conn.specs.Requests.{AreNewRequests, GivesNext, Reads};
+    ghost use Rattle.peer_conn.specs.Requests.{GivesKnown, AreNewRequests, GivesNext, Reads};
 
     /// Takes all the memory that it ever takes, beside that of keys.
     pub(crate) fn new(alloc: Global, reader: R, reads: u64) -> Result<Requests<R>, R>

@@ -3,17 +3,19 @@
 //! It stands on the requests and the responses of a connection, and on the sources of `peer_source`. It promises that
 //! what is written is the replies to what was read, as the end says.
 ghost use Rattle.std.specs.Prelude.{◌≡◌, ◌≢◌, ℕ, ◌+◌, ◌-◌, ◌^◌, ◌<◌, List, [], ◌∷◌, Some};
-ghost use Rattle.peer_conn.specs.Calls.{CallServes, CallTells, CallWrites, only};
+ghost use Rattle.peer_wish.specs.Allowed.{only};
+ghost use Rattle.peer_conn.specs.Calls.{CallServes, CallTells, CallWrites};
 ghost use Rattle.peer_conn.specs.Responses.{PutsReplies};
 ghost use Rattle.peer_conn.specs.Exchanges.{Exchanges};
 
-use crate::end::{End, ReaderStop, Served, end_of, refused};
+use crate::end::{ReaderStop, Served, end_of, refused};
 use crate::requests::{NextRequest, Requests};
 use crate::responses::Responses;
 use peer_flight::AskFault;
 use peer_reply::{Wish, WishBody};
 use peer_source::{Fill, FunctionalSource, Names, Source};
 use peer_view::{PeerRead, PeerWrite};
+use peer_wish::End;
 use std::alloc::Global;
 
 /// Serves one connection with at most `reads` reads, in the caller's thread.

@@ -49,11 +49,12 @@ pub(crate) struct WriterSide<S: Source, W: PeerWrite + Drop> {
 impl<S: Source, W: PeerWrite + Drop> WriterSide<S, W> {
     ghost use Rattle.std.specs.Prelude.{◌≡◌, [], ◌∷◌, ◌++◌, option_to_list};
     ghost use Rattle.peer_lane.specs.Lanes.{IsLane, IsSameOut, tickets_taken};
-    ghost use Rattle.peer_conn.specs.Tickets.{wish_by, claim_wish, fill_wish};
-    ghost use Rattle.peer_conn.specs.Connects.{allows};
+    ghost use Rattle.peer_wish.specs.Tickets.{wish_by, claim_wish, fill_wish};
+    ghost use Rattle.peer_wish.specs.Allowed.{allows};
+    ghost use Rattle.peer_wish.specs.Strangers.{flight_count, flights_in_body};
     ghost use Rattle.peer_conn.specs.Responses.{PutsReplies};
     ghost use Rattle.peer_conn.specs.WriterSides.{AnswersTickets, AnswersLeft, KeepsTickets};
-    ghost use Rattle.peer_conn.specs.Strangers.{CountsFill, flight_count, flights_in_body};
+    ghost use Rattle.peer_conn.specs.Strangers.{CountsFill};
 
     /// Takes tickets until no more are put, and puts their replies.
     pub(crate) fn run<L: Ledger, H: Wait>(&mut self, rt: &H, pool: &Pool<S, L>, signal: &Signal)

@@ -9,7 +9,7 @@ use crate::seat::{Asked, LoopSeat};
 use mio::event::Event;
 use mio::net::TcpStream;
 use mio::{Interest, Registry, Token};
-use peer_conn::Exchange;
+use peer_exchange::Exchange;
 use peer_source::Source;
 use std::cmp::min;
 use std::io;

@@ -10,7 +10,7 @@ use crate::wait_lists::WaitLists;
 use mio::event::Event;
 use mio::net::TcpStream;
 use mio::{Events, Poll, Registry, Token};
-use peer_conn::Exchange;
+use peer_exchange::Exchange;
 use peer_source::Source;
 use slab::Slab;
 use std::alloc::{AllocError, Global};

@@ -8,7 +8,7 @@ use crate::facts::Facts;
 use crate::filling::{Filling, work};
 use crate::limits::JOBS_OF_TURN;
 use crate::loop_seats::LoopSeats;
-use peer_conn::{Exchange, Rest};
+use peer_exchange::{Exchange, Rest};
 use peer_fill::Pool;
 use peer_source::Source;
 use peer_stats::LoopCounts;

@@ -1,7 +1,7 @@
 -- How the program ends where one connection ended.
 use Rattle.std.specs.Prelude.{◌≡◌, ℕ, List, codes, None, MatchOption}
-use Rattle.peer_conn.specs.declared.end.End.{End}
-use Rattle.peer_conn.specs.declared.end.End.TheVariants as end
+use Rattle.peer_wish.specs.declared.end.End.{End}
+use Rattle.peer_wish.specs.declared.end.End.TheVariants as end
 use Rattle.peer_serve.specs.declared.exit.Exit.{Exit}
 
 -- it ends with this status and this line on standard error

@@ -7,7 +7,7 @@ use crate::pools::{ask_once, counts};
 use crate::seen::Seen;
 use crate::talks::{Script, Talk};
 use crate::window;
-use peer_conn::{End, Exchange, GivenUp};
+use peer_exchange::{End, Exchange, GivenUp};
 use peer_fill::{ConnSeat, FillSeat, NoGate, Pool, pop_fill};
 use peer_source::DemoSource;
 use std::alloc::Global;

@@ -1,9 +1,9 @@
 use Rattle.std.proofs.Common.{refl}
 use mathlib.Core.Path.{fun_ext}
 use Rattle.peer_fill.specs.Pools.{source_of}
-use Rattle.peer_conn.specs.Calls.{only}
-use Rattle.peer_conn.specs.Connects.{allows}
-use Rattle.peer_conn.proofs.AnswerLemmas.{connects_too, merely_its_reply}
+use Rattle.peer_wish.specs.Allowed.{only, allows}
+use Rattle.peer_wish.proofs.ReplyLemmas.{merely_its_reply}
+use Rattle.peer_conn.proofs.AnswerLemmas.{connects_too}
 use Rattle.peer_conn.proofs.HeadlineLemmas.{written}
 use Rattle.peer_conn.proofs.connection.serve_connection_functional.Goals as goal
 

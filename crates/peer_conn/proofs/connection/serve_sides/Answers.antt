@@ -1,6 +1,6 @@
 use Rattle.std.proofs.Common.{◌∙◌, ap, arith, refl}
 use Rattle.peer_fill.specs.Seats.{asks_of}
-use Rattle.peer_conn.specs.Strangers.{flights_in}
+use Rattle.peer_wish.specs.Strangers.{flights_in}
 use Rattle.peer_conn.proofs.EndLemmas.{answers_all}
 use Rattle.peer_conn.proofs.StrangerLemmas.{counts_then, seat_counts}
 use Rattle.peer_conn.proofs.connection.serve_sides.Goals as goal

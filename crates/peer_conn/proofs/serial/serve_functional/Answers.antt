@@ -1,6 +1,6 @@
 use Rattle.std.proofs.Common.{refl}
 use mathlib.Core.Path.{fun_ext}
-use Rattle.peer_conn.specs.Calls.{only}
+use Rattle.peer_wish.specs.Allowed.{only}
 use Rattle.peer_conn.proofs.AnswerLemmas.{serves}
 use Rattle.peer_conn.proofs.HeadlineLemmas.{written}
 use Rattle.peer_conn.proofs.serial.serve_functional.Goals as goal

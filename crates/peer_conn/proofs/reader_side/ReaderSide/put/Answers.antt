@@ -2,8 +2,8 @@ use Rattle.std.proofs.Common.{refl, arith, sym, ◌∙◌, ap}
 use Rattle.peer_reply.specs.declared.wish.WishBody.TheVariants as wish
 use Rattle.peer_flight.specs.SingleFlight.{Place}
 use Rattle.peer_reply.specs.declared.wish.WishBody.{WishBody}
-use Rattle.peer_conn.specs.Tickets.{body_by, asks_in_body}
-use Rattle.peer_conn.specs.Strangers.{flights_in_body}
+use Rattle.peer_wish.specs.Tickets.{body_by, asks_in_body}
+use Rattle.peer_wish.specs.Strangers.{flights_in_body}
 use Rattle.peer_conn.proofs.ReaderSideLemmas.{puts_one}
 use Rattle.peer_conn.proofs.StrangerLemmas.{flights_of_ask}
 use Rattle.peer_conn.proofs.reader_side.ReaderSide.put.Goals as goal

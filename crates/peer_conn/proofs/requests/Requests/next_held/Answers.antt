@@ -1,8 +1,8 @@
 use Rattle.std.proofs.Common.{Some, subst, sym, ◌∙◌, refl}
-use Rattle.peer_conn.specs.Nexts.{IsNextOf}
-use Rattle.peer_conn.proofs.WishLemmas.{next_block}
+use Rattle.peer_wish.specs.Nexts.{IsNextOf}
+use Rattle.peer_wish.proofs.WishLemmas.{next_block}
+use Rattle.peer_wish.proofs.KnownLemmas.{next_known}
 use Rattle.peer_conn.proofs.RequestLemmas.{given_last, given_open}
-use Rattle.peer_conn.proofs.KnownLemmas.{next_known}
 use Rattle.peer_conn.proofs.requests.Requests.next_held.Goals as goal
 
 pub returns-then-closes_after-clause-gives : goal.returns-then-closes_after-clause-gives

@@ -1,7 +1,7 @@
 use Rattle.std.proofs.Common.{sym, subst, [], ◌∷◌}
-use Rattle.peer_conn.specs.Tickets.{body_by}
+use Rattle.peer_wish.specs.Tickets.{body_by}
+use Rattle.peer_wish.specs.Allowed.{allows}
 use Rattle.peer_conn.specs.Responses.{PutsReplies}
-use Rattle.peer_conn.specs.Connects.{allows}
 use Rattle.peer_conn.proofs.ResponseLemmas.{replies_fault}
 use Rattle.peer_conn.proofs.writer_side.WriterSide.put.Goals as goal
 

@@ -1,4 +1,4 @@
-use Rattle.peer_conn.specs.Connects.{allows}
+use Rattle.peer_wish.specs.Allowed.{allows}
 use Rattle.peer_conn.specs.WriterSides.{AnswersTickets}
 use Rattle.peer_conn.proofs.writer_side.WriterSide.run.Given as goal
 

@@ -1,5 +1,5 @@
 use Rattle.std.proofs.Common.{◌∙◌, refl, sym, ap, arith, [], ◌∷◌, ◌++◌, append-nil}
-use Rattle.peer_conn.specs.Tickets.{wish_by, wishes_by}
+use Rattle.peer_wish.specs.Tickets.{wish_by, wishes_by}
 use Rattle.peer_conn.proofs.ResponseLemmas.{replies_none, replies_on, replies_then, replies_flushed}
 use Rattle.peer_conn.proofs.StrangerLemmas.{counts_same, counts_then, counts_one}
 use Rattle.peer_conn.proofs.WriterSideLemmas.{drains_more, none_left}

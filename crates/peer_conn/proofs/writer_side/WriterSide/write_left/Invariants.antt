@@ -1,7 +1,7 @@
 use Rattle.std.proofs.Common.{List}
 use Rattle.peer_reply.specs.declared.wish.Wish.{Wish}
 use Rattle.peer_lane.specs.Lanes.{tickets_put, tickets_taken}
-use Rattle.peer_conn.specs.Connects.{allows}
+use Rattle.peer_wish.specs.Allowed.{allows}
 use Rattle.peer_conn.specs.Responses.{PutsReplies}
 use Rattle.peer_conn.specs.Strangers.{CountsAmong}
 use Rattle.peer_conn.proofs.WriterSideLemmas.{Drains}

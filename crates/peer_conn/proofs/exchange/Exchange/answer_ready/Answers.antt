@@ -1,5 +1,0 @@
-use mathlib.Core.Logic.{∥∥₁_map}
-use Rattle.peer_conn.proofs.exchange.Exchange.answer_ready.Goals as goal
-
-pub invariant_of-self : goal.invariant_of-self
-invariant_of-self g c = record { upholds = ∥∥₁_map c.args.self.now.upholds ((c.answer_ready.ensures.keeps (g.S.Source.number_of c.args.self.now.names)).keeps c.args.self.now.came.bytes c.args.self.now.sent.bytes) }

@@ -1,5 +1,0 @@
-use Rattle.peer_conn.proofs.WholeLemmas.{begins_with_first_law}
-use Rattle.peer_conn.proofs.laws.begins_with_first.Goals as goal
-
-pub returns : goal.returns
-returns c = begins_with_first_law

@@ -1,5 +1,0 @@
-use Rattle.peer_conn.proofs.WholeLemmas.{keeps_wishes_law}
-use Rattle.peer_conn.proofs.laws.keeps_wishes.Goals as goal
-
-pub returns : goal.returns
-returns c = keeps_wishes_law

@@ -1,5 +1,0 @@
-use Rattle.peer_conn.proofs.WholeLemmas.{replies_agree_law}
-use Rattle.peer_conn.proofs.laws.replies_agree.Goals as goal
-
-pub returns : goal.returns
-returns c = replies_agree_law

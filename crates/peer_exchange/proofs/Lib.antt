@@ -1,0 +1,6 @@
+pub mod AnsweringLemmas
+pub mod AskingLemmas
+pub mod ExchangeEndLemmas
+pub mod ExchangeLemmas
+pub mod HoldingLemmas
+pub mod IntakeLemmas

@@ -1,0 +1,54 @@
+use Rattle.std.proofs.Common.{refl, ◌∙◌, arith}
+use Rattle.peer_exchange.proofs.ExchangeLemmas.{upholds_like, keeps_then}
+use Rattle.peer_exchange.proofs.AskingLemmas.{adds_none, adds_one, adds_same, adds_lost, adds_end, full_through}
+use Rattle.peer_exchange.proofs.exchange_state.ExchangeState.ask_held.Goals as goal
+
+pub loop-init : goal.loop-init
+loop-init g c = record { seat = c.requires.seat; parts = refl; keeps = record { keeps = λ came sent h. upholds_like refl refl refl h }; tickets = adds_none _ _ _ refl; goes_on = refl; now = refl; window = refl; many = omega arith }
+
+pub loop-preserved : goal.loop-preserved
+loop-preserved g c =
+    let i = c.loop.invariant in
+    let asked = c.ask_next.ensures in
+    let one = rw c.in-Ok-true.field-0-test at c.in-Ok-true.ensures.asks in
+    record {
+      seat = asked.seat;
+      parts = asked.parts ∙ i.parts;
+      keeps = keeps_then i.keeps asked.keeps;
+      tickets = adds_one i.tickets one.0;
+      goes_on = one.1 ∙ i.goes_on;
+      now = one.2;
+      window = asked.window ∙ i.window;
+      many = omega (arith, i.many, one.0.len);
+    }
+
+pub returns-in-Ok-false : goal.returns-in-Ok-false
+returns-in-Ok-false g c =
+    let i = c.loop.invariant in
+    let asked = c.ask_next.ensures in
+    let none = rw c.in-Ok-false.field-0-test at c.in-Ok-false.ensures.asks in
+    record {
+      seat = asked.seat;
+      parts = asked.parts ∙ i.parts;
+      keeps = keeps_then i.keeps asked.keeps;
+      tickets = adds_same i.tickets none.0 none.1;
+      through = none.3;
+      goes_on = none.2 ∙ i.goes_on;
+      given_up = tt;
+      window = asked.window ∙ i.window;
+    }
+
+pub returns-in-Err-clause-keeps : goal.returns-in-Err-clause-keeps
+returns-in-Err-clause-keeps g c = keeps_then c.loop.invariant.keeps c.ask_next.ensures.keeps
+
+pub returns-in-Err-clause-tickets : goal.returns-in-Err-clause-tickets
+returns-in-Err-clause-tickets g c = adds_lost c.loop.invariant.tickets c.in-Err.ensures.asks.0
+
+pub returns-clause-tickets : goal.returns-clause-tickets
+returns-clause-tickets g c = adds_end c.loop.invariant.tickets
+
+pub returns-clause-through : goal.returns-clause-through
+returns-clause-through g c = full_through c.loop.self _ (omega (arith, c.loop.invariant.many, c.loop.self.window.few))
+
+pub returns-clause-goes_on : goal.returns-clause-goes_on
+returns-clause-goes_on g c = c.loop.invariant.goes_on

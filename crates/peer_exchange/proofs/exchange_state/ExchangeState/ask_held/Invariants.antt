@@ -1,0 +1,22 @@
+use Rattle.std.proofs.Common.{false, ◌≡◌, ◌≤◌}
+use Rattle.std.specs.VecDeque.{deque_len}
+use Rattle.peer_fill.specs.Pools.{IsConnSeatOf}
+use Rattle.peer_fill.specs.Seats.{asks_of, conn_parts}
+use Rattle.peer_wish.specs.Allowed.{allows}
+use Rattle.peer_exchange.specs.Asking.{AddsTickets}
+use Rattle.peer_exchange.specs.Intakes.{is_given_up}
+use Rattle.peer_exchange.specs.ExchangeStates.{Keeps}
+use Rattle.peer_exchange.proofs.ExchangeLemmas.{went_well}
+use Rattle.peer_exchange.proofs.exchange_state.ExchangeState.ask_held.Given as goal
+
+abbrev pub invariant-loop : goal.invariant-loop
+invariant-loop g l = record {
+  seat : IsConnSeatOf l.pool l.seat;
+  parts : conn_parts l.seat ≡ conn_parts l.fn.seat;
+  keeps : Keeps (g.S.Source.number_of l.names) (allows g.S.Source.allowed) l.fn.self l.self;
+  tickets : AddsTickets l.fn.self l.self (asks_of l.fn.seat) (asks_of l.seat) went_well;
+  goes_on : is_given_up l.self.intake.stage ≡ is_given_up l.fn.self.intake.stage;
+  now : l.self.waits_for_job ≡ false;
+  window : l.self.window.tickets ≡ l.fn.self.window.tickets;
+  many : l.counter ≤ deque_len l.self.waiting;
+}

@@ -1,0 +1,43 @@
+-- How an exchange ended, by the bytes that came and those that were sent (RFC 9112, sections 9.3 and 9.6).
+use Rattle.std.specs.Prelude.{◌≡◌, ℕ, true, false, ◌⊎◌, List, [], Option, Some, None}
+use Rattle.peer_source.specs.Answers.{Answer}
+use Rattle.peer_head.specs.Pairs.{ArePairs}
+use Rattle.peer_reply.specs.declared.wish.Wish.{Wish}
+use Rattle.peer_wish.specs.Wishes.{ClosedWishes, AreAll, AreFirst}
+use Rattle.peer_wish.specs.Replies.{AreReplies}
+use Rattle.peer_wish.specs.declared.end.End.{End}
+use Rattle.peer_wish.specs.declared.end.End.TheVariants as end
+use Rattle.peer_exchange.specs.ExchangeStates.{is_over, Upholds}
+use Rattle.peer_exchange.specs.declared.exchange_state.ExchangeState.{ExchangeState}
+
+module _ (numbers : List ℕ → Option ℕ) (answers : ℕ → List ℕ → Answer → Type 0) (came sent : List ℕ) where
+  -- what was sent is the replies to these wishes
+  pub record Answered (AreOf : List Wish → Type 0) : Type 0 where
+    pub wishes : List Wish
+    pub are : AreOf wishes
+    pub replies : AreReplies answers wishes sent
+
+  -- they are all wishes of what came: the last one closes, or the client's end came behind pairs alone ..
+  abbrev pub AreClean : List Wish → Type 0
+  AreClean ws = ClosedWishes numbers 0 came ws ⊎ ((rest : List ℕ) × AreAll numbers 0 came ws rest × ArePairs rest)
+
+  -- .. or inside a head
+  abbrev pub AreCut : List Wish → Type 0
+  AreCut ws = (rest : List ℕ) × AreAll numbers 0 came ws rest × (¬ (ArePairs rest))
+
+  -- an end: the first wishes were answered, and all of them where it was not given up
+  abbrev pub EndsWith : End → Type 0
+  EndsWith end.Clean = Answered AreClean
+  EndsWith end.Cut = Answered AreCut
+  EndsWith end.Memory = Answered (AreFirst numbers 0 came)
+  EndsWith end.Worn = Answered (AreFirst numbers 0 came)
+  EndsWith _ = ⊥
+
+  -- how it ended, none where it is not over
+  abbrev pub IsEnd : {S : Type 0} → ExchangeState S → Option End → Type 0
+  IsEnd e None = is_over e ≡ false
+  IsEnd e (Some end) = (is_over e ≡ true) × EndsWith end
+
+-- where these are the numbers, it ended so under these answers
+abbrev pub SaysEnd : {S : Type 0} → (List ℕ → Option ℕ) → (ℕ → List ℕ → Answer → Type 0) → (ℕ → List ℕ → Answer → Type 0) → ExchangeState S → Option End → Type 0
+SaysEnd numbers answers under e result = (came sent : List ℕ) → Upholds numbers answers came sent [] e → IsEnd numbers under came sent e result

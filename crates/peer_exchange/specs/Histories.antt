@@ -1,0 +1,11 @@
+-- What a call keeps of the histories of an exchange.
+use Rattle.std.specs.Prelude.{◌≡◌}
+use Rattle.peer_source.specs.declared.source.Source.{Ghosts}
+use Rattle.peer_exchange.specs.declared.exchange.Exchange.{Exchange}
+
+module _ {S : Type 0} {G : Ghosts S} where
+  -- no byte came and none was sent, for the same source
+  pub record KeepsHistories (old new : Exchange S G) : Type 0 where
+    pub names : new.names ≡ old.names
+    pub came : new.came.bytes ≡ old.came.bytes
+    pub sent : new.sent.bytes ≡ old.sent.bytes

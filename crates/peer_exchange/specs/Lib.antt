@@ -1,0 +1,9 @@
+pub mod Answering
+pub mod AnsweringReady
+pub mod Asking
+pub mod ExchangeEnds
+pub mod ExchangeStates
+pub mod Histories
+pub mod Holdings
+pub mod Intakes
+pub mod Rests

@@ -1,0 +1,20 @@
+-- What would let an exchange go on.
+use Rattle.std.specs.Prelude.{false, ◌&&◌, not, ◌==◌, length}
+use Rattle.std.specs.VecDeque.{deque_len}
+use Rattle.peer_exchange.specs.ExchangeStates.{takes_bytes, unsent, has_much_output, is_full}
+use Rattle.peer_exchange.specs.declared.exchange_state.ExchangeState.{ExchangeState}
+use Rattle.peer_exchange.specs.declared.rest.Rest.{Rest}
+
+-- bytes, where they may come and it may ask; a fill, where a ticket waits and its reply may be put; that output is sent; and that the
+-- seat puts the job that is left with it, where the next request waits for that
+abbrev pub rest_of : {S : Type 0} → ExchangeState S → Rest
+rest_of e = record {
+  bytes = takes_bytes e && not (is_full e) && not e.waits_for_job;
+  fill = not (deque_len e.waiting == 0) && not (has_much_output e);
+  output = not (length (unsent e) == 0);
+  job = e.waits_for_job;
+}
+
+-- nothing would
+abbrev pub no_rest : Rest
+no_rest = record { bytes = false; fill = false; output = false; job = false }

@@ -1,0 +1,237 @@
+//! A connection as a state, without input or output: bytes come, replies go, and no call waits for the client.
+//!
+//! It stands on the state of an exchange and on two histories that only contracts see: the bytes that came and those that
+//! were sent. It promises, at every moment, that the bytes that were sent are a front of the replies to the bytes that
+//! came; and once it is over, which replies they are.
+ghost use Rattle.std.specs.Prelude.{[]};
+ghost use Rattle.peer_wish.specs.Allowed.{allows};
+ghost use Rattle.peer_exchange.specs.ExchangeStates.{Upholds};
+
+use crate::exchange_state::ExchangeState;
+use crate::history::History;
+use crate::intake::GivenUp;
+use crate::rest::Rest;
+use peer_fill::{ConnSeat, Pool};
+use peer_source::{FunctionalSource, Names, Source};
+use peer_wish::End;
+use std::alloc::Global;
+use std::sync::Wait;
+use std::sync::ledger::Ledger;
+
+/// A connection to the groups of a source.
+#[derive(Drop)]
+pub struct Exchange<'p, S: Source> {
+    names: Names<'p, S>,
+    pub(crate) state: ExchangeState<S>,
+    pub(crate) came: History,
+    pub(crate) sent: History,
+    ghost upholds: { ∥ Upholds (S.number_of names) (allows S.allowed) came.bytes sent.bytes [] state ∥₁ },
+}
+
+impl<'p, S: Source> Exchange<'p, S> {
+    ghost use Rattle.std.specs.Prelude.{◌≡◌, ◌≤◌, true, [], ◌++◌, length, min, take, IfErr, IfOk, OnErr, OnOk, Ok};
+    ghost use Rattle.peer_fill.specs.Pools.{source_of, IsConnSeatOf};
+    ghost use Rattle.peer_fill.specs.Seats.{asks_of, conn_parts, left_of};
+    ghost use Rattle.peer_wish.specs.Allowed.{allows};
+    ghost use Rattle.peer_exchange.specs.AnsweringReady.{AnswersReady, IsAnsweredThrough};
+    ghost use Rattle.peer_exchange.specs.Asking.{AddsTickets, IsJudgedThrough};
+    ghost use Rattle.peer_exchange.specs.ExchangeEnds.{IsEnd};
+    ghost use Rattle.peer_exchange.specs.ExchangeStates.{AreSent, HoldsLittle, is_over, lent, room_of, takes_bytes, unsent};
+    ghost use Rattle.peer_outbox.specs.Outboxes.{IsFrontOf};
+    ghost use Rattle.peer_exchange.specs.Histories.{KeepsHistories};
+    ghost use Rattle.peer_exchange.specs.Holdings.{Holds};
+    ghost use Rattle.peer_exchange.specs.Intakes.{IsGivenUpFor, is_given_up, told};
+    ghost use Rattle.peer_exchange.specs.Rests.{no_rest, rest_of};
+
+    /// No byte came, and none was sent. It takes no memory yet.
+    pub fn new(alloc: Global, names: Names<'p, S>) -> Exchange<'p, S>
+        ensures names { result.names ≡ names.entry }
+        ensures came { result.came.bytes ≡ [] }
+        ensures sent { result.sent.bytes ≡ [] }
+        ensures window { result.state.window.tickets ≡ 1 }
+    {
+        Exchange {
+            names,
+            state: ExchangeState::new(alloc),
+            came: History::none(),
+            sent: History::none(),
+        }
+    }
+
+    /// The law: what was sent is a front of all replies to what came, each once, in request order, and nothing behind a
+    /// closing one. And the exchange holds little: one head, 64 tickets, and less than 64 KiB of replies and one reply.
+    pub fn law(&self)
+        ensures sent { ∥ AreSent (S.number_of self.now.names) (allows S.allowed) self.now.came.bytes self.now.sent.bytes ∥₁ }
+        ensures little { ∥ HoldsLittle (S.number_of self.now.names) (allows S.allowed) self.now.came.bytes self.now.sent.bytes
+            self.now.state ∥₁ }
+    {
+        self.state.law(&self.names);
+    }
+
+    /// Whether bytes may come: the client's end did not, nor a request that closes, and it was not given up.
+    pub fn takes_bytes(&self) -> bool
+        ensures { result ≡ takes_bytes self.now.state }
+    {
+        self.state.takes_bytes()
+    }
+
+    /// How many bytes have room: those of one head, less what is held.
+    pub fn room(&self) -> usize
+        ensures { result ≡ room_of self.now.state }
+    {
+        self.state.room()
+    }
+
+    /// As many of the bytes come as there is room for. How many. Where memory is refused none come, and it is given up.
+    pub fn receive(&mut self, bytes: &[u8]) -> Result<usize, GivenUp>
+        requires { takes_bytes self.old.state ≡ true }
+        ensures count { IfOk result (λ n. n ≡ min (length bytes.now) (room_of self.old.state)) }
+        ensures names { self.new.names ≡ self.old.names }
+        ensures came { IfOk result (λ n. self.new.came.bytes ≡ self.old.came.bytes ++ take n bytes.now) }
+        ensures none { OnErr result (self.new.came.bytes ≡ self.old.came.bytes) }
+        ensures sent { self.new.sent.bytes ≡ self.old.sent.bytes }
+        ensures goes_on { OnOk result (takes_bytes self.new.state ≡ true) }
+        ensures given_up { IfErr result (IsGivenUpFor self.new.state.intake.stage) }
+        ensures window { self.new.state.window.tickets ≡ self.old.state.window.tickets }
+    {
+        let n = self.state.receive(bytes)?;
+        let came = self.came.and(&bytes[..n]);
+        self.came = came;
+        Ok(n)
+    }
+
+    /// The client told its end.
+    pub fn end(&mut self)
+        ensures histories { KeepsHistories self.old self.new }
+        ensures told { self.new.state.intake.stage ≡ told self.old.state.intake.stage }
+        ensures waiting { self.new.state.waiting.items ≡ self.old.state.waiting.items }
+        ensures unsent { unsent self.new.state ≡ unsent self.old.state }
+        ensures window { self.new.state.window.tickets ≡ self.old.state.window.tickets }
+    {
+        self.state.end();
+    }
+
+    /// The first bytes that are to be sent: some, where there are any. Short replies lie together, and a long value is lent
+    /// from where its fill has it.
+    pub fn output(&self) -> &[u8]
+        ensures lent { result.now ≡ lent self.now.state }
+        ensures front { IsFrontOf (lent self.now.state) (unsent self.now.state) }
+    {
+        self.state.output()
+    }
+
+    /// The first `n` bytes of the output were sent.
+    pub fn sent(&mut self, n: usize)
+        requires { n ≤ length (lent self.old.state) }
+        ensures names { self.new.names ≡ self.old.names }
+        ensures came { self.new.came.bytes ≡ self.old.came.bytes }
+        ensures sent { self.new.sent.bytes ≡ self.old.sent.bytes ++ take n (unsent self.old.state) }
+        ensures stage { self.new.state.intake.stage ≡ self.old.state.intake.stage }
+        ensures waiting { self.new.state.waiting.items ≡ self.old.state.waiting.items }
+        ensures window { self.new.state.window.tickets ≡ self.old.state.window.tickets }
+    {
+        let sent = self.sent.and(&self.state.output()[..n]);
+        self.state.sent(n);
+        self.sent = sent;
+    }
+
+    /// Judges what is held, and asks the pool, as far as few tickets and few unsent bytes wait and the seat can ask.
+    /// What would let it go on. It never waits.
+    pub fn ask_held<L: Ledger, H: Wait>(
+        &mut self,
+        rt: &H,
+        pool: &Pool<S, L>,
+        seat: &mut ConnSeat<S, L>,
+    ) -> Result<Rest, GivenUp>
+        requires seat { IsConnSeatOf pool.now seat.old }
+        requires names { self.old.names ≡ source_of pool.now }
+        ensures seat { IsConnSeatOf pool.now seat.new }
+        ensures parts { conn_parts seat.new ≡ conn_parts seat.old }
+        ensures histories { KeepsHistories self.old self.new }
+        ensures tickets { AddsTickets self.old.state self.new.state (asks_of seat.old) (asks_of seat.new) result }
+        ensures through { OnOk result (IsJudgedThrough self.new.state (left_of seat.new)) }
+        ensures rest { IfOk result (λ rest. rest ≡ rest_of self.new.state) }
+        ensures over { result ≡ Ok no_rest → is_over self.new.state ≡ true }
+        ensures goes_on { OnOk result (is_given_up self.new.state.intake.stage ≡ is_given_up self.old.state.intake.stage) }
+        ensures given_up { IfErr result (IsGivenUpFor self.new.state.intake.stage) }
+        ensures window { self.new.state.window.tickets ≡ self.old.state.window.tickets }
+    {
+        match self.state.ask_held(rt, pool, seat, &self.names) {
+            Ok(()) => Ok(self.state.rest()),
+            Err(why) => Err(why),
+        }
+    }
+
+    /// Puts the replies of the first tickets, as far as their fills are there and few bytes wait to be sent.
+    pub fn answer_ready<L: Ledger>(
+        &mut self,
+        pool: &Pool<S, L>,
+        seat: &mut ConnSeat<S, L>,
+    ) -> Result<(), GivenUp>
+        requires { IsConnSeatOf pool.now seat.old }
+        ensures seat { IsConnSeatOf pool.now seat.new }
+        ensures parts { conn_parts seat.new ≡ conn_parts seat.old }
+        ensures histories { KeepsHistories self.old self.new }
+        ensures answers { AnswersReady self.old.state self.new.state (asks_of seat.old) (asks_of seat.new) result }
+        ensures through { OnOk result (IsAnsweredThrough self.new.state) }
+        ensures stage { OnOk result (self.new.state.intake.stage ≡ self.old.state.intake.stage) }
+        ensures given_up { IfErr result (IsGivenUpFor self.new.state.intake.stage) }
+    {
+        self.state.answer_ready(pool, seat)
+    }
+
+    /// What would let it go on, once what it holds was judged by `ask_held`.
+    pub fn rest(&self) -> Rest
+        ensures { result ≡ rest_of self.now.state }
+    {
+        self.state.rest()
+    }
+
+    /// The number of the flight that the first ticket waits for, none where no ticket waits or its fill is there.
+    pub fn awaits(&self) -> Option<u64> {
+        self.state.awaits()
+    }
+
+    /// How many bytes it holds for the client: those that are to be sent, and those of the values and texts that came for
+    /// the tickets that wait.
+    pub fn held(&self) -> usize
+        ensures { Holds (unsent self.now.state) self.now.state.waiting.items result }
+    {
+        self.state.held()
+    }
+
+    /// Whether no more bytes come or are to be sent, and no ticket waits.
+    pub fn is_over(&self) -> bool
+        ensures { result ≡ is_over self.now.state }
+    {
+        self.state.is_over()
+    }
+
+    /// How it ended, none where it is not over. `Clean`: all of what came was answered. `Cut`: all whole heads were, and
+    /// the client's end came inside another. `Memory` and `Worn`: it was given up behind whole replies to the first requests.
+    pub fn ended(&self) -> Option<End>
+        ensures { ∥ IsEnd (S.number_of self.now.names) (allows S.allowed) self.now.came.bytes self.now.sent.bytes self.now.state result ∥₁ }
+    {
+        self.state.ended()
+    }
+}
+
+impl<'p, S: FunctionalSource> Exchange<'p, S> {
+    ghost use Rattle.peer_wish.specs.Allowed.{only};
+    ghost use Rattle.peer_exchange.specs.ExchangeEnds.{IsEnd};
+    ghost use Rattle.peer_exchange.specs.ExchangeStates.{AreSent};
+
+    /// The law, where each group and key has one answer: there is one list of replies.
+    pub fn law_functional(&self)
+        ensures { ∥ AreSent S.the_number (only S.the_answer) self.now.came.bytes self.now.sent.bytes ∥₁ }
+    {
+        self.state.law_functional();
+    }
+
+    /// How it ended, where each group and key has one answer.
+    pub fn ended_functional(&self) -> Option<End>
+        ensures { ∥ IsEnd S.the_number (only S.the_answer) self.now.came.bytes self.now.sent.bytes self.now.state result ∥₁ }
+    {
+        self.state.ended_functional()
+    }
+}

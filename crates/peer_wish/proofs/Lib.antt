@@ -1,0 +1,6 @@
+pub mod KnownLemmas
+pub mod ReplyLemmas
+pub mod TextLemmas
+pub mod TicketLemmas
+pub mod WholeLemmas
+pub mod WishLemmas

@@ -1,0 +1,10 @@
+pub mod Allowed
+pub mod AllReplies
+pub mod Known
+pub mod Laws
+pub mod LentWishes
+pub mod Nexts
+pub mod Replies
+pub mod Strangers
+pub mod Tickets
+pub mod Wishes
