@@ -11,7 +11,6 @@ use crate::limits::READS;
 use peer_conn::{End, Served, serve_connection};
 use peer_fill::{ConnSeat, Pool};
 use peer_source::Source;
-use peer_view::{PeerRead, PeerWrite};
 use std::alloc::Global;
 use std::sync::Wait;
 use std::sync::ledger::Ledger;
@@ -21,30 +20,6 @@ use std::time::Clock;
 // Whether a closing reply was written: it is what ended the connection, and not the client.
 fn is_closed_by_reply<H: Clock>(served: &Served<ClientReader<'_, H>, ClientWriter<'_, H>>) -> bool {
     served.end == End::Clean && !served.reader.has_ended()
-}
-
-// `serve_connection`, of whose promises a server needs those on the seat alone.
-fn serve<
-    S: Source,
-    L: Ledger + Send + Sync,
-    R: PeerRead + Send + Drop,
-    W: PeerWrite + Drop,
-    H: Threads + Wait + Sync,
->(
-    rt: &H,
-    alloc: Global,
-    pool: &Pool<S, L>,
-    seat: ConnSeat<S, L>,
-    reader: R,
-    writer: W,
-) -> (Served<R, W>, ConnSeat<S, L>)
-    requires seat { IsConnSeatOf pool.now seat }
-    requires calls { R.calls reader ≡ 0 }
-    requires failures { W.failures writer ≡ 0 }
-    ensures seat { IsConnSeatOf pool.now result.1 }
-    ensures parts { conn_parts result.1 ≡ conn_parts seat }
-{
-    serve_connection(rt, alloc, pool, seat, reader, writer, READS)
 }
 
 /// Serves a client until its connection ends. The stream can be closed then.
@@ -61,7 +36,7 @@ pub fn serve_client<S: Source, L: Ledger + Send + Sync, H: Threads + Wait + Cloc
 {
     let reader = ClientReader::new(client);
     let writer = ClientWriter::new(client);
-    let (served, seat) = serve(rt, alloc, pool, seat, reader, writer);
+    let (served, seat) = serve_connection(rt, alloc, pool, seat, reader, writer, READS);
     if is_closed_by_reply(&served) {
         linger(client);
     }
