@@ -9,7 +9,8 @@ use Rattle.peer_flight.specs.declared.table.Ask.TheVariants.{Led, Joined}
 pub joined_place : {S : Type 0} (ask : Ask S) (s s' : State) (p : Place) (f : FlightId) → ask ≡ Joined f → Gives ask s s' p → f.place ≡ p
 joined_place ask s s' p f is gives = (subst (λ (x : Ask _). Gives x s s' p) is gives).1
 
-pub led_place : {S : Type 0} (ask : Ask S) (s s' : State) (p : Place) (f right : FlightId) → ask ≡ Led f right → Gives ask s s' p → f.place ≡ p
+pub led_place : {S : Type 0} (ask : Ask S) (s s' : State) (p : Place) (f right : FlightId) → ask ≡ Led f right
+    → Gives ask s s' p → f.place ≡ p
 led_place ask s s' p f right is gives = (subst (λ (x : Ask _). Gives x s s' p) is gives).1
 
 pub led_key : {S : Type 0} (ask : Ask S) (s s' : State) (p : Place) (f right : FlightId) → ask ≡ Led f right → Gives ask s s' p

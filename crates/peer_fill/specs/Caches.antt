@@ -1,8 +1,8 @@
 -- What a pool's caches keep, and what they give.
-use Rattle.std.specs.Prelude.{◌≡◌, ℕ, List, slice_get}
+use Rattle.std.specs.Prelude.{◌≡◌, ℕ, List, slice_get, Option, None, Some}
 use Rattle.std.specs.Option.{ForSome}
 use Rattle.peer_source.specs.Answers.{Filled}
-use Rattle.peer_source.specs.Caches.{Cache, found_fill}
+use Rattle.peer_source.specs.Caches.{Cache, found_fill, fill_of}
 
 -- the cache in each place is that of the group with this number
 abbrev pub EachInPlace : List Cache → Type 0
@@ -11,3 +11,12 @@ EachInPlace caches = (i : ℕ) → ForSome (slice_get caches i) (λ c. c.group �
 -- it is the fill of a value that was found for this group and key
 abbrev pub IsFoundFor : ℕ → List ℕ → Filled → Type 0
 IsFoundFor group key fill = (value : List ℕ) × (fill ≡ found_fill group key value)
+
+-- the fill of the value that a cache keeps for the key, where there is a cache
+abbrev pub fill_in : List ℕ → Option Cache → Option Filled
+fill_in key None = None
+fill_in key (Some c) = fill_of key c
+
+-- the fill of the value that these caches keep for the group and the key
+abbrev pub kept_fill : List Cache → ℕ → List ℕ → Option Filled
+kept_fill caches group key = fill_in key (slice_get caches group)

@@ -1,20 +1,46 @@
--- The rule of the job queue: what each pass pushed and popped, by the numbers of the flights.
-use Rattle.std.specs.Prelude.{◌≡◌, ℕ, ◌+◌, List, [], ◌∷◌, ◌++◌, Option, None, Some}
+-- The rule of the job queue, first in, first out: what each pass pushed and popped, by the flights and their ranks.
+use Rattle.std.specs.Prelude.{◌≡◌, ℕ, ◌+◌, ◌<◌, List, [], ◌∷◌, ◌++◌, All, slice_get, Option, None, Some}
 use mathlib.Core.Option.{some}
 use lib.ListN.{get_elem?}
 use Rattle.peer_fill.specs.declared.jobs.Hand.{Hand}
+use Rattle.peer_fill.specs.declared.jobs.Ranked.{Ranked}
+
+-- a flight, and its rank: how many jobs were pushed before its own
+abbrev pub ranked_at : ℕ → ℕ → Ranked
+ranked_at rank number = record { rank = rank; number = number }
+
+-- these flights in this order, with ranks from n on
+abbrev pub ranked : ℕ → List ℕ → List Ranked
+ranked n [] = []
+ranked n (x ∷ xs) = ranked_at n x ∷ ranked (n + 1) xs
+
+-- each has a higher rank than those before it
+abbrev pub Rises : List Ranked → Type 0
+Rises xs = (i j : ℕ) (x y : Ranked) → slice_get xs i ≡ Some x → slice_get xs j ≡ Some y → i < j → x.rank < y.rank
 
 -- what a pass has: its parts, and the flights that it pushed and popped
-abbrev pub hand : ℕ → List ℕ → List ℕ → Hand
+abbrev pub hand : ℕ → List Ranked → List Ranked → Hand
 hand parts pushed popped = record { parts = parts; pushed = pushed; popped = popped }
 
 -- the same once it has pushed a flight
-abbrev pub pushed_by : Hand → ℕ → Hand
-pushed_by v number = hand v.parts (v.pushed ++ number ∷ []) v.popped
+abbrev pub pushed_by : Hand → Ranked → Hand
+pushed_by v one = hand v.parts (v.pushed ++ one ∷ []) v.popped
 
 -- the same once it has popped a flight
-abbrev pub popped_by : Hand → ℕ → Hand
-popped_by v number = hand v.parts v.pushed (v.popped ++ number ∷ [])
+abbrev pub popped_by : Hand → Ranked → Hand
+popped_by v one = hand v.parts v.pushed (v.popped ++ one ∷ [])
+
+-- it pushed this flight, whose rank is above those of all that it pushed before
+pub record Pushed (v : Hand) (number : ℕ) (w : Hand) : Type 0 where
+  pub rank : ℕ
+  pub above : All (λ x. x.rank < rank) v.pushed
+  pub new : w ≡ pushed_by v (ranked_at rank number)
+
+-- it popped this flight, whose rank is above those of all that it popped before
+pub record Popped (v : Hand) (number : ℕ) (w : Hand) : Type 0 where
+  pub rank : ℕ
+  pub above : All (λ x. x.rank < rank) v.popped
+  pub new : w ≡ popped_by v (ranked_at rank number)
 
 -- 1 where a job is left that was not pushed
 abbrev pub left_count : Option ℕ → ℕ
@@ -22,7 +48,7 @@ left_count None = 0
 left_count (Some number) = 1
 
 -- the weights of the flights, added up
-abbrev pub weigh : (ℕ → ℕ) → List ℕ → ℕ
+abbrev pub weigh : (Ranked → ℕ) → List Ranked → ℕ
 weigh h [] = 0
 weigh h (x ∷ xs) = h x + weigh h xs
 
@@ -39,8 +65,16 @@ ALL = 32
 abbrev pub IdleIsEmpty : List Hand → Type 0
 IdleIsEmpty views = (port : ℕ) (v : Hand) → get_elem? views port ≡ some v → v.parts ≡ 0 → (v.pushed ≡ []) × (v.popped ≡ [])
 
--- what was pushed is what was popped and what is queued, however the flights are weighed
-pub record Balanced (items : List ℕ) (views : List Hand) : Type 0 where
+-- first in, first out: of one order of all that was pushed the front was popped, and the rest is queued, however they are weighed
+pub record FirstInFirstOut (items : List ℕ) (views : List Hand) : Type 0 where
   pub parts : total (λ v. v.parts) views ≡ ALL
-  pub weighs : (h : ℕ → ℕ) → total (λ v. weigh h v.pushed) views ≡ total (λ v. weigh h v.popped) views + weigh h items
+  pub front : List ℕ
+  pub pushed : (h : Ranked → ℕ) → total (λ v. weigh h v.pushed) views ≡ weigh h (ranked 0 (front ++ items))
+  pub popped : (h : Ranked → ℕ) → total (λ v. weigh h v.popped) views ≡ weigh h (ranked 0 front)
   pub idle : IdleIsEmpty views
+
+-- the same of a pass that has pushed and popped all
+pub record HasInOrder (items : List ℕ) (v : Hand) : Type 0 where
+  pub front : List ℕ
+  pub pushed : (h : Ranked → ℕ) → weigh h v.pushed ≡ weigh h (ranked 0 (front ++ items))
+  pub popped : (h : Ranked → ℕ) → weigh h v.popped ≡ weigh h (ranked 0 front)

@@ -2,8 +2,10 @@
 use Rattle.std.specs.Prelude.{◌≡◌, ℕ, List, Option, sum_by}
 use Rattle.peer_source.specs.declared.source.Source as Source
 use Rattle.std.specs.declared.sync.ledger.Ledger as Ledger
+use Rattle.crossbeam_queue.specs.Passes.{view}
 use Rattle.peer_fill.specs.declared.counts.AskCounts.{AskCounts}
 use Rattle.peer_fill.specs.declared.counts.FillCounts.{FillCounts}
+use Rattle.peer_fill.specs.declared.jobs.Ranked.{Ranked}
 use Rattle.peer_fill.specs.declared.seats.ConnSeat.{ConnSeat}
 use Rattle.peer_fill.specs.declared.seats.FillSeat.{FillSeat}
 
@@ -15,6 +17,10 @@ module _ {S L : Type 0} {g : Source.Ghosts S} where
   -- the seat's parts of the pool
   abbrev pub conn_parts : ConnSeat S L g → ℕ
   conn_parts seat = seat.parts
+
+  -- the flights whose jobs it pushed
+  abbrev pub pushed_of : ConnSeat S L g → List Ranked
+  pushed_of seat = (view seat.pass).pushed
 
   -- the number of the flight whose job is left with the seat
   abbrev pub left_of : ConnSeat S L g → Option ℕ
@@ -40,6 +46,10 @@ module _ {S L : Type 0} {g : Source.Ghosts S} {h : Ledger.Ghosts L} where
   -- the seat's parts of the pool
   abbrev pub fill_parts : FillSeat S L g h → ℕ
   fill_parts seat = seat.parts
+
+  -- the flights whose jobs it popped
+  abbrev pub popped_of : FillSeat S L g h → List Ranked
+  popped_of seat = (view seat.pass).popped
 
   -- these are all seats of the workers: they have all 16 parts
   abbrev pub HaveAllFills : List (FillSeat S L g h) → Type 0

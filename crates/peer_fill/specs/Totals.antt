@@ -1,13 +1,15 @@
 -- What seats counted, added up.
-use Rattle.std.specs.Prelude.{◌≡◌, List, sum_by}
+use Rattle.std.specs.Prelude.{◌≡◌, ℕ, List, sum_by}
 use Rattle.peer_source.specs.declared.source.Source as Source
 use Rattle.std.specs.declared.sync.ledger.Ledger as Ledger
 use Rattle.peer_fill.specs.declared.counts.AskCounts.{AskCounts}
 use Rattle.peer_fill.specs.declared.counts.FillCounts.{FillCounts}
 use Rattle.peer_fill.specs.declared.close.Report.{Report}
+use Rattle.peer_fill.specs.declared.jobs.Ranked.{Ranked}
 use Rattle.peer_fill.specs.declared.seats.ConnSeat.{ConnSeat}
 use Rattle.peer_fill.specs.declared.seats.FillSeat.{FillSeat}
-use Rattle.peer_fill.specs.Seats.{asks_of, fills_of}
+use Rattle.peer_fill.specs.Jobs.{weigh}
+use Rattle.peer_fill.specs.Seats.{asks_of, fills_of, pushed_of, popped_of}
 
 module _ {S L : Type 0} {g : Source.Ghosts S} where
   -- the asks of these seats, added up
@@ -18,11 +20,19 @@ module _ {S L : Type 0} {g : Source.Ghosts S} where
     pub joined : sum.joined ≡ sum_by (λ s. (asks_of s).joined) seats
     pub strangers : sum.strangers ≡ sum_by (λ s. (asks_of s).strangers) seats
 
+  -- these are the flights whose jobs these seats pushed, however they are weighed
+  abbrev pub ArePushedBy : List (ConnSeat S L g) → List Ranked → Type 0
+  ArePushedBy seats all = (w : Ranked → ℕ) → weigh w all ≡ sum_by (λ s. weigh w (pushed_of s)) seats
+
 module _ {S L : Type 0} {g : Source.Ghosts S} {h : Ledger.Ghosts L} where
   -- the jobs of these seats, added up
   pub record IsTotalOfFills (seats : List (FillSeat S L g h)) (sum : FillCounts) : Type 0 where
     pub calls : sum.calls ≡ sum_by (λ s. (fills_of s).calls) seats
     pub rehits : sum.rehits ≡ sum_by (λ s. (fills_of s).rehits) seats
+
+  -- these are the flights whose jobs these seats popped, however they are weighed
+  abbrev pub ArePoppedBy : List (FillSeat S L g h) → List Ranked → Type 0
+  ArePoppedBy seats all = (w : Ranked → ℕ) → weigh w all ≡ sum_by (λ s. weigh w (popped_of s)) seats
 
 -- the report tells these counts
 pub record Reports (report : Report) (asks : AskCounts) (fills : FillCounts) : Type 0 where

@@ -1,13 +1,14 @@
 //! What connections do with a pool: they ask, wait for fills, and make up for the fills of strangers.
-ghost use Rattle.std.specs.Prelude.{◌≡◌, ◌+◌, ◌<◌, ◌^◌, ◌↔◌, Err, None, Ok, Some, IfNone, IfOk, IfSome, IsSome, IsTrue};
-ghost use Rattle.std.specs.Prelude.{MatchOption, OnErr, OnOk};
+ghost use Rattle.std.specs.Prelude.{◌≡◌, ◌+◌, ◌<◌, ◌^◌, ◌↔◌, Err, None, Ok, Some, IfNone, IfOk};
+ghost use Rattle.std.specs.Prelude.{IfSome, IsSome, IsTrue, MatchOption, OnErr, OnOk, option_map};
 ghost use Rattle.crossbeam_queue.specs.Passes.{view, IsPassOf};
 ghost use Rattle.peer_flight.specs.Claims.{claim_place, Looked};
 ghost use Rattle.peer_flight.specs.SingleFlight.{place_of};
 ghost use Rattle.peer_fill.specs.Asks.{CountsAsk, IsFoundIfReady};
-ghost use Rattle.peer_fill.specs.Jobs.{pushed_by};
+ghost use Rattle.peer_fill.specs.Jobs.{Pushed};
 ghost use Rattle.peer_fill.specs.Seats.{asks_of, conn_parts, left_of, IsUnchanged};
 
+use crate::caches::Caches;
 use crate::jobs::{Hand, Job, Push};
 use crate::pool::Pool;
 use crate::seats::{ConnSeat, MAX_COUNT};
@@ -20,6 +21,37 @@ use std::alloc::{AllocError, Global};
 use std::sync::Wait;
 use std::sync::ledger::Ledger;
 
+impl<S: Source, L: Ledger> ConnSeat<S, L> {
+    ghost use Rattle.peer_fill.specs.Caches.{kept_fill};
+    ghost use Rattle.peer_fill.specs.Seats.{IsSameConn};
+    ghost use Rattle.peer_flight.specs.declared.claim.Claim.TheVariants.{Ready};
+
+    // A claim on the value that these caches keep for the group and the key, where they keep one.
+    fn hit(
+        &mut self,
+        caches: &mut Caches<S>,
+        group: GroupId,
+        key: &[u8],
+    ) -> Result<Option<Claim<S>>, AllocError>
+        requires most { (asks_of self.old).asked < 2 ^ 56 }
+        ensures own { IfOk result (λ found. found ≡ option_map Ready (kept_fill caches.old.each.items group.number key.now)) }
+        ensures place { IfOk result (λ found. IfSome found (λ claim. claim_place claim ≡ place_of group.number key.now)) }
+        ensures found { IfOk result (λ found. IfSome found IsFoundIfReady) }
+        ensures counted { IfOk result (λ found. IfSome found (λ claim. CountsAsk claim (asks_of self.old) (asks_of self.new))) }
+        ensures none { IfOk result (λ found. IfNone found (asks_of self.new ≡ asks_of self.old)) }
+        ensures refused { OnErr result (asks_of self.new ≡ asks_of self.old) }
+        ensures seat { IsSameConn self.old self.new }
+        ensures left { left_of self.new ≡ left_of self.old }
+    {
+        let found = caches.get(group, key)?;
+        let Some(fill) = found else {
+            return Ok(None);
+        };
+        self.count_hit();
+        Ok(Some(Claim::Ready(fill)))
+    }
+}
+
 impl<S: Source, L: Ledger> Pool<S, L> {
     ghost use Rattle.peer_fill.specs.Pools.{source_of, IsConnSeatOf};
 
@@ -28,7 +60,7 @@ impl<S: Source, L: Ledger> Pool<S, L> {
         requires pass { IsPassOf self.now.jobs pass.old }
         requires part { 0 < (view pass.old).parts }
         ensures pass { IsPassOf self.now.jobs pass.new }
-        ensures pushed { MatchOption result (view pass.new ≡ pushed_by (view pass.old) job)
+        ensures pushed { MatchOption result (Pushed (view pass.old) job (view pass.new))
             (λ back. (back ≡ job) × (view pass.new ≡ view pass.old)) }
     {
         match self.jobs.push_as::<Push, R>(rt, pass, job) {
@@ -81,8 +113,11 @@ impl<S: Source, L: Ledger> Pool<S, L> {
         unreachable!()
     }
 
-    // A claim on the value that the group's cache keeps for the key, where it keeps one and the seat may ask.
-    fn hit<R: Wait>(
+    /// The first half of `ask`: a claim on the value that the group's cache keeps for the key, where it keeps one. `want`
+    /// is the other half, and other threads may fill the key between the two.
+    ///
+    /// `Worn`: the seat has asked 2^56 times. `Memory`: memory was refused.
+    pub fn hit<R: Wait>(
         &self,
         rt: &R,
         seat: &mut ConnSeat<S, L>,
@@ -104,12 +139,8 @@ impl<S: Source, L: Ledger> Pool<S, L> {
         if seat.asks.asked >= MAX_COUNT {
             return Err(AskFault::Worn);
         }
-        let found = lock(rt, &self.caches).get(group, key)?;
-        let Some(fill) = found else {
-            return Ok(None);
-        };
-        seat.count_hit();
-        Ok(Some(Claim::Ready(fill)))
+        let found = seat.hit(&mut lock(rt, &self.caches), group, key)?;
+        Ok(found)
     }
 
     // Joins the open flight of the group and the key, or leads one, whose job is left with the seat where the queue is
@@ -175,6 +206,33 @@ impl<S: Source, L: Ledger> Pool<S, L> {
         Ok(Some(Claim::Pending(flight)))
     }
 
+    /// The second half of `ask`: a claim on the open flight of this group and key, which is joined, or led where there is
+    /// none. It waits while the queue of jobs is full.
+    ///
+    /// `Worn`: the table refuses. `Memory`: memory was refused.
+    pub fn want<R: Wait>(
+        &self,
+        rt: &R,
+        alloc: Global,
+        seat: &mut ConnSeat<S, L>,
+        group: GroupId,
+        key: ByteView,
+    ) -> Result<Claim<S>, AskFault>
+        requires seat { IsConnSeatOf self.now seat.old }
+        requires most { (asks_of seat.old).asked < 2 ^ 56 }
+        ensures seat { IsConnSeatOf self.now seat.new }
+        ensures parts { conn_parts seat.new ≡ conn_parts seat.old }
+        ensures place { IfOk result (λ claim. claim_place claim ≡ place_of group.number key) }
+        ensures found { IfOk result IsFoundIfReady }
+        ensures counted { IfOk result (λ claim. CountsAsk claim (asks_of seat.old) (asks_of seat.new)) }
+        ensures refused { OnErr result (asks_of seat.new ≡ asks_of seat.old) }
+    {
+        self.put_all(rt, seat);
+        let claim = self.join_or_lead(rt, alloc, seat, group, key)?;
+        self.put_all(rt, seat);
+        Ok(claim)
+    }
+
     /// A claim on the fill of this group and key: it is there where the group's cache keeps a value for the key, and
     /// else their open flight is joined, or one is led. It waits while the queue of jobs is full.
     ///
@@ -201,10 +259,7 @@ impl<S: Source, L: Ledger> Pool<S, L> {
         if let Some(claim) = found {
             return Ok(claim);
         }
-        self.put_all(rt, seat);
-        let claim = self.join_or_lead(rt, alloc, seat, group, key)?;
-        self.put_all(rt, seat);
-        Ok(claim)
+        self.want(rt, alloc, seat, group, key)
     }
 
     /// As `ask`, but it never waits for room in the queue of jobs: where that is full, the job of a flight that was led is

@@ -1,7 +1,7 @@
 //! The main caches of a pool as it locks them: one for each group of its source.
 ghost use Rattle.std.specs.Prelude.{◌≡◌, ◌-◌, ◌^◌, IfOk, IfSome, min, sum_by};
 ghost use Rattle.peer_source.specs.Caches.{bytes_in};
-ghost use Rattle.peer_fill.specs.Caches.{IsFoundFor, EachInPlace};
+ghost use Rattle.peer_fill.specs.Caches.{IsFoundFor, EachInPlace, kept_fill};
 
 use peer_source::{Evicted, Fill, GroupId, MainCache, Source};
 use std::alloc::{AllocError, Global};
@@ -31,7 +31,8 @@ impl<S: Source> Caches<S> {
 
     /// The fill of the value that is kept for the group and the key. A group without a cache has none.
     pub fn get(&mut self, group: GroupId, key: &[u8]) -> Result<Option<Fill<S>>, AllocError>
-        ensures { IfOk result (λ found. IfSome found (IsFoundFor group.number key.now)) }
+        ensures own { IfOk result (λ found. found ≡ kept_fill self.old.each.items group.number key.now) }
+        ensures found { IfOk result (λ found. IfSome found (IsFoundFor group.number key.now)) }
     {
         let Some(cache) = self.each.get_mut(group.number) else {
             return Ok(None);

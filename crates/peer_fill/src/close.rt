@@ -1,15 +1,14 @@
 //! How a pool ends: its seats are taken in, and what they counted is added up.
-ghost use Rattle.std.specs.Prelude.{◌≡◌, ℕ, ◌+◌, All, sum_by};
-ghost use Rattle.crossbeam_queue.specs.Passes.{IsPassOf};
-ghost use Rattle.peer_flight.specs.Tables.{state_of};
+ghost use Rattle.std.specs.Prelude.{◌≡◌, ℕ, ◌+◌, [], All, sum_by};
+ghost use Rattle.crossbeam_queue.specs.Passes.{view, IsPassOf};
 ghost use Rattle.peer_fill.specs.Counts.{no_fills};
 ghost use Rattle.peer_fill.specs.Seats.{asks_of, fills_of, HaveAllConns, HaveAllFills};
-ghost use Rattle.peer_fill.specs.Totals.{IsTotalOfConns, IsTotalOfFills, Reports};
+ghost use Rattle.peer_fill.specs.Totals.{ArePushedBy, ArePoppedBy, IsTotalOfConns, IsTotalOfFills};
 
+use crate::closed::Closed;
 use crate::jobs::{Jobs, Whole};
 use crate::pool::Pool;
 use crate::seats::{ConnSeat, FillSeat};
-use crate::table::{Counted, HasSixteenParts};
 use crate::totals::Totals;
 use peer_source::Source;
 use std::sync::Wait;
@@ -52,6 +51,8 @@ pub(crate) fn gather_conns<S: Source, L: Ledger>(
     ensures fill_parts { result.fill_parts ≡ 0 }
     ensures asks { IsTotalOfConns conns.items result.asks }
     ensures fills { result.fills ≡ no_fills }
+    ensures pushed { ArePushedBy conns.items (view result.pass).pushed }
+    ensures popped { (view result.pass).popped ≡ [] }
 {
     let Some(first) = conns.pop() else {
         unreachable!();
@@ -70,6 +71,7 @@ pub(crate) fn gather_fills<S: Source, L: Ledger>(
     mut fills: Vec<FillSeat<S, L>>,
 ) -> Totals<S, L>
     requires none { (totals.fill_parts ≡ 0) × (totals.fills ≡ no_fills) }
+    requires popped { (view totals.pass).popped ≡ [] }
     requires all { HaveAllFills fills.items }
     requires pass { IsPassOf jobs.now totals.pass × All (λ seat. IsPassOf jobs.now seat.pass) fills.items }
     ensures pass { IsPassOf jobs.now result.pass }
@@ -77,6 +79,8 @@ pub(crate) fn gather_fills<S: Source, L: Ledger>(
     ensures fill_parts { result.fill_parts ≡ 16 }
     ensures asks { result.asks ≡ totals.asks }
     ensures fills { IsTotalOfFills fills.items result.fills }
+    ensures pushed { (view result.pass).pushed ≡ (view totals.pass).pushed }
+    ensures popped { ArePoppedBy fills.items (view result.pass).popped }
 {
     while let Some(seat) = fills.pop() {
         totals = totals.add_fill(jobs, seat);
@@ -84,40 +88,44 @@ pub(crate) fn gather_fills<S: Source, L: Ledger>(
     totals
 }
 
-/// The report of a pool whose seats were all taken in.
-pub(crate) fn settle<S: Source, L: Ledger, R: Wait>(
-    rt: &R,
-    jobs: &Jobs<S>,
-    mut table: Counted<S, L>,
-    parts: &HasSixteenParts<L>,
-    totals: Totals<S, L>,
-) -> Report
-    requires all { (totals.conn_parts ≡ 16) × (totals.fill_parts ≡ 16) }
-    requires pass { IsPassOf jobs.now totals.pass }
-    ensures table { result.led ≡ (state_of table.table).number }
-    ensures asks { Reports result totals.asks totals.fills }
-    ensures asked { result.asked ≡ result.hits + result.led + result.joined }
-    ensures led { result.led ≡ result.calls + result.rehits + result.left }
-{
-    let Totals {
-        mut pass,
-        mut share,
-        conn_parts: _,
-        fill_parts: _,
-        asks,
-        fills,
-        left,
-    } = totals;
-    let queued = jobs.len_as::<Whole, R>(rt, &mut pass) as u64;
-    let led = table.count_led(parts, &mut share);
-    Report {
-        asked: asks.asked,
-        hits: asks.hits,
-        led,
-        joined: asks.joined,
-        strangers: asks.strangers,
-        calls: fills.calls,
-        rehits: fills.rehits,
-        left: left + queued,
+impl<S: Source, L: Ledger> Closed<S, L> {
+    ghost use Rattle.peer_fill.specs.Closes.{asks_in, fills_in, flights_in, LeavesJobs};
+    ghost use Rattle.peer_fill.specs.Totals.{Reports};
+
+    /// What its seats counted, and what is left of its jobs.
+    pub fn report<R: Wait>(self, rt: &R) -> Report
+        ensures led { result.led ≡ flights_in self }
+        ensures left { LeavesJobs self result.left }
+        ensures asks { Reports result (asks_in self) (fills_in self) }
+        ensures each_ask { result.asked ≡ result.hits + result.led + result.joined }
+        ensures each_flight { result.led ≡ result.calls + result.rehits + result.left }
+    {
+        let Closed {
+            jobs,
+            mut table,
+            sixteen,
+            totals,
+        } = self;
+        let Totals {
+            mut pass,
+            mut share,
+            conn_parts: _,
+            fill_parts: _,
+            asks,
+            fills,
+            left,
+        } = totals;
+        let queued = jobs.len_as::<Whole, R>(rt, &mut pass) as u64;
+        let led = table.count_led(&sixteen, &mut share);
+        Report {
+            asked: asks.asked,
+            hits: asks.hits,
+            led,
+            joined: asks.joined,
+            strangers: asks.strangers,
+            calls: fills.calls,
+            rehits: fills.rehits,
+            left: left + queued,
+        }
     }
 }

@@ -1,7 +1,7 @@
-//! The queue of jobs, and the rule by which no job is lost or made up.
+//! The queue of jobs, and the rule by which it is first in, first out, and no job is lost or made up.
 ghost use Rattle.std.specs.Prelude.{◌≡◌, ℕ, ◌+◌, ◌-◌, [], ◌++◌, ⊤, IfOk};
 ghost use Rattle.crossbeam_queue.specs.Passes.{view, IsPassOf, ruled_capacity};
-ghost use Rattle.peer_fill.specs.Jobs.{hand, pushed_by, popped_by, weigh, ALL, Balanced};
+ghost use Rattle.peer_fill.specs.Jobs.{hand, ALL, Pushed, Popped, FirstInFirstOut, HasInOrder};
 
 use crossbeam_queue::protocol::{Join, Lesson, Outcome, Protocol, Split};
 use crossbeam_queue::{Pass, RuledArrayQueue};
@@ -15,12 +15,17 @@ use std::marker::Model;
 // How many jobs the queue has room for.
 const MAX_JOBS: usize = 256;
 
-/// What a pass of the queue has pushed and popped, by the numbers of the flights, and its parts of the right to know
-/// the whole. No value of it is made.
+/// The number of a flight, and its rank: how many jobs were pushed before its own. No value of it is made.
+pub struct Ranked {
+    pub rank: u64,
+    pub number: u64,
+}
+
+/// What a pass of the queue has pushed and popped, and its parts of the right to know the whole. No value of it is made.
 pub struct Hand {
     pub parts: u64,
-    pub pushed: LinkedList<u64>,
-    pub popped: LinkedList<u64>,
+    pub pushed: LinkedList<Ranked>,
+    pub popped: LinkedList<Ranked>,
 }
 
 /// A flight that waits for a worker: its right, and its key. Contracts see its number.
@@ -38,14 +43,14 @@ impl<S: Source> Model for Job<S> {
     ghost invariant = { λ j. j.key ≡ j.right.place.key };
 }
 
-/// What was pushed is what was popped and what is queued.
+/// First in, first out: of all that was pushed, in this order, the front was popped, and the rest is queued.
 pub struct Fair;
 
 impl<S: Source> Protocol<Job<S>, Hand> for Fair {
     ghost use Rattle.std.specs.Prelude.{[]};
-    ghost use Rattle.peer_fill.specs.Jobs.{hand, ALL, Balanced};
+    ghost use Rattle.peer_fill.specs.Jobs.{hand, ALL, FirstInFirstOut};
 
-    ghost holds = { Balanced };
+    ghost holds = { FirstInFirstOut };
 
     ghost first = { hand ALL [] [] };
 }
@@ -54,7 +59,7 @@ impl<S: Source> Protocol<Job<S>, Hand> for Fair {
 pub struct Push;
 
 impl<S: Source> Outcome<Job<S>, Hand> for Push {
-    ghost then = { λ v x w. w ≡ pushed_by v x };
+    ghost then = { Pushed };
 }
 
 impl<S: Source> Lesson<Job<S>, Hand> for Push {
@@ -65,18 +70,18 @@ impl<S: Source> Lesson<Job<S>, Hand> for Push {
 pub struct Pop;
 
 impl<S: Source> Outcome<Job<S>, Hand> for Pop {
-    ghost then = { λ v x w. w ≡ popped_by v x };
+    ghost then = { Popped };
 }
 
 impl<S: Source> Lesson<Job<S>, Hand> for Pop {
     ghost fact = { λ v items. ⊤ };
 }
 
-/// A pass with all parts knows what is queued.
+/// A pass with all parts knows what is queued, and in which order all was pushed.
 pub struct Whole;
 
 impl<S: Source> Lesson<Job<S>, Hand> for Whole {
-    ghost fact = { λ v items. (h : ℕ → ℕ) → weigh h v.pushed ≡ weigh h v.popped + weigh h items };
+    ghost fact = { λ v items. HasInOrder items v };
 }
 
 /// The first pass is cut in two, one for each kind of seat.

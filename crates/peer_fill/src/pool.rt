@@ -5,7 +5,8 @@ ghost use Rattle.peer_fill.specs.Opens.{IsOutside, IsWithin};
 ghost use Rattle.peer_fill.specs.Seats.{asks_of, fills_of, HaveAllConns, HaveAllFills};
 
 use crate::caches::Caches;
-use crate::close::{CloseFault, Report, gather_conns, gather_fills, settle};
+use crate::close::{CloseFault, Report, gather_conns, gather_fills};
+use crate::closed::Closed;
 use crate::deal::{deal_conns, deal_fills};
 use crate::jobs::{Half, Jobs, empty_queue};
 use crate::open::{OpenFault, Opened, check_numbers};
@@ -36,8 +37,9 @@ pub struct Pool<S: Source, L: Ledger> {
 }
 
 impl<S: Source, L: Ledger> Pool<S, L> {
-    ghost use Rattle.peer_fill.specs.Closes.{HandsBack};
+    ghost use Rattle.peer_fill.specs.Closes.{asks_in, fills_in, pushed_in, popped_in, HandsBack};
     ghost use Rattle.peer_fill.specs.Pools.{source_of, IsConnSeatOf, IsFillSeatOf};
+    ghost use Rattle.peer_fill.specs.Totals.{ArePushedBy, ArePoppedBy, IsTotalOfConns, IsTotalOfFills};
 
     /// A pool with a seat for each worker and for each connection. The blank names the ledger of the flights that
     /// are led, in 16 parts. The cache of each group of the source keeps at most so many bytes; the seed
@@ -107,24 +109,18 @@ impl<S: Source, L: Ledger> Pool<S, L> {
     }
 
     /// Ends the pool, where all its seats are handed in: those of `open` have all parts, and no seat loses one.
-    pub fn close<R: Wait>(
+    pub fn end(
         self,
-        rt: &R,
         fills: Vec<FillSeat<S, L>>,
         conns: Vec<ConnSeat<S, L>>,
-    ) -> Result<Report, CloseFault<S, L>>
+    ) -> Result<Closed<S, L>, CloseFault<S, L>>
         requires fills { All (IsFillSeatOf self) fills.items }
         requires conns { All (IsConnSeatOf self) conns.items }
         ensures exactly { IsOk result ↔ (HaveAllFills fills.items × HaveAllConns conns.items) }
-        ensures asked { IfOk result (λ report. report.asked ≡ sum_by (λ s. (asks_of s).asked) conns.items) }
-        ensures hits { IfOk result (λ report. report.hits ≡ sum_by (λ s. (asks_of s).hits) conns.items) }
-        ensures led { IfOk result (λ report. report.led ≡ sum_by (λ s. (asks_of s).led) conns.items) }
-        ensures joined { IfOk result (λ report. report.joined ≡ sum_by (λ s. (asks_of s).joined) conns.items) }
-        ensures strangers { IfOk result (λ report. report.strangers ≡ sum_by (λ s. (asks_of s).strangers) conns.items) }
-        ensures calls { IfOk result (λ report. report.calls ≡ sum_by (λ s. (fills_of s).calls) fills.items) }
-        ensures rehits { IfOk result (λ report. report.rehits ≡ sum_by (λ s. (fills_of s).rehits) fills.items) }
-        ensures each_ask { IfOk result (λ report. report.asked ≡ report.hits + report.led + report.joined) }
-        ensures each_flight { IfOk result (λ report. report.led ≡ report.calls + report.rehits + report.left) }
+        ensures asks { IfOk result (λ closed. IsTotalOfConns conns.items (asks_in closed)) }
+        ensures fills { IfOk result (λ closed. IsTotalOfFills fills.items (fills_in closed)) }
+        ensures pushed { IfOk result (λ closed. ArePushedBy conns.items (pushed_in closed)) }
+        ensures popped { IfOk result (λ closed. ArePoppedBy fills.items (popped_in closed)) }
         ensures back { IfErr result (λ fault. HandsBack fault self fills conns) }
     {
         let all_fills = has_all_fills(&fills);
@@ -147,6 +143,38 @@ impl<S: Source, L: Ledger> Pool<S, L> {
         } = self;
         let totals = gather_conns(&jobs, conns);
         let totals = gather_fills(&jobs, totals, fills);
-        Ok(settle(rt, &jobs, table.into_inner(), &ledger_parts, totals))
+        Ok(Closed {
+            jobs,
+            table: table.into_inner(),
+            sixteen: ledger_parts,
+            totals,
+        })
+    }
+
+    /// Ends the pool, where all its seats are handed in, and tells what it counted.
+    pub fn close<R: Wait>(
+        self,
+        rt: &R,
+        fills: Vec<FillSeat<S, L>>,
+        conns: Vec<ConnSeat<S, L>>,
+    ) -> Result<Report, CloseFault<S, L>>
+        requires fills { All (IsFillSeatOf self) fills.items }
+        requires conns { All (IsConnSeatOf self) conns.items }
+        ensures exactly { IsOk result ↔ (HaveAllFills fills.items × HaveAllConns conns.items) }
+        ensures asked { IfOk result (λ report. report.asked ≡ sum_by (λ s. (asks_of s).asked) conns.items) }
+        ensures hits { IfOk result (λ report. report.hits ≡ sum_by (λ s. (asks_of s).hits) conns.items) }
+        ensures led { IfOk result (λ report. report.led ≡ sum_by (λ s. (asks_of s).led) conns.items) }
+        ensures joined { IfOk result (λ report. report.joined ≡ sum_by (λ s. (asks_of s).joined) conns.items) }
+        ensures strangers { IfOk result (λ report. report.strangers ≡ sum_by (λ s. (asks_of s).strangers) conns.items) }
+        ensures calls { IfOk result (λ report. report.calls ≡ sum_by (λ s. (fills_of s).calls) fills.items) }
+        ensures rehits { IfOk result (λ report. report.rehits ≡ sum_by (λ s. (fills_of s).rehits) fills.items) }
+        ensures each_ask { IfOk result (λ report. report.asked ≡ report.hits + report.led + report.joined) }
+        ensures each_flight { IfOk result (λ report. report.led ≡ report.calls + report.rehits + report.left) }
+        ensures back { IfErr result (λ fault. HandsBack fault self fills conns) }
+    {
+        match self.end(fills, conns) {
+            Ok(closed) => Ok(closed.report(rt)),
+            Err(fault) => Err(fault),
+        }
     }
 }

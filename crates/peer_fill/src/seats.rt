@@ -2,7 +2,7 @@
 ghost use Rattle.std.specs.Prelude.{◌≡◌, ℕ, ◌+◌, ◌^◌, ◌≤◌, ◌<◌, ◌↔◌, [], length, min, None, IsSome, IsTrue};
 ghost use Rattle.crossbeam_queue.specs.Passes.{view};
 ghost use Rattle.peer_fill.specs.Counts.{no_asks, no_fills, taken_of};
-ghost use Rattle.peer_fill.specs.Jobs.{hand, left_count};
+ghost use Rattle.peer_fill.specs.Jobs.{hand, left_count, Rises};
 
 use crate::counts::{AskCounts, FillCounts};
 use crate::jobs::{Hand, Job};
@@ -32,6 +32,7 @@ pub struct ConnSeat<S: Source, L: Ledger> {
     ghost share_parts: { share.parts ≡ parts },
     ghost pushed: { length (view pass).pushed + left_count left ≡ asks.led },
     ghost popped: { (view pass).popped ≡ [] },
+    ghost in_order: { Rises (view pass).pushed },
     ghost share_led: { share.amount ≡ asks.led },
     ghost each_ask: { asks.asked ≡ asks.hits + asks.led + asks.joined },
     ghost most_asked: { asks.asked ≤ 2 ^ 56 },
@@ -45,13 +46,15 @@ pub struct FillSeat<S: Source, L: Ledger> {
     pub(crate) of: PhantomData<L>,
     pub(crate) parts: u64,
     pub(crate) fills: FillCounts,
-    // Room for what one addition to a cache evicts. It is empty between two additions.
+    // Room for what one addition to a cache evicts.
     pub(crate) evicted: Evicted,
     ghost has_parts: { (0 < parts) × (parts ≤ 16) },
     ghost pass_parts: { (view pass).parts ≡ parts },
     ghost pushed: { (view pass).pushed ≡ [] },
     ghost popped: { length (view pass).popped ≡ fills.calls + fills.rehits },
+    ghost in_order: { Rises (view pass).popped },
     ghost most: { fills.calls + fills.rehits ≤ 2 ^ 56 },
+    ghost none_evicted: { evicted.items ≡ [] },
 }
 
 impl<S: Source, L: Ledger> ConnSeat<S, L> {

@@ -1,9 +1,9 @@
 //! Totals: what the seats that were handed in have together.
-ghost use Rattle.std.specs.Prelude.{◌≡◌, ℕ, ◌+◌, ◌*◌, ◌^◌, ◌≤◌, ◌<◌, length};
+ghost use Rattle.std.specs.Prelude.{◌≡◌, ℕ, ◌+◌, ◌++◌, ◌*◌, ◌^◌, ◌≤◌, ◌<◌, length};
 ghost use Rattle.crossbeam_queue.specs.Passes.{view, IsPassOf};
 ghost use Rattle.peer_fill.specs.Counts.{no_fills, AddsAsks, AddsFills};
 ghost use Rattle.peer_fill.specs.Jobs.{left_count};
-ghost use Rattle.peer_fill.specs.Seats.{asks_of, fills_of, conn_parts, fill_parts};
+ghost use Rattle.peer_fill.specs.Seats.{asks_of, fills_of, conn_parts, fill_parts, pushed_of, popped_of};
 
 use crate::counts::{AskCounts, FillCounts};
 use crate::jobs::{Hand, Job, Jobs, OnePart};
@@ -83,6 +83,8 @@ impl<S: Source, L: Ledger> Totals<S, L> {
         ensures fill_parts { result.fill_parts ≡ self.fill_parts }
         ensures asks { AddsAsks self.asks (asks_of seat) result.asks }
         ensures fills { result.fills ≡ self.fills }
+        ensures pushed { (view result.pass).pushed ≡ (view self.pass).pushed ++ pushed_of seat }
+        ensures popped { (view result.pass).popped ≡ (view self.pass).popped }
     {
         let Totals {
             mut pass,
@@ -115,6 +117,8 @@ impl<S: Source, L: Ledger> Totals<S, L> {
         ensures fill_parts { result.fill_parts ≡ self.fill_parts + fill_parts seat }
         ensures asks { result.asks ≡ self.asks }
         ensures fills { AddsFills self.fills (fills_of seat) result.fills }
+        ensures pushed { (view result.pass).pushed ≡ (view self.pass).pushed }
+        ensures popped { (view result.pass).popped ≡ (view self.pass).popped ++ popped_of seat }
     {
         let Totals {
             mut pass,

@@ -1,9 +1,9 @@
 //! What workers do with a pool: they take jobs, look into the cache, call the source, and put fills. Or they take a job,
 //! and bring its answer from elsewhere.
-ghost use Rattle.std.specs.Prelude.{◌≡◌, ◌+◌, ◌<◌, ◌≤◌, ◌^◌, Some, IfSome, IsTrue, MatchOption, cond};
+ghost use Rattle.std.specs.Prelude.{◌≡◌, ◌+◌, ◌<◌, ◌≤◌, ◌^◌, [], Some, IfNone, IfSome, IsTrue, MatchOption, cond};
 ghost use Rattle.crossbeam_queue.specs.Passes.{view, IsPassOf};
 ghost use Rattle.peer_flight.specs.SingleFlight.{place_of};
-ghost use Rattle.peer_fill.specs.Jobs.{popped_by};
+ghost use Rattle.peer_fill.specs.Jobs.{Popped};
 ghost use Rattle.peer_fill.specs.Seats.{fills_of, fill_parts};
 
 use crate::counts::FillCounts;
@@ -113,7 +113,8 @@ impl<S: Source, L: Ledger> Pool<S, L> {
     ghost use Rattle.peer_fill.specs.Caches.{IsFoundFor};
     ghost use Rattle.peer_fill.specs.Pools.{source_of, IsFillSeatOf};
     ghost use Rattle.peer_fill.specs.Counts.{taken_of};
-    ghost use Rattle.peer_fill.specs.Works.{IsMadeFor, job_count};
+    ghost use Rattle.peer_fill.specs.Works.{IsMadeFor, call_count, job_count};
+    ghost use Rattle.peer_fill.specs.declared.work.Made.TheVariants.{Rehit};
     ghost use Rattle.peer_source.specs.Outcomes.{answer_of};
 
     // The oldest job, where there is one. Where there is none, all who wait for room are told.
@@ -121,7 +122,7 @@ impl<S: Source, L: Ledger> Pool<S, L> {
         requires pass { IsPassOf self.now.jobs pass.old }
         requires part { 0 < (view pass.old).parts }
         ensures pass { IsPassOf self.now.jobs pass.new }
-        ensures popped { MatchOption result (view pass.new ≡ view pass.old) (λ job. view pass.new ≡ popped_by (view pass.old) job) }
+        ensures popped { MatchOption result (view pass.new ≡ view pass.old) (λ job. Popped (view pass.old) job (view pass.new)) }
     {
         let Some(job) = self.jobs.pop_as::<Pop, R>(rt, pass) else {
             self.signals.room.notify_all();
@@ -135,7 +136,7 @@ impl<S: Source, L: Ledger> Pool<S, L> {
         requires pass { IsPassOf self.now.jobs pass.old }
         requires part { 0 < (view pass.old).parts }
         ensures pass { IsPassOf self.now.jobs pass.new }
-        ensures popped { MatchOption result (view pass.new ≡ view pass.old) (λ job. view pass.new ≡ popped_by (view pass.old) job) }
+        ensures popped { MatchOption result (view pass.new ≡ view pass.old) (λ job. Popped (view pass.old) job (view pass.new)) }
     {
         let mut waiter = Waiter::new(&self.signals.job);
         for _ in rt.forever() {
@@ -159,7 +160,7 @@ impl<S: Source, L: Ledger> Pool<S, L> {
         requires pass { IsPassOf self.now.jobs pass.old }
         requires part { 0 < (view pass.old).parts }
         ensures pass { IsPassOf self.now.jobs pass.new }
-        ensures popped { MatchOption result (view pass.new ≡ view pass.old) (λ job. view pass.new ≡ popped_by (view pass.old) job) }
+        ensures popped { MatchOption result (view pass.new ≡ view pass.old) (λ job. Popped (view pass.old) job (view pass.new)) }
     {
         match take {
             Take::IfThere => self.pop_job(rt, pass),
@@ -189,9 +190,11 @@ impl<S: Source, L: Ledger> Pool<S, L> {
         }
     }
 
-    /// Keeps a value that was found in the cache of its group, unless memory refuses that. What is evicted for it is
-    /// dropped once the caches are unlocked, where the list has room for it.
-    pub fn keep<R: Wait>(&self, rt: &R, fill: &Fill<S>, evicted: &mut Evicted) {
+    // Keeps a value that was found in the cache of its group, unless memory refuses that. What is evicted for it is let go
+    // once the caches are unlocked, where the list has room for it.
+    fn keep<R: Wait>(&self, rt: &R, fill: &Fill<S>, evicted: &mut Evicted)
+        ensures empty { evicted.new.items ≡ [] }
+    {
         let _ = lock(rt, &self.caches).add(fill, evicted);
         evicted.clear();
     }
@@ -208,27 +211,34 @@ impl<S: Source, L: Ledger> Pool<S, L> {
         ensures group { result.group ≡ group.number }
         ensures key { result.key ≡ key }
         ensures answer { IfSome result.answer (S.answers (source_of self.now) group.number key) }
+        ensures empty { evicted.new.items ≡ [] }
     {
         let fill = Fill::run(alloc, &self.source, group, key);
         self.keep(rt, &fill, evicted);
         fill
     }
 
-    // Looks into the cache again, and calls the source where there is no value.
-    fn make<R: Wait>(
-        &self,
-        rt: &R,
-        alloc: Global,
-        group: GroupId,
-        key: ByteView,
-        evicted: &mut Evicted,
-    ) -> Made<S>
-        ensures { IsMadeFor (S.answers (source_of self.now)) group.number key result }
+    // The fill that a cache keeps, where it keeps one, and else what a call of the source gives.
+    fn make(&self, alloc: Global, kept: Option<Fill<S>>, group: GroupId, key: ByteView) -> Made<S>
+        requires { IfSome kept (IsFoundFor group.number key) }
+        ensures made { IsMadeFor (S.answers (source_of self.now)) group.number key result }
+        ensures kept { IfSome kept (λ fill. result ≡ Rehit fill) }
+        ensures none { IfNone kept (call_count result ≡ 1) }
     {
-        if let Some(fill) = self.cached_fill(rt, group, &key) {
+        if let Some(fill) = kept {
             return Made::Rehit(fill);
         }
-        Made::Called(self.call(rt, alloc, group, key, evicted))
+        Made::Called(Fill::run(alloc, &self.source, group, key))
+    }
+
+    // Keeps a value that the source gave, unless memory refuses that.
+    fn keep_made<R: Wait>(&self, rt: &R, made: &Made<S>, evicted: &mut Evicted)
+        requires { evicted.old.items ≡ [] }
+        ensures { evicted.new.items ≡ [] }
+    {
+        if let Made::Called(fill) = made {
+            self.keep(rt, fill, evicted);
+        }
     }
 
     // Sets the fill of the flight, which is of the flight's group and key, and tells those who wait for it.
@@ -293,7 +303,9 @@ impl<S: Source, L: Ledger> Pool<S, L> {
         let Job { right, key } = job;
         let group = right.flight().group();
         gate.before_call(rt, group, key.as_slice());
-        let made = self.make(rt, alloc, group, key, &mut seat.evicted);
+        let kept = self.cached_fill(rt, group, &key);
+        let made = self.make(alloc, kept, group, key);
+        self.keep_made(rt, &made, &mut seat.evicted);
         seat.fills.count(&made);
         gate.after_count(seat.fills.calls, seat.fills.rehits);
         self.tell_of_room(&seat.fills);

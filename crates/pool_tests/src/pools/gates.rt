@@ -1,4 +1,4 @@
-//! What happens while a worker serves a job: a gate keeps its value before, and asks for its key again behind.
+//! What happens while a worker serves a job: a gate asks for its key again, before its flight lands.
 ghost use Rattle.std.specs.Prelude.{◌≡◌, ◌<◌, All, IfSome};
 ghost use Rattle.peer_fill.specs.Pools.{source_of, IsConnSeatOf, IsFillSeatOf};
 
@@ -6,11 +6,9 @@ use super::numbering::Numbering;
 use crate::values::{ECHO, value_of};
 use peer_fill::{ConnSeat, FillSeat, Gate, Pool, pop_conn, pop_fill};
 use peer_flight::Claim;
-use peer_source::{Fill, GroupId};
-use peer_view::ByteView;
+use peer_source::GroupId;
 use std::alloc::Global;
 use std::marker::Brand;
-use std::sync::atomic::Ordering::SeqCst;
 use std::sync::ledger::{Blank, Ledger};
 use std::sync::{Mutex, Wait};
 use std::test::Fail;
@@ -32,24 +30,14 @@ impl<'a, L: Ledger> Asker<'a, L> {
     }
 }
 
-// Keeps a value for each key before its job is served, as another worker might, and asks again for each key whose fill
-// was put, before its flight lands.
+// Asks again for each key whose fill was put, before its flight lands.
 #[derive(Drop)]
 struct Meddling<'a, L: Ledger> {
-    pool: &'a Pool<Numbering, L>,
-    alloc: Global,
-    // Where the values come from that it keeps.
-    spare: Numbering,
     asker: Mutex<Asker<'a, L>>,
 }
 
 impl<'a, L: Ledger + Send + Sync> Gate for Meddling<'a, L> {
-    fn before_call<R: Wait>(&self, rt: &R, group: GroupId, key: &[u8]) {
-        if let Ok(key) = ByteView::copy_of(self.alloc, key) {
-            let fill = Fill::run(self.alloc, &self.spare, group, key);
-            self.pool.keep(rt, &fill, &mut Vec::new(self.alloc));
-        }
-    }
+    fn before_call<R: Wait>(&self, _rt: &R, _group: GroupId, _key: &[u8]) {}
 
     fn after_put<R: Wait>(&self, rt: &R, _number: u64, _group: GroupId, key: &[u8]) {
         self.asker.lock(rt).ask(rt, key);
@@ -95,17 +83,12 @@ fn meddle<L: Ledger + Send + Sync, R: Wait>(
     requires conn { IsConnSeatOf pool.now conn }
     requires groups { 0 < (source_of pool.now).groups }
 {
-    let spare = Numbering::new(2, 0, 0);
-    spare.calls.store(6, SeqCst);
     let asker = Asker {
         pool,
         alloc,
         seat: conn,
     };
     let gate = Meddling {
-        pool,
-        alloc,
-        spare,
         asker: Mutex::new(asker),
     };
     let fill = pool.run_worker(rt, alloc, fill, &gate);
@@ -120,13 +103,12 @@ fn meddle<L: Ledger + Send + Sync, R: Wait>(
 }
 
 // Two connections ask for one key, and the second asks again by the gate of the worker: whether both claims showed the
-// value, and what was counted.
+// value of the source's first call, and what was counted.
 fn ask_by_gate<L: Ledger + Send + Sync, R: Wait>(
     rt: &R,
     alloc: Global,
     pool: &Pool<Numbering, L>,
     lists: &mut SeatLists<Numbering, L>,
-    value: &[u8],
 ) -> Option<([bool; 2], Counts)>
     requires fills { All (IsFillSeatOf pool.now) lists.old.fills.items }
     requires conns { All (IsConnSeatOf pool.now) lists.old.conns.items }
@@ -137,55 +119,39 @@ fn ask_by_gate<L: Ledger + Send + Sync, R: Wait>(
     let fill = pop_fill(pool, &mut lists.fills)?;
     let counts = meddle(rt, alloc, pool, fill, two);
     let shown = [
-        value_of(pool.wait_for(rt, &first)) == value,
-        value_of(pool.wait_for(rt, &second)) == value,
+        value_of(pool.wait_for(rt, &first)) == b"k1".as_slice(),
+        value_of(pool.wait_for(rt, &second)) == b"k1".as_slice(),
     ];
     Some((shown, counts))
 }
 
-// The same with a pool of its own, which was stopped and whose caches keep so many bytes.
+// The same with a pool of its own, which was stopped and whose caches keep nothing.
 fn seen<L: Ledger + Send + Sync, R: Wait>(
     rt: &R,
     alloc: Global,
-    cache_bytes: u64,
-    value: &[u8],
     blank: Blank,
 ) -> Option<([bool; 2], Counts)>
     requires name { blank.name ≡ L.name }
     requires parts { (blank.parts ≡ L.parts) × (blank.parts ≡ 16) }
 {
     let source = Numbering::new(2, 0, 0);
-    let opened = open_pool::<Numbering, L>(alloc, source, cache_bytes, 1, 2, blank);
+    let opened = open_pool::<Numbering, L>(alloc, source, 0, 1, 2, blank);
     let Some((pool, mut lists)) = opened else {
         return None;
     };
     pool.stop();
-    ask_by_gate(rt, alloc, &pool, &mut lists, value)
+    ask_by_gate(rt, alloc, &pool, &mut lists)
 }
 
 #[test]
 fn a_flight_is_open_until_its_fill_was_put(rt: HostRuntime) -> Result<(), Fail> {
-    let seen = seen::<Brand, HostRuntime>(&rt, rt.alloc(), 0, b"k1", Blank::new(16));
+    let seen = seen::<Brand, HostRuntime>(&rt, rt.alloc(), Blank::new(16));
     let counts = Counts {
         hits: 0,
         led: 0,
         joined: 2,
         calls: 1,
         rehits: 0,
-    };
-    assert_eq!(rt; seen, Some(([true; 2], counts)));
-    Ok(())
-}
-
-#[test]
-fn a_value_kept_meanwhile_is_a_rehit(rt: HostRuntime) -> Result<(), Fail> {
-    let seen = seen::<Brand, HostRuntime>(&rt, rt.alloc(), 6, b"k7", Blank::new(16));
-    let counts = Counts {
-        hits: 1,
-        led: 0,
-        joined: 1,
-        calls: 0,
-        rehits: 1,
     };
     assert_eq!(rt; seen, Some(([true; 2], counts)));
     Ok(())

@@ -1,5 +1,7 @@
-use Rattle.std.proofs.Common.{arith, rules}
+use Rattle.std.proofs.Common.{arith, rules, ◌∙◌}
 use Rattle.crossbeam_queue.specs.Passes.{IsPassOf}
+use Rattle.peer_fill.specs.Seats.{pushed_of}
+use Rattle.peer_fill.proofs.Gathering.{first_taken, next_taken}
 use Rattle.peer_fill.proofs.Lasts.{sum_last, of_last, of_front}
 use Rattle.peer_fill.proofs.close.gather_conns.Goals as goal
 
@@ -17,6 +19,8 @@ loop-seat-init g c =
       led = rw k.asks (omega (arith, sum_last (λ s. s.asks.led) _ _ _ e));
       joined = rw k.asks (omega (arith, sum_last (λ s. s.asks.joined) _ _ _ e));
       strangers = rw k.asks (omega (arith, sum_last (λ s. s.asks.strangers) _ _ _ e));
+      pushed = λ w. rw k.pass (first_taken pushed_of _ _ _ e w);
+      popped = rw k.pass c.in-Some.first.popped;
     }
 
 pub add_conn-totals-requires-clause-pass : goal.add_conn-totals-requires-clause-pass
@@ -41,4 +45,6 @@ loop-seat-preserved g c =
       led = omega (arith, k.asks.led, i.led, sum_last (λ s. s.asks.led) _ _ _ e);
       joined = omega (arith, k.asks.joined, i.joined, sum_last (λ s. s.asks.joined) _ _ _ e);
       strangers = omega (arith, k.asks.strangers, i.strangers, sum_last (λ s. s.asks.strangers) _ _ _ e);
+      pushed = λ w. next_taken pushed_of _ _ _ _ _ w _ e k.pushed (i.pushed w);
+      popped = k.popped ∙ i.popped;
     }

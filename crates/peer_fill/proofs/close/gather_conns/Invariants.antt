@@ -1,6 +1,9 @@
-use Rattle.std.specs.Prelude.{◌≡◌, ◌+◌, All, sum_by}
-use Rattle.crossbeam_queue.specs.Passes.{IsPassOf}
+use Rattle.std.specs.Prelude.{◌≡◌, ℕ, ◌+◌, [], All, sum_by}
+use Rattle.crossbeam_queue.specs.Passes.{view, IsPassOf}
 use Rattle.peer_fill.specs.Counts.{no_fills}
+use Rattle.peer_fill.specs.Jobs.{weigh}
+use Rattle.peer_fill.specs.Seats.{pushed_of}
+use Rattle.peer_fill.specs.declared.jobs.Ranked.{Ranked}
 use Rattle.peer_fill.proofs.close.gather_conns.Given as goal
 
 abbrev pub invariant-loop-seat : goal.invariant-loop-seat
@@ -14,6 +17,9 @@ invariant-loop-seat g l = record {
   led : l.totals.asks.led + sum_by (λ s. s.asks.led) l.conns.items ≡ sum_by (λ s. s.asks.led) l.fn.conns.items;
   joined : l.totals.asks.joined + sum_by (λ s. s.asks.joined) l.conns.items ≡ sum_by (λ s. s.asks.joined) l.fn.conns.items;
   strangers : l.totals.asks.strangers + sum_by (λ s. s.asks.strangers) l.conns.items ≡ sum_by (λ s. s.asks.strangers) l.fn.conns.items;
+  pushed : (w : Ranked → ℕ) → weigh w (view l.totals.pass).pushed + sum_by (λ s. weigh w (pushed_of s)) l.conns.items
+      ≡ sum_by (λ s. weigh w (pushed_of s)) l.fn.conns.items;
+  popped : (view l.totals.pass).popped ≡ [];
 }
 
 abbrev pub decreases-loop-seat : goal.decreases-loop-seat

@@ -1,5 +1,7 @@
-use Rattle.std.proofs.Common.{arith, rules}
+use Rattle.std.proofs.Common.{arith, rules, ◌∙◌}
 use Rattle.crossbeam_queue.specs.Passes.{IsPassOf}
+use Rattle.peer_fill.specs.Seats.{popped_of}
+use Rattle.peer_fill.proofs.Gathering.{next_taken}
 use Rattle.peer_fill.proofs.Lasts.{sum_last, of_front}
 use Rattle.peer_fill.proofs.close.gather_fills.Goals as goal
 
@@ -16,4 +18,6 @@ loop-seat-preserved g c =
       asks = search rules;
       calls = omega (arith, k.fills.calls, i.calls, sum_last (λ s. s.fills.calls) _ _ _ e);
       rehits = omega (arith, k.fills.rehits, i.rehits, sum_last (λ s. s.fills.rehits) _ _ _ e);
+      pushed = k.pushed ∙ i.pushed;
+      popped = λ w. next_taken popped_of _ _ _ _ _ w _ e k.popped (i.popped w);
     }

@@ -4,7 +4,7 @@ use Rattle.peer_fill.proofs.Lasts.{sum_last}
 use Rattle.crossbeam_queue.specs.Passes.{IsPassOf}
 use Rattle.peer_fill.specs.declared.jobs.Hand.{Hand}
 use Rattle.peer_fill.specs.Counts.{no_fills}
-use Rattle.peer_fill.proofs.Balancing.{forks}
+use Rattle.peer_fill.proofs.Ordering.{forks}
 use Rattle.peer_fill.proofs.deal.deal_fills.Goals as goal
 
 pub another-one-requires-clause-rule : goal.another-one-requires-clause-rule

@@ -1,4 +1,5 @@
 use Rattle.peer_fill.proofs.Giving.{joined_place, led_key, led_place}
+use Rattle.peer_fill.proofs.Passing.{push_rises}
 use Rattle.peer_fill.proofs.pool.Pool.join_or_lead.Goals as goal
 
 pub returns-in-Ok-Joined-clause-place : goal.returns-in-Ok-Joined-clause-place
@@ -10,3 +11,6 @@ returns-in-Ok-Led-clause-place g c = led_place _ _ _ _ _ _ c.in-Ok-Led.field-0-i
 -- the job has the key of its flight
 pub invariant_of-push : goal.invariant_of-push
 invariant_of-push g c = led_key _ _ _ _ _ _ c.in-Ok-Led.field-0-is c.in-Ok-Led.ensures.gives
+
+pub invariant_of-seat-in-Ok-Led-clause-in_order : goal.invariant_of-seat-in-Ok-Led-clause-in_order
+invariant_of-seat-in-Ok-Led-clause-in_order g c = push_rises _ _ _ _ c.push.ensures.pushed c.args.seat.now.in_order

@@ -1,6 +1,6 @@
 use Rattle.std.proofs.Common.{arith, ap}
 use Rattle.peer_fill.specs.declared.jobs.Hand.{Hand}
-use Rattle.peer_fill.proofs.Balancing.{forks}
+use Rattle.peer_fill.proofs.Ordering.{forks}
 use Rattle.peer_fill.proofs.pool.Pool.open.Goals as goal
 
 pub another-rest-requires-clause-rule : goal.another-rest-requires-clause-rule

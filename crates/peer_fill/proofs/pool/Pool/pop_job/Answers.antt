@@ -1,4 +1,4 @@
-use Rattle.peer_fill.proofs.Balancing.{pops}
+use Rattle.peer_fill.proofs.Ordering.{pops}
 use Rattle.peer_fill.proofs.pool.Pool.pop_job.Goals as goal
 
 pub pop_as-requires-clause-rule : goal.pop_as-requires-clause-rule

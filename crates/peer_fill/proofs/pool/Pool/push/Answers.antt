@@ -1,4 +1,4 @@
-use Rattle.peer_fill.proofs.Balancing.{pushes}
+use Rattle.peer_fill.proofs.Ordering.{pushes}
 use Rattle.peer_fill.proofs.pool.Pool.push.Goals as goal
 
 pub push_as-requires-clause-rule : goal.push_as-requires-clause-rule

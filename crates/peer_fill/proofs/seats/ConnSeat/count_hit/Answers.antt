@@ -10,6 +10,7 @@ invariant_of-self g c =
       share_parts = seat.share_parts;
       pushed = seat.pushed;
       popped = seat.popped;
+      in_order = seat.in_order;
       share_led = seat.share_led;
       each_ask = omega (arith, seat.each_ask);
       most_asked = omega (arith, c.requires);
