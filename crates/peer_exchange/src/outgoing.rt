@@ -25,6 +25,7 @@ use std::sync::ledger::Ledger;
 #[derive(Drop)]
 pub(crate) struct Outgoing {
     alloc: Global,
+    head: HeadRoom,
     pub(crate) out: Outbox,
 }
 
@@ -84,6 +85,7 @@ impl Outgoing {
     {
         Outgoing {
             alloc,
+            head: HeadRoom::new(),
             out: Outbox::new(alloc),
         }
     }
@@ -163,8 +165,7 @@ impl Outgoing {
         ensures { PutsReplyTo (allows S.allowed) (fill_wish fill.now closing bare) self.old.out.bytes self.new.out.bytes result }
     {
         fill.law();
-        let mut head = HeadRoom::new();
-        let Some(reply) = Reply::of_fill(&mut head, fill, closing, bare) else {
+        let Some(reply) = Reply::of_fill(&mut self.head, fill, closing, bare) else {
             return Err(AllocError);
         };
         match value_of(fill, bare) {
@@ -177,8 +178,7 @@ impl Outgoing {
     fn put_fault(&mut self, fault: &Fault, closing: bool, bare: bool) -> Result<(), AllocError>
         ensures { PutsText (fault_reply closing bare fault.now) self.old.out.bytes self.new.out.bytes result }
     {
-        let mut head = HeadRoom::new();
-        let reply = Reply::of_fault(&mut head, fault, closing, bare);
+        let reply = Reply::of_fault(&mut self.head, fault, closing, bare);
         self.out.put(&reply.parts())
     }
 }
