@@ -5,6 +5,7 @@
 #define _GNU_SOURCE
 #include <errno.h>
 #include <fcntl.h>
+#include <malloc.h>
 #include <stdatomic.h>
 #include <stdlib.h>
 #include <sys/mman.h>
@@ -99,7 +100,8 @@ void *calloc(size_t count, size_t size)
 
 void *realloc(void *old, size_t size)
 {
-    if (size && refuses(2)) {
+    /* one that fits where it lies is no growth: a list that shrinks may be refused that, and nothing is lost */
+    if (size > malloc_usable_size(old) && refuses(2)) {
         errno = ENOMEM;
         return NULL;
     }
