@@ -8,11 +8,11 @@ ghost use Rattle.peer_wish.specs.Allowed.{allows};
 ghost use Rattle.peer_exchange.specs.ExchangeStates.{Upholds};
 
 use crate::exchange_state::ExchangeState;
-use crate::history::History;
 use crate::intake::GivenUp;
 use crate::rest::Rest;
 use peer_fill::{ConnSeat, Pool};
 use peer_source::{FunctionalSource, Names, Source};
+use peer_view::History;
 use peer_wish::End;
 use std::alloc::Global;
 use std::sync::Wait;

@@ -8,7 +8,6 @@
 mod asking;
 mod exchange;
 mod exchange_state;
-mod history;
 mod intake;
 mod outgoing;
 mod rest;

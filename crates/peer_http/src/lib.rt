@@ -5,7 +5,6 @@
 //! same holds of a reply as a state, `Receiving`, whose bytes come as they may.
 #![tactic(auto)]
 
-mod history;
 mod intake;
 mod progress;
 mod receiving;

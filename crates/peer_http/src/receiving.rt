@@ -9,12 +9,12 @@ ghost use Rattle.peer_http.specs.Replies.{IsReply};
 ghost use Rattle.peer_http.specs.declared.progress.Stage.TheVariants as at;
 ghost use Rattle.peer_http.specs.declared.reply.ReplyFault.TheVariants as told;
 
-use crate::history::History;
 use crate::intake::{Fault, Intake};
 use crate::progress::{Stage, find_head, take_content};
 use crate::reply::{FIELDS, Reply, ReplyFault, content_fault, ends_here, reply_fault, room_for};
 use http1::Client;
 use httparse::spans::EMPTY_HEADER_SPAN;
+use peer_view::History;
 use std::alloc::Global;
 use std::mem;
 

@@ -1,5 +1,5 @@
 -- What the two ends of a lane know.
-use Rattle.std.specs.Prelude.{ℕ, List}
+use Rattle.std.specs.Prelude.{◌≡◌, ℕ, List}
 use Rattle.rtrb.specs.Ring.{sent, known_free, received, known_items, IsPair, SameProducer, SameConsumer}
 use Rattle.peer_source.specs.declared.source.Source.{Ghosts}
 use Rattle.peer_lane.specs.declared.ticket.Ticket.{Ticket}
@@ -33,3 +33,10 @@ module _ {S : Type 0} {G : Ghosts S} where
 
   abbrev pub IsSameOut : LaneOut S G → LaneOut S G → Type 0
   IsSameOut a b = SameConsumer a.consumer b.consumer
+
+  -- this is one end before and after, and no ticket was put, or taken, meanwhile
+  abbrev pub PutsNone : LaneIn S G → LaneIn S G → Type 0
+  PutsNone a b = IsSameIn a b × (tickets_put b ≡ tickets_put a)
+
+  abbrev pub TakesNone : LaneOut S G → LaneOut S G → Type 0
+  TakesNone a b = IsSameOut a b × (tickets_taken b ≡ tickets_taken a)

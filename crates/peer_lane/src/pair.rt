@@ -1,7 +1,7 @@
 //! The two ends of a lane in one hand.
 ghost use Rattle.std.specs.Prelude.{◌≡◌, ◌+◌, ◌≤◌, [], ◌++◌, length, IfOk};
 ghost use Rattle.peer_flight.specs.Events.{TICKETS};
-ghost use Rattle.peer_lane.specs.Lanes.{tickets_put, tickets_taken, tickets_known, free_places, IsLane, IsSameIn, IsSameOut};
+ghost use Rattle.peer_lane.specs.Lanes.{tickets_put, tickets_taken, tickets_known, free_places, IsLane, PutsNone, TakesNone};
 
 use crate::lane_in::LaneIn;
 use crate::lane_out::LaneOut;
@@ -28,10 +28,8 @@ pub fn lane<S: Source>(alloc: Global) -> Result<(LaneIn<S>, LaneOut<S>), AllocEr
 /// place is free.
 pub fn beside<S: Source>(put: &mut LaneIn<S>, taken: &mut LaneOut<S>) -> usize
     requires { IsLane put.old taken.old }
-    ensures lane_in { IsSameIn put.old put.new }
-    ensures lane_out { IsSameOut taken.old taken.new }
-    ensures put { tickets_put put.new ≡ tickets_put put.old }
-    ensures taken { tickets_taken taken.new ≡ tickets_taken taken.old }
+    ensures put { PutsNone put.old put.new }
+    ensures taken { TakesNone taken.old taken.new }
     ensures left { tickets_taken taken.new ++ tickets_known taken.new ≡ tickets_put put.new }
     ensures count { result ≡ length (tickets_known taken.new) }
     ensures most { result ≤ TICKETS }

@@ -36,17 +36,6 @@ module _ (r : Reading) (made reads : ℕ) (text p : List ℕ) (g : Option (List 
     within = within;
   }
 
-  -- a read that failed
-  pub read_failed : made < reads → length text ≤ MAX_TEXT → p ≡ [] → e ≡ r.ends' → f ≡ r.failures' + 1 → IsReadFault (after r g k e f) reads
-  read_failed below within none quiet failed = record {
-    text = text;
-    bytes = subst (Appends r.given g) (ap (λ q. text ++ q) none ∙ append-nil text) (Appends-trans r.given r.given' g text p h.bytes more);
-    within = within;
-    calls = omega (arith, h.calls, called);
-    not_told = quiet ∙ h.ends;
-    failed = omega (arith, failed, h.fine);
-  }
-
   -- a read that gave too much
   pub too_large : made < reads → length text ≤ MAX_TEXT → MAX_TEXT < length (text ++ p) → e ≡ r.ends' → f ≡ r.failures'
       → IsTooLarge (after r g k e f) reads

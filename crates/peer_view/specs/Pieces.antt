@@ -1,5 +1,5 @@
 -- What a reader over pieces has given, and what it has left.
-use Rattle.std.specs.Prelude.{ℕ, zero, suc, Bool, List, [], ◌∷◌, ◌++◌, take, drop, Vec}
+use Rattle.std.specs.Prelude.{◌≡◌, ℕ, zero, suc, Bool, List, [], ◌∷◌, ◌++◌, take, drop, Vec}
 use Rattle.std.specs.declared.alloc.Global.{Global}
 
 -- the bytes given, the pieces left, none of them empty, what comes after the last one, and the counts
@@ -30,6 +30,12 @@ first_piece (p ∷ ps) = p
 abbrev pub after_read : ℕ → List (List ℕ) → List (List ℕ)
 after_read n [] = []
 after_read n (p ∷ ps) = put_piece (drop n p) ps
+
+-- a read into room for n bytes gives these bytes of the first piece, and leaves what is behind them
+pub record GivesPiece (n : ℕ) (bytes : List ℕ) (old new : Tape) : Type 0 where
+  pub given : bytes ≡ take n (first_piece old.left)
+  pub left : new.left ≡ after_read n old.left
+  pub fails : new.fails ≡ old.fails
 
 -- the first `index` pieces, and the first `offset` bytes of the next
 abbrev pub given_of : List (Vec ℕ Global) → ℕ → ℕ → List ℕ

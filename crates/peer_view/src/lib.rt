@@ -1,5 +1,5 @@
 //! Bytes that come, go and are shared: what gives bytes (`PeerRead`), what takes them (`PeerWrite`), views of shared
-//! bytes (`ByteView`), and the sinks that a source fills (`Sink`).
+//! bytes (`ByteView`), the sinks that a source fills (`Sink`), and bytes that only contracts see (`History`).
 //!
 //! It stands on the shared buffers of `bytes`. It promises which bytes each call gave, took or holds, and counts of
 //! calls and failures that move only as the calls say.
@@ -7,6 +7,7 @@
 
 mod alloc_sink;
 mod front;
+mod history;
 mod mem_reader;
 mod mem_writer;
 mod reader;
@@ -19,6 +20,7 @@ mod view_sink;
 mod writer;
 
 pub use alloc_sink::AllocSink;
+pub use history::History;
 pub use mem_reader::MemReader;
 pub use mem_writer::MemWriter;
 pub use reader::{PeerRead, ReadFailed};

@@ -2,7 +2,7 @@
 ghost use Rattle.std.specs.Prelude.{◌≡◌, ◌≢◌, ℕ, ◌+◌, ◌-◌, ◌^◌, ◌<◌, ◌≤◌, ◌↔◌, [], ◌++◌, length, take, Some, IfOk, IsErr, IsTrue};
 ghost use Rattle.std.specs.Io.KnownBytes.{Appends};
 ghost use Rattle.peer_view.specs.Moves.{moved, failure_count, end_count};
-ghost use Rattle.peer_view.specs.Pieces.{given_of, left_of, piece_at, first_piece, after_read, pieces_of};
+ghost use Rattle.peer_view.specs.Pieces.{given_of, left_of, piece_at, first_piece, after_read, pieces_of, GivesPiece};
 
 use crate::front::copy_front;
 use crate::reader::{PeerRead, ReadFailed};
@@ -123,10 +123,8 @@ impl PeerRead for MemReader {
         ensures called { self.new.calls ≡ self.old.calls + 1 }
         ensures end_told { self.new.ends ≡ self.old.ends + end_count result room.new }
         ensures failed { self.new.failures ≡ self.old.failures + failure_count result }
-        ensures piece { moved result room.new ≡ take (length room.old) (first_piece self.old.left) }
-        ensures left { self.new.left ≡ after_read (length room.old) self.old.left }
+        ensures piece { GivesPiece (length room.old) (moved result room.new) self.old self.new }
         ensures fails { IsErr result ↔ ((0 < length room.old) × (self.old.left ≡ []) × IsTrue self.old.fails) }
-        ensures same { self.new.fails ≡ self.old.fails }
     {
         self.calls += 1;
         let at = next_place(

@@ -1,9 +1,9 @@
-use Rattle.std.proofs.Common.{◌≡◌, ◌<◌, ◌++◌, [], length, take, refl, arith, length-append}
+use Rattle.std.proofs.Common.{◌≡◌, ◌<◌, ◌++◌, length, take, arith, length-append}
 use Rattle.std.proofs.lemmas.List.{length-take}
 use Rattle.std.proofs.lemmas.Grind.{common_steps}
 use Rattle.peer_view.specs.ReadWrite.{reading}
 use Rattle.peer_table.specs.Tables.{MAX_TEXT}
-use Rattle.peer_table.proofs.ReadLemmas.{read_failed, too_large}
+use Rattle.peer_table.proofs.ReadLemmas.{too_large}
 use Rattle.peer_table.proofs.intake.read_all.Goals as goal
 
 pub returns-then-n-len : goal.returns-then-n-len
@@ -20,13 +20,3 @@ returns-then-n-len g c =
     c.loop-made.text.items p
     (R.given c.read.new.self) (R.calls c.read.new.self) (R.ends c.read.new.self) (R.failures c.read.new.self) i.gave r.bytes r.called
     c.loop-made-test.true i.within over quiet fine
-
-pub returns-in-Err : goal.returns-in-Err
-returns-in-Err g c =
-    let R = g.R.PeerRead in
-    let i = c.loop-made.invariant in
-    let r = c.in-Err.ensures in
-    read_failed (reading R c.args.reader.now c.loop-made.reader) c.loop-made._made c.args.reads
-    c.loop-made.text.items []
-    (R.given c.read.new.self) (R.calls c.read.new.self) (R.ends c.read.new.self) (R.failures c.read.new.self) i.gave r.bytes r.called
-    c.loop-made-test.true i.within refl (grind (arith, common_steps, r.end_told)) r.failed

@@ -9,7 +9,7 @@ use Rattle.peer_conn.proofs.writer_side.WriterSide.write_left.Goals as goal
 pub loop-init : goal.loop-init
 loop-init g c =
     let b = c.beside-left.ensures in
-    ([], record { taken = ap wishes_by b.taken ∙ sym (append-nil _); left = b.left ∙ b.put; count = omega (arith, b.count) }, replies_none _, counts_same b.taken refl)
+    ([], record { taken = ap wishes_by b.taken.1 ∙ sym (append-nil _); left = b.left ∙ b.put.1; count = omega (arith, b.count) }, replies_none _, counts_same b.taken.1 refl)
 
 pub loop-preserved : goal.loop-preserved
 loop-preserved g c =

@@ -14,9 +14,9 @@ use denote.Steps.{nothing}
 use denote.Triple.Entry.{Res, alive}
 use denote.Triple.Walked.{says, Stays, walk_of, ends_at}
 use Rattle.std.proofs.raw_atomic.Walks.{proved}
-use Rattle.peer_http.specs.contracts.history.History.none as f
-use Rattle.peer_http.proofs.history.History.none.Statement.{statement}
-use Rattle.peer_http.proofs.history.History.none.Code as code
+use Rattle.peer_view.specs.contracts.history.History.none as f
+use Rattle.peer_view.proofs.history.History.none.Statement.{statement}
+use Rattle.peer_view.proofs.history.History.none.Code as code
 
 abbrev stayed : Stays f.ended.signature.params f.ended.kept
 stayed = tt

@@ -19,10 +19,10 @@ use denote.Steps.{nothing}
 use denote.Triple.Entry.{Res, alive}
 use denote.Triple.Walked.{says, Stays, stay_dropped, walk_of, ends_at, Goes-dropped}
 use Rattle.std.proofs.raw_atomic.Walks.{proved}
-use Rattle.peer_exchange.specs.contracts.history.History.{the_row}
-use Rattle.peer_exchange.specs.contracts.history.History.and as f
-use Rattle.peer_exchange.proofs.history.History.and.Statement.{statement}
-use Rattle.peer_exchange.proofs.history.History.and.Code as code
+use Rattle.peer_view.specs.contracts.history.History.{the_row}
+use Rattle.peer_view.specs.contracts.history.History.and as f
+use Rattle.peer_view.proofs.history.History.and.Statement.{statement}
+use Rattle.peer_view.proofs.history.History.and.Code as code
 
 abbrev stayed : Stays f.ended.signature.params f.ended.kept
 stayed = (stay_dropped (RefOf (0 ∷ []) tt (plain (λ _. the_row)) (λ _. tt)) yes, (stay_dropped (SliceRefOf (1 ∷ []) tt (plain (λ _. u8)) (λ _. tt)) yes, tt))

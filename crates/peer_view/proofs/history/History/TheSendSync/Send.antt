@@ -1,5 +1,5 @@
 use denote.Param.Send.{IsSend, owning_send, sendable}
-use Rattle.peer_exchange.specs.contracts.history.History.{the_row, the_type}
+use Rattle.peer_view.specs.contracts.history.History.{the_row, the_type}
 
 pub send : IsSend the_row
 send = owning_send the_type (search sendable, tt) (λ d. tt) (λ k x w. tt)

@@ -8,7 +8,7 @@ use std::marker::{Model, PhantomData};
 
 /// A list of bytes.
 #[derive(Drop)]
-pub(crate) struct History {
+pub struct History {
     marker: PhantomData<u8>,
     ghost bytes: { List ℕ },
 }
@@ -22,7 +22,7 @@ unsafe impl Send for History {}
 
 impl History {
     /// No bytes.
-    pub(crate) fn none() -> History
+    pub fn none() -> History
         ensures { result.bytes ≡ [] }
     {
         History {
@@ -31,7 +31,7 @@ impl History {
     }
 
     /// These bytes, and more behind them.
-    pub(crate) fn and(&self, more: &[u8]) -> History
+    pub fn and(&self, more: &[u8]) -> History
         ensures { result.bytes ≡ self.now.bytes ++ more.now }
     {
         let _ = self;
