@@ -3,7 +3,7 @@ ghost use Rattle.std.specs.Prelude.{◌≡◌, All};
 ghost use Rattle.peer_fill.specs.Pools.{source_of, IsConnSeatOf, IsFillSeatOf};
 
 use peer_exchange::{End, Exchange};
-use peer_fill::{ConnSeat, FillSeat, NoGate, Pool, TakenJob, pop_conn, pop_fill};
+use peer_fill::{ConnSeat, FillSeat, NoGate, Pool, TakenJob, pop_seat};
 use peer_source::DemoSource;
 use std::alloc::{AllocError, Global};
 use std::cmp::min;
@@ -50,8 +50,8 @@ impl<'a, L: Ledger> Driven<'a, L> {
             mut fills,
             mut conns,
         } = lists;
-        let fill = pop_fill(pool, &mut fills)?;
-        let conn = pop_conn(pool, &mut conns)?;
+        let fill = pop_seat(pool, &mut fills)?;
+        let conn = pop_seat(pool, &mut conns)?;
         Some(Driven {
             pool,
             conn,

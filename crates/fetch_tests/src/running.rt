@@ -6,7 +6,7 @@ ghost use Rattle.peer_fetch.specs.Threads.{Allows};
 use crate::asking::{Answered, Plan, Texts, ask_all};
 use crate::origin::{Told, serve};
 use peer_fetch::{FetchBell, FetchParts, FetchPlan, FetchThread, FetchThreadSettings, Places};
-use peer_fill::{ConnSeat, FillSeat, NoGate, Pool, Report, pop_conn, pop_fill};
+use peer_fill::{ConnSeat, FillSeat, NoGate, Pool, Report, pop_seat};
 use peer_origin::{FetchSettings, Origin, OriginSource, Place};
 use peer_source::Source;
 use peer_stats::Counters;
@@ -136,8 +136,8 @@ fn use_lists<
     ensures fills { All (IsFillSeatOf pool.now) lists.new.fills.items }
     ensures conns { All (IsConnSeatOf pool.now) lists.new.conns.items }
 {
-    let fill = pop_fill(pool, &mut lists.fills)?;
-    let conn = pop_conn(pool, &mut lists.conns)?;
+    let fill = pop_seat(pool, &mut lists.fills)?;
+    let conn = pop_seat(pool, &mut lists.conns)?;
     let (fill, conn, answered) = run_all(rt, alloc, pool, (fill, conn), running, beside);
     push_fill(pool, &mut lists.fills, fill)?;
     push_conn(pool, &mut lists.conns, conn)?;

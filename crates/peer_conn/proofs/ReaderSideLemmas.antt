@@ -51,6 +51,10 @@ module _ {S L : Type 0} {g : Source.Ghosts S} {h : Ledger.Ghosts L} {pool : Pool
     flights = omega (arith, h.flights, k.flights);
   }
 
+  -- neither the seat nor the lane moved
+  pub puts_same : {a b b' : ConnSeat S L g} {x y y' : LaneIn S g} {ws : List Wish} → b' ≡ b → y' ≡ y → PutsTickets pool a b x y ws → PutsTickets pool a b' x y' ws
+  puts_same {a} {b} {b'} {x} {y} {y'} {ws} seat lane h = subst (λ s. PutsTickets pool a s x y' ws) (sym seat) (subst (λ l. PutsTickets pool a b x l ws) (sym lane) h)
+
   -- no ticket more
   pub puts_on : {a b c : ConnSeat S L g} {x y z : LaneIn S g} {ws : List Wish} → PutsTickets pool a b x y ws → PutsTickets pool b c y z [] → PutsTickets pool a c x z ws
   puts_on {a} {b} {c} {x} {y} {z} {ws} h k = subst (PutsTickets pool a c x z) (append-nil ws) (puts_then h k)

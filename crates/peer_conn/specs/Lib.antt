@@ -2,9 +2,11 @@ pub mod Calls
 pub mod Connects
 pub mod Ends
 pub mod Exchanges
+pub mod Halves
 pub mod Headline
 pub mod LaneWishes
 pub mod ReaderSides
+pub mod Refusals
 pub mod Requests
 pub mod Responses
 pub mod Sending

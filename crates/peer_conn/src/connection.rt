@@ -13,9 +13,8 @@ ghost use Rattle.peer_conn.specs.WriterSides.{AnswersTickets};
 ghost use Rattle.peer_conn.specs.Strangers.{CountsFew};
 
 use crate::end::{Served, end_of, refused};
+use crate::halves::{Halves, new_halves};
 use crate::reader_side::{ReaderSide, StoppedReader};
-use crate::requests::Requests;
-use crate::responses::Responses;
 use crate::writer_side::WriterSide;
 use peer_fill::{ConnSeat, Pool};
 use peer_lane::{Signal, lane};
@@ -59,31 +58,29 @@ pub fn serve_connection<
     ensures writes_replies { CallWrites R.PeerRead W.PeerWrite reader writer result.0 (S.number_of (source_of pool.now))
         (allows S.allowed) }
 {
-    let responses = match Responses::new(alloc, writer) {
-        Ok(responses) => responses,
-        Err(writer) => return (refused(reader, writer), seat),
+    let halves = match new_halves(alloc, reader, writer, reads) {
+        Ok(halves) => halves,
+        Err(served) => return (served, seat),
     };
-    let requests = match Requests::new(alloc, reader, reads) {
-        Ok(requests) => requests,
-        Err(reader) => return (refused(reader, responses.out.writer), seat),
+    let Halves {
+        requests,
+        responses,
+    } = halves;
+    let Ok((put, taken)) = lane(alloc) else {
+        return (refused(requests.reader, responses.out.writer), seat);
     };
-    match lane(alloc) {
-        Ok((put, taken)) => {
-            let reader = ReaderSide {
-                seat,
-                lane: put,
-                requests,
-            };
-            let writer = WriterSide {
-                alloc,
-                lane: taken,
-                responses,
-                strangers: 0,
-            };
-            serve_sides(rt, pool, reader, writer)
-        }
-        Err(_) => (refused(requests.reader, responses.out.writer), seat),
-    }
+    let reader = ReaderSide {
+        seat,
+        lane: put,
+        requests,
+    };
+    let writer = WriterSide {
+        alloc,
+        lane: taken,
+        responses,
+        strangers: 0,
+    };
+    serve_sides(rt, pool, reader, writer)
 }
 
 /// `serve_connection`, whose replies are those of the one answer for each group and key: what is written is a prefix of

@@ -3,6 +3,7 @@
 //! It stands on the faults of asks of `peer_flight`. It promises one end for what stopped the reader and how the writer stands.
 ghost use Rattle.std.specs.Prelude.{◌≡◌};
 ghost use Rattle.peer_conn.specs.Connects.{end_for};
+ghost use Rattle.peer_conn.specs.Refusals.{IsRefused};
 
 use peer_flight::AskFault;
 use peer_wish::End;
@@ -60,9 +61,7 @@ pub(crate) fn end_of(state: WriterState, stop: ReaderStop) -> End
 
 /// What is served where memory is refused before the first read.
 pub(crate) fn refused<R, W>(reader: R, writer: W) -> Served<R, W>
-    ensures reader { result.reader ≡ reader }
-    ensures writer { result.writer ≡ writer }
-    ensures end { result.end ≡ End.Memory }
+    ensures { IsRefused reader writer result }
 {
     Served {
         reader,

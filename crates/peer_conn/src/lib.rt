@@ -8,6 +8,7 @@
 
 mod connection;
 mod end;
+mod halves;
 mod reader_side;
 mod requests;
 mod responses;

@@ -2,9 +2,11 @@
 //!
 //! It stands on the pool of `peer_fill` and the lanes of `peer_lane`. It promises a ticket for each request that came, in
 //! order, each that has group and key after it was asked for; nothing is read behind a request that closes.
-ghost use Rattle.std.specs.Prelude.{◌≡◌, [], ◌∷◌, OnOk, OnErr};
+ghost use Rattle.std.specs.Prelude.{◌≡◌, ℕ, ◌+◌, List, Option, [], ◌∷◌, OnOk, OnErr};
 ghost use Rattle.peer_fill.specs.Pools.{source_of, IsConnSeatOf};
+ghost use Rattle.peer_head.specs.Blocks.{IsUnfinished};
 ghost use Rattle.peer_wish.specs.Known.{IsKnown};
+ghost use Rattle.peer_conn.specs.Requests.{Reads};
 ghost use Rattle.peer_conn.specs.ReaderSides.{PutsTickets, TakesRequests};
 
 use crate::end::ReaderStop;
@@ -49,26 +51,35 @@ impl<S: Source, L: Ledger, R: PeerRead + Drop> ReaderSide<S, L, R> {
     {
         loop {
             match self.requests.next_held(names) {
-                NextRequest::Request(wish) => {
-                    if let Err(fault) = self.put(rt, pool, signal, wish) {
-                        return ReaderStop::Refused(fault);
-                    }
-                }
+                NextRequest::Request(wish) => match self.put(rt, pool, signal, wish) {
+                    Ok(()) => continue,
+                    Err(fault) => return ReaderStop::Refused(fault),
+                },
                 NextRequest::Last(wish) => match self.put(rt, pool, signal, wish) {
                     Ok(()) => return ReaderStop::Closed,
                     Err(fault) => return ReaderStop::Refused(fault),
                 },
-                NextRequest::Need => {
-                    if signal.is_stopped() {
-                        return ReaderStop::Stopped;
-                    }
-                    if let Err(stop) = self.requests.read() {
-                        return stop;
-                    }
-                }
+                NextRequest::Need => match self.read(signal) {
+                    Ok(()) => continue,
+                    Err(stop) => return stop,
+                },
                 NextRequest::NoMemory => return ReaderStop::Refused(AskFault::Memory),
             }
         }
+    }
+
+    // Reads once, unless the writer needs no more.
+    fn read(&mut self, signal: &Signal) -> Result<(), ReaderStop>
+        requires { IsUnfinished self.old.requests.held.held }
+        ensures seat { self.new.seat ≡ self.old.seat }
+        ensures lane { self.new.lane ≡ self.old.lane }
+        ensures reads { (numbers : List ℕ → Option ℕ) → Reads numbers self.old.requests self.new.requests result }
+        ensures left { OnOk result (self.new.requests.left + 1 ≡ self.old.requests.left) }
+    {
+        if signal.is_stopped() {
+            return Err(ReaderStop::Stopped);
+        }
+        self.requests.read()
     }
 
     // Asks for a wish that has group and key, puts its ticket, and waits while the lane is full.

@@ -8,7 +8,7 @@ ghost use Rattle.peer_conn.specs.WriterStates.{calls_left, PutsText};
 
 use crate::end::WriterState;
 use crate::write_buffer::WriteBuffer;
-use peer_reply::{Fault, HeadRoom, Reply};
+use peer_reply::{Fault, HeadRoom, Reply, ReplyForm};
 use peer_source::{Fill, Source};
 use peer_view::PeerWrite;
 use std::alloc::Global;
@@ -50,21 +50,21 @@ impl<W: PeerWrite> Responses<W> {
     }
 
     /// Puts the reply to a fault, where all went well so far.
-    pub(crate) fn put_fault(&mut self, fault: &Fault, closing: bool, bare: bool)
-        ensures { PutsReply self.old self.new (Some (fault_reply closing bare fault.now)) }
+    pub(crate) fn put_fault(&mut self, fault: &Fault, form: ReplyForm)
+        ensures { PutsReply self.old self.new (Some (fault_reply form.closing form.bare fault.now)) }
     {
         if let WriterState::Active = self.state {
-            let reply = Reply::of_fault(&mut self.head, fault, closing, bare);
+            let reply = Reply::of_fault(&mut self.head, fault, form.closing, form.bare);
             self.state = put_reply(&reply, &mut self.out);
         }
     }
 
     /// Puts the reply of a fill, where all went well so far.
-    pub(crate) fn put_fill<S: Source>(&mut self, fill: &Fill<S>, closing: bool, bare: bool)
-        ensures { PutsReply self.old self.new (option_map (answer_reply closing bare) fill.now.answer) }
+    pub(crate) fn put_fill<S: Source>(&mut self, fill: &Fill<S>, form: ReplyForm)
+        ensures { PutsReply self.old self.new (option_map (answer_reply form.closing form.bare) fill.now.answer) }
     {
         if let WriterState::Active = self.state {
-            self.state = match Reply::of_fill(&mut self.head, fill, closing, bare) {
+            self.state = match Reply::of_fill(&mut self.head, fill, form.closing, form.bare) {
                 Some(reply) => put_reply(&reply, &mut self.out),
                 None => WriterState::Memory,
             };

@@ -2,17 +2,20 @@
 //!
 //! It stands on the requests and the responses of a connection, and on the sources of `peer_source`. It promises that
 //! what is written is the replies to what was read, as the end says.
-ghost use Rattle.std.specs.Prelude.{◌≡◌, ◌≢◌, ℕ, ◌+◌, ◌-◌, ◌^◌, ◌<◌, List, [], ◌∷◌, Some};
+ghost use Rattle.std.specs.Prelude.{◌≡◌, ◌≢◌, ℕ, ◌+◌, ◌-◌, ◌^◌, ◌<◌, List, Option, [], ◌∷◌, Some, IfErr, OnOk};
+ghost use Rattle.peer_head.specs.Blocks.{IsUnfinished};
 ghost use Rattle.peer_wish.specs.Allowed.{only};
 ghost use Rattle.peer_conn.specs.Calls.{CallServes, CallTells, CallWrites};
-ghost use Rattle.peer_conn.specs.Responses.{PutsReplies};
+ghost use Rattle.peer_conn.specs.Requests.{Reads};
+ghost use Rattle.peer_conn.specs.Responses.{IsFlushed, PutsReplies};
 ghost use Rattle.peer_conn.specs.Exchanges.{Exchanges};
 
-use crate::end::{ReaderStop, Served, end_of, refused};
+use crate::end::{ReaderStop, Served, end_of};
+use crate::halves::{Halves, new_halves};
 use crate::requests::{NextRequest, Requests};
 use crate::responses::Responses;
 use peer_flight::AskFault;
-use peer_reply::{Wish, WishBody};
+use peer_reply::{ReplyForm, Wish, WishBody};
 use peer_source::{Fill, FunctionalSource, Names, Source};
 use peer_view::{PeerRead, PeerWrite};
 use peer_wish::End;
@@ -34,14 +37,14 @@ pub fn serve_serial<S: Source, R: PeerRead, W: PeerWrite>(
     ensures serves { CallServes R.PeerRead W.PeerWrite reader writer result (S.number_of source.now) (S.answers source.now) reads }
     ensures never_worn { result.end ≢ End.Worn }
 {
-    let mut responses = match Responses::new(alloc, writer) {
-        Ok(responses) => responses,
-        Err(writer) => return refused(reader, writer),
+    let halves = match new_halves(alloc, reader, writer, reads) {
+        Ok(halves) => halves,
+        Err(served) => return served,
     };
-    let mut requests = match Requests::new(alloc, reader, reads) {
-        Ok(requests) => requests,
-        Err(reader) => return refused(reader, responses.out.writer),
-    };
+    let Halves {
+        mut requests,
+        mut responses,
+    } = halves;
     let names = Names::of(source);
     let stop = answer_all(alloc, source, &names, &mut requests, &mut responses);
     responses.flush();
@@ -100,28 +103,39 @@ fn answer_all<S: Source, R: PeerRead, W: PeerWrite>(
 {
     loop {
         match requests.next_held(names) {
-            NextRequest::Request(wish) => {
-                answer(alloc, source, wish, responses);
-                if !responses.is_active() {
-                    return ReaderStop::Stopped;
-                }
-            }
+            NextRequest::Request(wish) => answer(alloc, source, wish, responses),
             NextRequest::Last(wish) => {
                 answer(alloc, source, wish, responses);
                 return ReaderStop::Closed;
             }
-            NextRequest::Need => {
-                responses.flush();
-                if !responses.is_active() {
-                    return ReaderStop::Stopped;
-                }
-                if let Err(stop) = requests.read() {
-                    return stop;
-                }
-            }
+            NextRequest::Need => match write_and_read(requests, responses) {
+                Ok(()) => continue,
+                Err(stop) => return stop,
+            },
             NextRequest::NoMemory => return ReaderStop::Refused(AskFault::Memory),
         }
+        if !responses.is_active() {
+            return ReaderStop::Stopped;
+        }
     }
+}
+
+// Writes what is buffered, and reads once, unless no more replies are put.
+fn write_and_read<R: PeerRead, W: PeerWrite>(
+    requests: &mut Requests<R>,
+    responses: &mut Responses<W>,
+) -> Result<(), ReaderStop>
+    requires { IsUnfinished requests.old.held.held }
+    ensures reads { (numbers : List ℕ → Option ℕ) → Reads numbers requests.old requests.new result }
+    ensures left { OnOk result (requests.new.left + 1 ≡ requests.old.left) }
+    ensures flushes { IsFlushed responses.old responses.new }
+    ensures never_worn { IfErr result (λ stop. stop ≢ ReaderStop.Refused AskFault.Worn) }
+{
+    responses.flush();
+    if !responses.is_active() {
+        return Err(ReaderStop::Stopped);
+    }
+    requests.read()
 }
 
 // Puts the reply to a request, for which it calls the source where the request has no fault.
@@ -138,11 +152,12 @@ fn answer<S: Source, W: PeerWrite>(
         closing,
         bare,
     } = wish;
+    let form = ReplyForm { closing, bare };
     match body {
-        WishBody::Fault(fault) => responses.put_fault(&fault, closing, bare),
+        WishBody::Fault(fault) => responses.put_fault(&fault, form),
         WishBody::Get(group, key) => {
             let fill = Fill::run(alloc, source, group, key);
-            responses.put_fill(&fill, closing, bare)
+            responses.put_fill(&fill, form)
         }
     }
 }

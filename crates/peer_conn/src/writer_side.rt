@@ -10,6 +10,7 @@ use crate::responses::Responses;
 use peer_fill::Pool;
 use peer_flight::Claim;
 use peer_lane::{Body, LaneIn, LaneOut, Signal, Ticket, beside};
+use peer_reply::ReplyForm;
 use peer_source::{Fill, Source};
 use peer_view::PeerWrite;
 use std::alloc::Global;
@@ -117,9 +118,13 @@ impl<S: Source, W: PeerWrite + Drop> WriterSide<S, W> {
         ensures replies { PutsReplies (allows S.allowed) self.old.responses self.new.responses (wish_by ticket ∷ []) }
         ensures others { KeepsTickets (flights_in_body ticket.body) self.old self.new }
     {
+        let form = ReplyForm {
+            closing: ticket.closing,
+            bare: ticket.bare,
+        };
         match &ticket.body {
-            Body::Fault(fault) => self.responses.put_fault(fault, ticket.closing, ticket.bare),
-            Body::Claim(claim) => self.put_claim(rt, pool, claim, ticket.closing, ticket.bare),
+            Body::Fault(fault) => self.responses.put_fault(fault, form),
+            Body::Claim(claim) => self.put_claim(rt, pool, claim, form),
         }
     }
 
@@ -130,22 +135,21 @@ impl<S: Source, W: PeerWrite + Drop> WriterSide<S, W> {
         rt: &H,
         pool: &Pool<S, L>,
         claim: &Claim<S>,
-        closing: bool,
-        bare: bool,
+        form: ReplyForm,
     )
-        ensures replies { PutsReplies (allows S.allowed) self.old.responses self.new.responses (claim_wish claim.now closing bare ∷ []) }
+        ensures replies { PutsReplies (allows S.allowed) self.old.responses self.new.responses (claim_wish claim.now form ∷ []) }
         ensures others { KeepsTickets (flight_count claim.now) self.old self.new }
     {
         if !self.responses.is_active() {
             return;
         }
         if let Some(fill) = look_briefly(claim) {
-            return self.put_filled(pool, claim, fill, closing, bare);
+            return self.put_filled(pool, claim, fill, form);
         }
         self.responses.flush();
         if self.responses.is_active() {
             let fill = pool.wait_for(rt, claim);
-            self.put_filled(pool, claim, fill, closing, bare);
+            self.put_filled(pool, claim, fill, form);
         }
     }
 
@@ -155,30 +159,29 @@ impl<S: Source, W: PeerWrite + Drop> WriterSide<S, W> {
         pool: &Pool<S, L>,
         claim: &Claim<S>,
         fill: &Fill<S>,
-        closing: bool,
-        bare: bool,
+        form: ReplyForm,
     )
-        ensures replies { PutsReplies (allows S.allowed) self.old.responses self.new.responses (claim_wish claim.now closing bare ∷ []) }
+        ensures replies { PutsReplies (allows S.allowed) self.old.responses self.new.responses (claim_wish claim.now form ∷ []) }
         ensures lane { self.new.lane ≡ self.old.lane }
         ensures counts { CountsFill claim.now fill.now self.new.responses.state self.old.strangers self.new.strangers }
     {
         match pool.refill(self.alloc, claim, fill) {
-            Ok(None) => self.put_fill(fill, closing, bare),
+            Ok(None) => self.put_fill(fill, form),
             Ok(Some(own)) => {
                 self.strangers = self.strangers.saturating_add(1);
-                self.put_fill(&own, closing, bare)
+                self.put_fill(&own, form)
             }
             Err(_) => self.responses.refuse(),
         }
     }
 
     // Puts the reply of a fill.
-    fn put_fill(&mut self, fill: &Fill<S>, closing: bool, bare: bool)
-        ensures replies { PutsReplies (allows S.allowed) self.old.responses self.new.responses (fill_wish fill.now closing bare ∷ []) }
+    fn put_fill(&mut self, fill: &Fill<S>, form: ReplyForm)
+        ensures replies { PutsReplies (allows S.allowed) self.old.responses self.new.responses (fill_wish fill.now form ∷ []) }
         ensures lane { self.new.lane ≡ self.old.lane }
         ensures strangers { self.new.strangers ≡ self.old.strangers }
     {
         fill.law();
-        self.responses.put_fill(fill, closing, bare);
+        self.responses.put_fill(fill, form);
     }
 }

@@ -4,7 +4,6 @@ use Rattle.std.proofs.lemmas.Bool.{le-leb, true≢false}
 use Rattle.std.specs.VecDeque.{deque_len}
 use Rattle.peer_fill.specs.declared.counts.AskCounts.{AskCounts}
 use Rattle.peer_lane.specs.declared.ticket.Ticket.{Ticket}
-use Rattle.peer_reply.specs.declared.wish.Wish.{Wish}
 use Rattle.peer_wish.specs.Tickets.{asks_in_body, asks_in, wish_by, wishes_by}
 use Rattle.peer_wish.proofs.TicketLemmas.{asks_in-append, flights-append, wishes-append}
 use Rattle.peer_exchange.specs.AnsweringReady.{AnswersTicket, AnswersReady}

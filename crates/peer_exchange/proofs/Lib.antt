@@ -4,3 +4,4 @@ pub mod ExchangeEndLemmas
 pub mod ExchangeLemmas
 pub mod HoldingLemmas
 pub mod IntakeLemmas
+pub mod SeatLemmas

@@ -6,6 +6,7 @@ use Rattle.peer_flight.specs.declared.claim.Claim.TheVariants as claim
 use Rattle.peer_lane.specs.declared.ticket.Body.{Body}
 use Rattle.peer_lane.specs.declared.ticket.Body.TheVariants as ticket
 use Rattle.peer_lane.specs.declared.ticket.Ticket.{Ticket}
+use Rattle.peer_reply.specs.declared.wish.ReplyForm.{ReplyForm}
 use Rattle.peer_reply.specs.declared.wish.Wish.{Wish}
 use Rattle.peer_wish.specs.Replies.{IsReply}
 use Rattle.peer_wish.specs.Strangers.{IsOwn}
@@ -41,19 +42,21 @@ module _ {S : Type 0} where
 
   -- this fill came for the claim, and a reply to the claim's wish was put: it was made good exactly where the fill is of
   -- another place; or memory was refused
-  abbrev pub AnswersFilled : {E : Type 0} → (ℕ → List ℕ → Answer → Type 0) → Claim S → Filled → Bool → Bool → List ℕ → List ℕ → Result Answered E → Type 0
-  AnswersFilled answers c fill closing bare old new (Ok answered.Put) = IsReplyPut answers (claim_wish c closing bare) old new × IsOwn c fill
-  AnswersFilled answers c fill closing bare old new (Ok answered.MadeGood) = IsReplyPut answers (claim_wish c closing bare) old new × ¬ (IsOwn c fill)
-  AnswersFilled answers c fill closing bare old new (Ok answered.Waits) = ⊥
-  AnswersFilled answers c fill closing bare old new (Err fault) = new ≡ old
+  abbrev pub AnswersFilled : {E : Type 0} → (ℕ → List ℕ → Answer → Type 0) → Claim S → Filled → ReplyForm → List ℕ → List ℕ
+      → Result Answered E → Type 0
+  AnswersFilled answers c fill form old new (Ok answered.Put) = IsReplyPut answers (claim_wish c form) old new × IsOwn c fill
+  AnswersFilled answers c fill form old new (Ok answered.MadeGood) = IsReplyPut answers (claim_wish c form) old new × ¬ (IsOwn c fill)
+  AnswersFilled answers c fill form old new (Ok answered.Waits) = ⊥
+  AnswersFilled answers c fill form old new (Err fault) = new ≡ old
 
   -- a reply to the wish of this claim was put, and made good only where it is a flight; or its fill is not there yet, or
   -- memory was refused
-  abbrev pub AnswersClaim : {E : Type 0} → (ℕ → List ℕ → Answer → Type 0) → Claim S → Bool → Bool → List ℕ → List ℕ → Result Answered E → Type 0
-  AnswersClaim answers c closing bare old new (Ok answered.Put) = IsReplyPut answers (claim_wish c closing bare) old new
-  AnswersClaim answers c closing bare old new (Ok answered.MadeGood) = IsReplyPut answers (claim_wish c closing bare) old new × (is_pending c ≡ true)
-  AnswersClaim answers c closing bare old new (Ok answered.Waits) = (new ≡ old) × (is_pending c ≡ true)
-  AnswersClaim answers c closing bare old new (Err fault) = new ≡ old
+  abbrev pub AnswersClaim : {E : Type 0} → (ℕ → List ℕ → Answer → Type 0) → Claim S → ReplyForm → List ℕ → List ℕ
+      → Result Answered E → Type 0
+  AnswersClaim answers c form old new (Ok answered.Put) = IsReplyPut answers (claim_wish c form) old new
+  AnswersClaim answers c form old new (Ok answered.MadeGood) = IsReplyPut answers (claim_wish c form) old new × (is_pending c ≡ true)
+  AnswersClaim answers c form old new (Ok answered.Waits) = (new ≡ old) × (is_pending c ≡ true)
+  AnswersClaim answers c form old new (Err fault) = new ≡ old
 
   -- a reply to this ticket was put, and made good only where it is of a flight; or its fill is not there yet, or memory was
   -- refused

@@ -65,7 +65,8 @@ module _ {S : Type 0} where
 
   -- where what is held begins with this wish, whatever came and was sent still is what came and was sent
   abbrev pub KeepsWhereNext : (ℕ → List ℕ → Answer → Type 0) → Wish → ExchangeState S → ExchangeState S → Type 0
-  KeepsWhereNext answers wish old new = (numbers : List ℕ → Option ℕ) → IsNextWish numbers old.intake.held wish → Keeps numbers answers old new
+  KeepsWhereNext answers wish old new =
+      (numbers : List ℕ → Option ℕ) → IsNextWish numbers old.intake.held wish → Keeps numbers answers old new
 
   -- this ticket came to wait, and was counted
   pub record AddsTicket (old new : ExchangeState S) (asks asks' : AskCounts) : Type 0 where
@@ -76,8 +77,8 @@ module _ {S : Type 0} where
 
   -- a ticket came to wait, or there is none to ask, or it was given up
   abbrev pub AsksOne : {J : Type 0} → ExchangeState S → ExchangeState S → AskCounts → AskCounts → Option J → Result Bool GivenUp → Type 0
-  AsksOne old new asks asks' left (Ok true) = AddsTicket old new asks asks' × (is_given_up new.intake.stage ≡ is_given_up old.intake.stage)
-      × (new.waits_for_job ≡ false)
+  AsksOne old new asks asks' left (Ok true) = AddsTicket old new asks asks'
+      × (is_given_up new.intake.stage ≡ is_given_up old.intake.stage) × (new.waits_for_job ≡ false)
   AsksOne old new asks asks' left (Ok false) = (new.waiting.items ≡ old.waiting.items) × CountsAsks 0 asks asks'
       × (is_given_up new.intake.stage ≡ is_given_up old.intake.stage) × IsJudgedThrough new left
   AsksOne old new asks asks' left (Err why) = CountsAsks 0 asks asks' × IsGivenUpFor new.intake.stage why

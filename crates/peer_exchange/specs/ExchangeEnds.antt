@@ -39,5 +39,7 @@ module _ (numbers : List ℕ → Option ℕ) (answers : ℕ → List ℕ → Ans
   IsEnd e (Some end) = (is_over e ≡ true) × EndsWith end
 
 -- where these are the numbers, it ended so under these answers
-abbrev pub SaysEnd : {S : Type 0} → (List ℕ → Option ℕ) → (ℕ → List ℕ → Answer → Type 0) → (ℕ → List ℕ → Answer → Type 0) → ExchangeState S → Option End → Type 0
-SaysEnd numbers answers under e result = (came sent : List ℕ) → Upholds numbers answers came sent [] e → IsEnd numbers under came sent e result
+abbrev pub SaysEnd : {S : Type 0} → (List ℕ → Option ℕ) → (ℕ → List ℕ → Answer → Type 0) → (ℕ → List ℕ → Answer → Type 0)
+    → ExchangeState S → Option End → Type 0
+SaysEnd numbers answers under e result =
+    (came sent : List ℕ) → Upholds numbers answers came sent [] e → IsEnd numbers under came sent e result

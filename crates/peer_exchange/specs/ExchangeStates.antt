@@ -65,17 +65,20 @@ module _ {S : Type 0} where
   -- whatever came and was sent, these bytes came behind it ..
   abbrev pub Receives : (ℕ → List ℕ → Answer → Type 0) → ExchangeState S → ExchangeState S → List ℕ → Type 0
   Receives answers old new more =
-      (numbers : List ℕ → Option ℕ) (came sent : List ℕ) → Upholds numbers answers came sent [] old → Upholds numbers answers (came ++ more) sent [] new
+      (numbers : List ℕ → Option ℕ) (came sent : List ℕ) → Upholds numbers answers came sent [] old
+      → Upholds numbers answers (came ++ more) sent [] new
 
   -- .. these bytes were sent behind it ..
   abbrev pub Sends : (ℕ → List ℕ → Answer → Type 0) → ExchangeState S → ExchangeState S → List ℕ → Type 0
   Sends answers old new more =
-      (numbers : List ℕ → Option ℕ) (came sent : List ℕ) → Upholds numbers answers came sent [] old → Upholds numbers answers came (sent ++ more) [] new
+      (numbers : List ℕ → Option ℕ) (came sent : List ℕ) → Upholds numbers answers came sent [] old
+      → Upholds numbers answers came (sent ++ more) [] new
 
   -- .. or wishes that were judged last are given up
   abbrev pub GivesUp : (ℕ → List ℕ → Answer → Type 0) → ExchangeState S → ExchangeState S → Type 0
   GivesUp answers old new =
-      (numbers : List ℕ → Option ℕ) (came sent : List ℕ) (more : List Wish) → Upholds numbers answers came sent more old → Upholds numbers answers came sent [] new
+      (numbers : List ℕ → Option ℕ) (came sent : List ℕ) (more : List Wish) → Upholds numbers answers came sent more old
+      → Upholds numbers answers came sent [] new
 
   -- at most 16,384 bytes of a head are held and 64 tickets wait; and what was sent and what is unsent are the replies to the
   -- first wishes of what came, of which fewer than 65,536 bytes are unsent, or so without the last reply

@@ -1,5 +1,5 @@
 -- What was judged of the bytes that came to a connection.
-use Rattle.std.specs.Prelude.{◌≡◌, ℕ, Bool, true, false, List, [], ◌∷◌, ◌++◌, length, Option}
+use Rattle.std.specs.Prelude.{◌≡◌, ℕ, Bool, true, false, List, [], ◌∷◌, ◌++◌, length, Option, Result, Ok, Err}
 use Rattle.peer_head.specs.Blocks.{IsFrontLength}
 use Rattle.peer_reply.specs.declared.wish.Wish.{Wish}
 use Rattle.peer_wish.specs.Wishes.{OpenWishes, ClosedWishes, AreFirst, AreAll, closes_after}
@@ -27,6 +27,11 @@ is_given_up _ = false
 -- it was given up for this
 abbrev pub IsGivenUpFor : Stage → GivenUp → Type 0
 IsGivenUpFor st why = st ≡ stage.GivenUp why
+
+-- it was given up where it was before, or now for this
+abbrev pub GoesOn : {T : Type 0} → Stage → Stage → Result T GivenUp → Type 0
+GoesOn old new (Ok value) = is_given_up new ≡ is_given_up old
+GoesOn old new (Err why) = IsGivenUpFor new why
 
 -- the stage behind the client's end
 abbrev pub told : Stage → Stage
@@ -72,7 +77,8 @@ JudgesMore old new more =
 
 -- .. or the last wishes are dropped
 abbrev pub JudgesFewer : Intake → Intake → Type 0
-JudgesFewer old new = (numbers : List ℕ → Option ℕ) (came : List ℕ) (ws vs : List Wish) → Judged numbers came (ws ++ vs) old → Judged numbers came ws new
+JudgesFewer old new = (numbers : List ℕ → Option ℕ) (came : List ℕ) (ws vs : List Wish)
+    → Judged numbers came (ws ++ vs) old → Judged numbers came ws new
 
 -- one wish more was given
 abbrev pub JudgesOne : (List ℕ → Option ℕ) → Intake → Intake → Wish → Type 0

@@ -1,7 +1,8 @@
 -- What would let an exchange go on.
-use Rattle.std.specs.Prelude.{false, ◌&&◌, not, ◌==◌, length}
+use Rattle.std.specs.Prelude.{◌≡◌, Option, true, false, ◌&&◌, not, ◌==◌, length}
 use Rattle.std.specs.VecDeque.{deque_len}
-use Rattle.peer_exchange.specs.ExchangeStates.{takes_bytes, unsent, has_much_output, is_full}
+use Rattle.peer_exchange.specs.Asking.{IsJudgedThrough}
+use Rattle.peer_exchange.specs.ExchangeStates.{takes_bytes, unsent, has_much_output, is_full, is_over}
 use Rattle.peer_exchange.specs.declared.exchange_state.ExchangeState.{ExchangeState}
 use Rattle.peer_exchange.specs.declared.rest.Rest.{Rest}
 
@@ -18,3 +19,10 @@ rest_of e = record {
 -- nothing would
 abbrev pub no_rest : Rest
 no_rest = record { bytes = false; fill = false; output = false; job = false }
+
+-- what is held was judged as far as it can be, with this job left with the seat, and this is what would let it go on: where
+-- nothing would, it is over
+pub record RestsAt {S J : Type 0} (e : ExchangeState S) (left : Option J) (rest : Rest) : Type 0 where
+  pub through : IsJudgedThrough e left
+  pub told : rest ≡ rest_of e
+  pub over : rest ≡ no_rest → is_over e ≡ true

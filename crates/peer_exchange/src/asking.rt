@@ -1,19 +1,22 @@
-//! Asking for the next request that is held.
+//! Asking for the requests that are held.
 //!
-//! It stands on the wishes of `peer_wish` and the pool of `peer_fill`. It promises the ticket of the next wish, with a claim
-//! on the fill of its group and key, or why there is none. The key is lent to the pool, which copies it where it must.
+//! It stands on the wishes of `peer_wish` and the pool of `peer_fill`. It promises the tickets of the next wishes, each with a
+//! claim on the fill of its group and key, or why there is none. The key is lent to the pool, which copies it where it must.
 ghost use Rattle.std.specs.Prelude.{◌≡◌, IfNone, IfOk, IfSome, IsSome};
+ghost use Rattle.peer_fill.specs.Claiming.{KeepsSeat};
 ghost use Rattle.peer_fill.specs.Pools.{source_of, IsConnSeatOf};
-ghost use Rattle.peer_fill.specs.Seats.{asks_of, conn_parts, left_of};
+ghost use Rattle.peer_fill.specs.Seats.{asks_of, left_of};
 ghost use Rattle.peer_wish.specs.Known.{IsKnown};
 ghost use Rattle.peer_wish.specs.Tickets.{wish_by};
 ghost use Rattle.peer_exchange.specs.Asking.{AsksHeld, CountsWish};
 
+use crate::exchange_state::ExchangeState;
 use crate::intake::{GivenUp, Intake};
 use peer_fill::{ConnSeat, Pool};
 use peer_flight::AskFault;
 use peer_head::FieldPlaces;
 use peer_lane::{Body, Ticket};
+use peer_outbox::MAX_WAITING;
 use peer_source::{Names, Source};
 use peer_wish::{LentBody, LentWish, Next, next_wish};
 use std::alloc::{AllocError, Global};
@@ -56,8 +59,7 @@ pub(crate) fn ask_first<S: Source, L: Ledger, H: Wait>(
 ) -> Asked<S>
     requires seat { IsConnSeatOf pool.now seat.old }
     requires names { names.now ≡ source_of pool.now }
-    ensures seat { IsConnSeatOf pool.now seat.new }
-    ensures parts { conn_parts seat.new ≡ conn_parts seat.old }
+    ensures seat { KeepsSeat pool.now seat.old seat.new }
     ensures asks { AsksHeld (S.number_of names.now) intake.now.held (asks_of seat.old) (asks_of seat.new) (left_of seat.new) result }
 {
     let alloc = intake.alloc;
@@ -84,8 +86,7 @@ fn ticket_of<S: Source, L: Ledger, H: Wait>(
 ) -> Result<Option<Ticket<S>>, AskFault>
     requires seat { IsConnSeatOf pool.now seat.old }
     requires known { IsKnown (S.count (source_of pool.now)) wish.body }
-    ensures seat { IsConnSeatOf pool.now seat.new }
-    ensures parts { conn_parts seat.new ≡ conn_parts seat.old }
+    ensures seat { KeepsSeat pool.now seat.old seat.new }
     ensures ticket { IfOk result (λ asked. IfSome asked (λ t. wish_by t ≡ wish.entry)) }
     ensures counted { CountsWish wish.entry.body (asks_of seat.old) (asks_of seat.new) result }
     ensures not_now { IfOk result (λ asked. IfNone asked (IsSome (left_of seat.new))) }
@@ -109,4 +110,108 @@ fn ticket_of<S: Source, L: Ledger, H: Wait>(
         bare,
         body,
     }))
+}
+
+impl<S: Source> ExchangeState<S> {
+    ghost use Rattle.std.specs.Prelude.{◌≡◌, ◌<◌, ℕ, List, Option, true, false, OnOk};
+    ghost use Rattle.std.specs.VecDeque.{deque_len, deque_capacity};
+    ghost use Rattle.peer_head.specs.Blocks.{IsFrontLength};
+    ghost use Rattle.peer_fill.specs.Claiming.{KeepsSeat};
+    ghost use Rattle.peer_fill.specs.Pools.{source_of, IsConnSeatOf};
+    ghost use Rattle.peer_fill.specs.Seats.{asks_of, left_of};
+    ghost use Rattle.peer_wish.specs.Allowed.{allows};
+    ghost use Rattle.peer_wish.specs.Nexts.{IsNextWish};
+    ghost use Rattle.peer_wish.specs.Tickets.{wish_by};
+    ghost use Rattle.peer_exchange.specs.Asking.{AddsTickets, AsksOne, Enqueues, IsJudgedThrough, KeepsWhereNext};
+    ghost use Rattle.peer_exchange.specs.ExchangeStates.{Keeps};
+    ghost use Rattle.peer_exchange.specs.Intakes.{GoesOn, is_judging};
+
+    /// Judges what is held, and asks the pool, until it is full.
+    pub(crate) fn ask_held<L: Ledger, H: Wait>(
+        &mut self,
+        rt: &H,
+        pool: &Pool<S, L>,
+        seat: &mut ConnSeat<S, L>,
+        names: &Names<'_, S>,
+    ) -> Result<(), GivenUp>
+        requires seat { IsConnSeatOf pool.now seat.old }
+        requires names { names.now ≡ source_of pool.now }
+        ensures seat { KeepsSeat pool.now seat.old seat.new }
+        ensures keeps { Keeps (S.number_of names.now) (allows S.allowed) self.old self.new }
+        ensures tickets { AddsTickets self.old self.new (asks_of seat.old) (asks_of seat.new) result }
+        ensures through { OnOk result (IsJudgedThrough self.new (left_of seat.new)) }
+        ensures goes_on { GoesOn self.old.intake.stage self.new.intake.stage result }
+        ensures window { self.new.window.tickets ≡ self.old.window.tickets }
+    {
+        let mut places = FieldPlaces::new();
+        self.waits_for_job = false;
+        for _ in 0..MAX_WAITING {
+            match self.ask_next(rt, pool, seat, names, &mut places) {
+                Ok(true) => {}
+                Ok(false) => return Ok(()),
+                Err(why) => return Err(why),
+            }
+        }
+        Ok(())
+    }
+
+    // Asks for the next request, and has its ticket wait. Whether there was one.
+    fn ask_next<L: Ledger, H: Wait>(
+        &mut self,
+        rt: &H,
+        pool: &Pool<S, L>,
+        seat: &mut ConnSeat<S, L>,
+        names: &Names<'_, S>,
+        places: &mut FieldPlaces,
+    ) -> Result<bool, GivenUp>
+        requires seat { IsConnSeatOf pool.now seat.old }
+        requires names { names.now ≡ source_of pool.now }
+        requires now { self.old.waits_for_job ≡ false }
+        ensures seat { KeepsSeat pool.now seat.old seat.new }
+        ensures keeps { Keeps (S.number_of names.now) (allows S.allowed) self.old self.new }
+        ensures asks { AsksOne self.old self.new (asks_of seat.old) (asks_of seat.new) (left_of seat.new) result }
+        ensures window { self.new.window.tickets ≡ self.old.window.tickets }
+    {
+        if self.is_full() || !self.intake.is_judging() {
+            return Ok(false);
+        }
+        if self.waiting.reserve(1).is_err() {
+            self.give_up(GivenUp::Memory);
+            return Err(GivenUp::Memory);
+        }
+        match ask_first(rt, pool, seat, names, &self.intake, places) {
+            Asked::Ticket(ticket, len) => {
+                self.enqueue(ticket, len);
+                Ok(true)
+            }
+            Asked::Need => {
+                self.intake.need();
+                Ok(false)
+            }
+            Asked::NotNow => {
+                self.waits_for_job = true;
+                Ok(false)
+            }
+            Asked::Refused(why) => {
+                self.give_up(why);
+                Err(why)
+            }
+        }
+    }
+
+    // The ticket of the next request waits, whose block takes `len` bytes.
+    fn enqueue(&mut self, ticket: Ticket<S>, len: usize)
+        requires next { (numbers : List ℕ → Option ℕ) × IsNextWish numbers self.old.intake.held (wish_by ticket) }
+        requires front { IsFrontLength self.old.intake.held len }
+        requires few { deque_len self.old.waiting < MAX_WAITING }
+        requires room { deque_len self.old.waiting < deque_capacity self.old.waiting }
+        requires judging { is_judging self.old.intake.stage ≡ true }
+        ensures upholds { KeepsWhereNext (allows S.allowed) (wish_by ticket) self.old self.new }
+        ensures enqueues { Enqueues ticket self.old self.new }
+    {
+        let closing = self.intake.closes(ticket.closing);
+        self.intake.give(len, closing);
+        self.waiting
+            .push_back_reserved(Ticket { closing, ..ticket });
+    }
 }

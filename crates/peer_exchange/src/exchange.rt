@@ -29,19 +29,20 @@ pub struct Exchange<'p, S: Source> {
 }
 
 impl<'p, S: Source> Exchange<'p, S> {
-    ghost use Rattle.std.specs.Prelude.{◌≡◌, ◌≤◌, true, [], ◌++◌, length, min, take, IfErr, IfOk, OnErr, OnOk, Ok};
+    ghost use Rattle.std.specs.Prelude.{◌≡◌, ◌≤◌, true, [], ◌++◌, length, min, take, IfErr, IfOk, OnOk};
+    ghost use Rattle.peer_fill.specs.Claiming.{KeepsSeat};
     ghost use Rattle.peer_fill.specs.Pools.{source_of, IsConnSeatOf};
-    ghost use Rattle.peer_fill.specs.Seats.{asks_of, conn_parts, left_of};
+    ghost use Rattle.peer_fill.specs.Seats.{asks_of, left_of};
     ghost use Rattle.peer_wish.specs.Allowed.{allows};
     ghost use Rattle.peer_exchange.specs.AnsweringReady.{AnswersReady, IsAnsweredThrough};
-    ghost use Rattle.peer_exchange.specs.Asking.{AddsTickets, IsJudgedThrough};
+    ghost use Rattle.peer_exchange.specs.Asking.{AddsTickets};
     ghost use Rattle.peer_exchange.specs.ExchangeEnds.{IsEnd};
     ghost use Rattle.peer_exchange.specs.ExchangeStates.{AreSent, HoldsLittle, is_over, lent, room_of, takes_bytes, unsent};
     ghost use Rattle.peer_outbox.specs.Outboxes.{IsFrontOf};
-    ghost use Rattle.peer_exchange.specs.Histories.{KeepsHistories};
+    ghost use Rattle.peer_exchange.specs.Histories.{Came, KeepsHistories};
     ghost use Rattle.peer_exchange.specs.Holdings.{Holds};
-    ghost use Rattle.peer_exchange.specs.Intakes.{IsGivenUpFor, is_given_up, told};
-    ghost use Rattle.peer_exchange.specs.Rests.{no_rest, rest_of};
+    ghost use Rattle.peer_exchange.specs.Intakes.{GoesOn, IsGivenUpFor, told};
+    ghost use Rattle.peer_exchange.specs.Rests.{RestsAt, rest_of};
 
     /// No byte came, and none was sent. It takes no memory yet.
     pub fn new(alloc: Global, names: Names<'p, S>) -> Exchange<'p, S>
@@ -87,8 +88,7 @@ impl<'p, S: Source> Exchange<'p, S> {
         requires { takes_bytes self.old.state ≡ true }
         ensures count { IfOk result (λ n. n ≡ min (length bytes.now) (room_of self.old.state)) }
         ensures names { self.new.names ≡ self.old.names }
-        ensures came { IfOk result (λ n. self.new.came.bytes ≡ self.old.came.bytes ++ take n bytes.now) }
-        ensures none { OnErr result (self.new.came.bytes ≡ self.old.came.bytes) }
+        ensures came { Came self.old.came.bytes self.new.came.bytes bytes.now result }
         ensures sent { self.new.sent.bytes ≡ self.old.sent.bytes }
         ensures goes_on { OnOk result (takes_bytes self.new.state ≡ true) }
         ensures given_up { IfErr result (IsGivenUpFor self.new.state.intake.stage) }
@@ -145,15 +145,11 @@ impl<'p, S: Source> Exchange<'p, S> {
     ) -> Result<Rest, GivenUp>
         requires seat { IsConnSeatOf pool.now seat.old }
         requires names { self.old.names ≡ source_of pool.now }
-        ensures seat { IsConnSeatOf pool.now seat.new }
-        ensures parts { conn_parts seat.new ≡ conn_parts seat.old }
+        ensures seat { KeepsSeat pool.now seat.old seat.new }
         ensures histories { KeepsHistories self.old self.new }
         ensures tickets { AddsTickets self.old.state self.new.state (asks_of seat.old) (asks_of seat.new) result }
-        ensures through { OnOk result (IsJudgedThrough self.new.state (left_of seat.new)) }
-        ensures rest { IfOk result (λ rest. rest ≡ rest_of self.new.state) }
-        ensures over { result ≡ Ok no_rest → is_over self.new.state ≡ true }
-        ensures goes_on { OnOk result (is_given_up self.new.state.intake.stage ≡ is_given_up self.old.state.intake.stage) }
-        ensures given_up { IfErr result (IsGivenUpFor self.new.state.intake.stage) }
+        ensures rest { IfOk result (RestsAt self.new.state (left_of seat.new)) }
+        ensures goes_on { GoesOn self.old.state.intake.stage self.new.state.intake.stage result }
         ensures window { self.new.state.window.tickets ≡ self.old.state.window.tickets }
     {
         match self.state.ask_held(rt, pool, seat, &self.names) {
@@ -169,8 +165,7 @@ impl<'p, S: Source> Exchange<'p, S> {
         seat: &mut ConnSeat<S, L>,
     ) -> Result<(), GivenUp>
         requires { IsConnSeatOf pool.now seat.old }
-        ensures seat { IsConnSeatOf pool.now seat.new }
-        ensures parts { conn_parts seat.new ≡ conn_parts seat.old }
+        ensures seat { KeepsSeat pool.now seat.old seat.new }
         ensures histories { KeepsHistories self.old self.new }
         ensures answers { AnswersReady self.old.state self.new.state (asks_of seat.old) (asks_of seat.new) result }
         ensures through { OnOk result (IsAnsweredThrough self.new.state) }

@@ -5,6 +5,7 @@
 //! the replies to what came; and once it is over, which replies were sent.
 #![tactic(auto)]
 
+mod answering;
 mod asking;
 mod exchange;
 mod exchange_state;

@@ -15,7 +15,7 @@ use peer_fill::Pool;
 use peer_flight::Claim;
 use peer_lane::{Body, Ticket};
 use peer_outbox::Outbox;
-use peer_reply::{Fault, HeadRoom, Reply};
+use peer_reply::{Fault, HeadRoom, Reply, ReplyForm};
 use peer_source::{Fill, Outcome, Source};
 use peer_view::ByteView;
 use std::alloc::{AllocError, Global};
@@ -98,14 +98,16 @@ impl Outgoing {
     ) -> Result<Answered, AllocError>
         ensures { Answers (allows S.allowed) ticket.now self.old.out.bytes self.new.out.bytes result }
     {
+        let form = ReplyForm {
+            closing: ticket.closing,
+            bare: ticket.bare,
+        };
         match &ticket.body {
-            Body::Fault(fault) => {
-                match self.put_fault(fault, ticket.closing, ticket.bare) {
-                    Ok(()) => Ok(Answered::Put),
-                    Err(fault) => Err(fault),
-                }
-            }
-            Body::Claim(claim) => self.answer_claim(pool, claim, ticket.closing, ticket.bare),
+            Body::Fault(fault) => match self.put_fault(fault, form) {
+                Ok(()) => Ok(Answered::Put),
+                Err(fault) => Err(fault),
+            },
+            Body::Claim(claim) => self.answer_claim(pool, claim, form),
         }
     }
 
@@ -114,13 +116,12 @@ impl Outgoing {
         &mut self,
         pool: &Pool<S, L>,
         claim: &Claim<S>,
-        closing: bool,
-        bare: bool,
+        form: ReplyForm,
     ) -> Result<Answered, AllocError>
-        ensures { AnswersClaim (allows S.allowed) claim.now closing bare self.old.out.bytes self.new.out.bytes result }
+        ensures { AnswersClaim (allows S.allowed) claim.now form self.old.out.bytes self.new.out.bytes result }
     {
         if let Claim::Ready(fill) = claim {
-            return match self.put_fill(fill, closing, bare) {
+            return match self.put_fill(fill, form) {
                 Ok(()) => Ok(Answered::Put),
                 Err(fault) => Err(fault),
             };
@@ -128,7 +129,7 @@ impl Outgoing {
         let Some(fill) = look_once(claim) else {
             return Ok(Answered::Waits);
         };
-        self.put_filled(pool, claim, fill, closing, bare)
+        self.put_filled(pool, claim, fill, form)
     }
 
     // Puts the reply of a claim whose fill came, which is made good where the fill is of another place than the claim's.
@@ -137,17 +138,16 @@ impl Outgoing {
         pool: &Pool<S, L>,
         claim: &Claim<S>,
         fill: &Fill<S>,
-        closing: bool,
-        bare: bool,
+        form: ReplyForm,
     ) -> Result<Answered, AllocError>
-        ensures { AnswersFilled (allows S.allowed) claim.now fill.now closing bare self.old.out.bytes self.new.out.bytes result }
+        ensures { AnswersFilled (allows S.allowed) claim.now fill.now form self.old.out.bytes self.new.out.bytes result }
     {
         match pool.refill(self.alloc, claim, fill) {
-            Ok(None) => match self.put_fill(fill, closing, bare) {
+            Ok(None) => match self.put_fill(fill, form) {
                 Ok(()) => Ok(Answered::Put),
                 Err(fault) => Err(fault),
             },
-            Ok(Some(own)) => match self.put_fill(&own, closing, bare) {
+            Ok(Some(own)) => match self.put_fill(&own, form) {
                 Ok(()) => Ok(Answered::MadeGood),
                 Err(fault) => Err(fault),
             },
@@ -156,29 +156,24 @@ impl Outgoing {
     }
 
     // Puts the reply of a fill.
-    fn put_fill<S: Source>(
-        &mut self,
-        fill: &Fill<S>,
-        closing: bool,
-        bare: bool,
-    ) -> Result<(), AllocError>
-        ensures { PutsReplyTo (allows S.allowed) (fill_wish fill.now closing bare) self.old.out.bytes self.new.out.bytes result }
+    fn put_fill<S: Source>(&mut self, fill: &Fill<S>, form: ReplyForm) -> Result<(), AllocError>
+        ensures { PutsReplyTo (allows S.allowed) (fill_wish fill.now form) self.old.out.bytes self.new.out.bytes result }
     {
         fill.law();
-        let Some(reply) = Reply::of_fill(&mut self.head, fill, closing, bare) else {
+        let Some(reply) = Reply::of_fill(&mut self.head, fill, form.closing, form.bare) else {
             return Err(AllocError);
         };
-        match value_of(fill, bare) {
+        match value_of(fill, form.bare) {
             Some(value) => self.out.put_value(&reply.parts(), value),
             None => self.out.put(&reply.parts()),
         }
     }
 
     // Puts the reply to a fault.
-    fn put_fault(&mut self, fault: &Fault, closing: bool, bare: bool) -> Result<(), AllocError>
-        ensures { PutsText (fault_reply closing bare fault.now) self.old.out.bytes self.new.out.bytes result }
+    fn put_fault(&mut self, fault: &Fault, form: ReplyForm) -> Result<(), AllocError>
+        ensures { PutsText (fault_reply form.closing form.bare fault.now) self.old.out.bytes self.new.out.bytes result }
     {
-        let reply = Reply::of_fault(&mut self.head, fault, closing, bare);
+        let reply = Reply::of_fault(&mut self.head, fault, form.closing, form.bare);
         self.out.put(&reply.parts())
     }
 }

@@ -6,6 +6,7 @@ use Rattle.std.specs.declared.sync.ledger.Ledger as Ledger
 use Rattle.crossbeam_queue.specs.Passes.{view}
 use Rattle.peer_flight.specs.Tables.{state_of}
 use Rattle.peer_fill.specs.Jobs.{HasInOrder}
+use Rattle.peer_fill.specs.Totals.{ArePushedBy, ArePoppedBy, IsTotalOfConns, IsTotalOfFills}
 use Rattle.peer_fill.specs.declared.counts.AskCounts.{AskCounts}
 use Rattle.peer_fill.specs.declared.counts.FillCounts.{FillCounts}
 use Rattle.peer_fill.specs.declared.jobs.Ranked.{Ranked}
@@ -39,6 +40,13 @@ module _ {S L : Type 0} {g : Source.Ghosts S} {h : Ledger.Ghosts L} where
 
   abbrev pub popped_in : Closed S L g h → List Ranked
   popped_in closed = (view closed.totals.pass).popped
+
+  -- an ended pool has what these seats counted, pushed and popped
+  pub record Gathers (workers : List (FillSeat S L g h)) (clients : List (ConnSeat S L g)) (closed : Closed S L g h) : Type 0 where
+    pub asks : IsTotalOfConns clients (asks_in closed)
+    pub fills : IsTotalOfFills workers (fills_in closed)
+    pub pushed : ArePushedBy clients (pushed_in closed)
+    pub popped : ArePoppedBy workers (popped_in closed)
 
   -- so many jobs are left: those that are queued, oldest first, and those that were left with seats
   abbrev pub LeavesJobs : Closed S L g h → ℕ → Type 0

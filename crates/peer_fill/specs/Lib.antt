@@ -8,4 +8,7 @@ pub mod Asks
 pub mod Totals
 pub mod Opens
 pub mod Pools
+pub mod Claiming
+pub mod Openings
+pub mod Gatherings
 pub mod Closes

@@ -34,6 +34,16 @@ module _ {S L : Type 0} {g : Source.Ghosts S} {h : Ledger.Ghosts L} where
   abbrev pub ArePoppedBy : List (FillSeat S L g h) → List Ranked → Type 0
   ArePoppedBy seats all = (w : Ranked → ℕ) → weigh w all ≡ sum_by (λ s. weigh w (popped_of s)) seats
 
+  -- the report tells the sums of what these seats counted
+  pub record AddsUp (workers : List (FillSeat S L g h)) (clients : List (ConnSeat S L g)) (report : Report) : Type 0 where
+    pub asked : report.asked ≡ sum_by (λ s. (asks_of s).asked) clients
+    pub hits : report.hits ≡ sum_by (λ s. (asks_of s).hits) clients
+    pub led : report.led ≡ sum_by (λ s. (asks_of s).led) clients
+    pub joined : report.joined ≡ sum_by (λ s. (asks_of s).joined) clients
+    pub strangers : report.strangers ≡ sum_by (λ s. (asks_of s).strangers) clients
+    pub calls : report.calls ≡ sum_by (λ s. (fills_of s).calls) workers
+    pub rehits : report.rehits ≡ sum_by (λ s. (fills_of s).rehits) workers
+
 -- the report tells these counts
 pub record Reports (report : Report) (asks : AskCounts) (fills : FillCounts) : Type 0 where
   pub asked : report.asked ≡ asks.asked

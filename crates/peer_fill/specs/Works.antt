@@ -4,8 +4,8 @@ use Rattle.peer_source.specs.Answers.{Answer, Filled}
 use Rattle.peer_flight.specs.Flights.{FlightId}
 use Rattle.peer_fill.specs.Caches.{IsFoundFor}
 use Rattle.peer_fill.specs.declared.counts.FillCounts.{FillCounts}
-use Rattle.peer_fill.specs.declared.work.Made.{Made}
-use Rattle.peer_fill.specs.declared.work.Made.TheVariants.{Called, Rehit}
+use Rattle.peer_fill.specs.declared.making.Made.{Made}
+use Rattle.peer_fill.specs.declared.making.Made.TheVariants.{Called, Rehit}
 
 -- the fill of this group and key: a value that was found before, or an answer of the source that was called
 abbrev pub IsMadeFor : {S : Type 0} → (ℕ → List ℕ → Answer → Type 0) → ℕ → List ℕ → Made S → Type 0

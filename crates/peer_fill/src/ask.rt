@@ -1,28 +1,26 @@
-//! What connections do with a pool: they ask, wait for fills, and make up for the fills of strangers.
-ghost use Rattle.std.specs.Prelude.{◌≡◌, ◌+◌, ◌<◌, ◌^◌, ◌↔◌, Err, None, Ok, Some, IfNone, IfOk};
-ghost use Rattle.std.specs.Prelude.{IfSome, IsSome, IsTrue, MatchOption, OnErr, OnOk, option_map};
-ghost use Rattle.crossbeam_queue.specs.Passes.{view, IsPassOf};
-ghost use Rattle.peer_flight.specs.Claims.{claim_place, Looked};
+//! How connections ask: a claim on a value that is kept, or on a flight, which is joined or led.
+//!
+//! It stands on the caches, the flights of `peer_flight` and the queue of jobs. It promises that a claim is of the group and
+//! the key that were asked for, that one which is ready shows a value that was found for them, and that it is counted once.
+ghost use Rattle.std.specs.Prelude.{◌≡◌, ◌+◌, ◌<◌, ◌^◌, Err, None, IfNone, IfOk, IfSome, IsSome, OnErr, OnOk, option_map};
 ghost use Rattle.peer_flight.specs.SingleFlight.{place_of};
-ghost use Rattle.peer_fill.specs.Asks.{CountsAsk, IsFoundIfReady};
-ghost use Rattle.peer_fill.specs.Jobs.{Pushed};
-ghost use Rattle.peer_fill.specs.Seats.{asks_of, conn_parts, left_of, IsUnchanged};
+ghost use Rattle.peer_fill.specs.Seats.{asks_of, left_of, IsUnchanged};
 
 use crate::caches::Caches;
-use crate::jobs::{Hand, Job, Push};
+use crate::jobs::Job;
 use crate::pool::Pool;
 use crate::seats::{ConnSeat, MAX_COUNT};
-use crossbeam_queue::Pass;
 use peer_flight::{Ask, AskFault, Claim};
-use peer_source::{Fill, GroupId, Source};
+use peer_source::{GroupId, Source};
 use peer_view::ByteView;
-use peer_wait::{Notice, Waiter, lock};
+use peer_wait::lock;
 use std::alloc::{AllocError, Global};
 use std::sync::Wait;
 use std::sync::ledger::Ledger;
 
 impl<S: Source, L: Ledger> ConnSeat<S, L> {
     ghost use Rattle.peer_fill.specs.Caches.{kept_fill};
+    ghost use Rattle.peer_fill.specs.Claiming.{GivesClaim};
     ghost use Rattle.peer_fill.specs.Seats.{IsSameConn};
     ghost use Rattle.peer_flight.specs.declared.claim.Claim.TheVariants.{Ready};
 
@@ -35,9 +33,8 @@ impl<S: Source, L: Ledger> ConnSeat<S, L> {
     ) -> Result<Option<Claim<S>>, AllocError>
         requires most { (asks_of self.old).asked < 2 ^ 56 }
         ensures own { IfOk result (λ found. found ≡ option_map Ready (kept_fill caches.old.each.items group.number key.now)) }
-        ensures place { IfOk result (λ found. IfSome found (λ claim. claim_place claim ≡ place_of group.number key.now)) }
-        ensures found { IfOk result (λ found. IfSome found IsFoundIfReady) }
-        ensures counted { IfOk result (λ found. IfSome found (λ claim. CountsAsk claim (asks_of self.old) (asks_of self.new))) }
+        ensures claim { IfOk result (λ found. IfSome found
+            (GivesClaim (place_of group.number key.now) (asks_of self.old) (asks_of self.new))) }
         ensures none { IfOk result (λ found. IfNone found (asks_of self.new ≡ asks_of self.old)) }
         ensures refused { OnErr result (asks_of self.new ≡ asks_of self.old) }
         ensures seat { IsSameConn self.old self.new }
@@ -53,65 +50,8 @@ impl<S: Source, L: Ledger> ConnSeat<S, L> {
 }
 
 impl<S: Source, L: Ledger> Pool<S, L> {
+    ghost use Rattle.peer_fill.specs.Claiming.{GivesClaim, KeepsSeat};
     ghost use Rattle.peer_fill.specs.Pools.{source_of, IsConnSeatOf};
-
-    // Pushes the job, unless the queue is full: then the job comes back.
-    fn push<R: Wait>(&self, rt: &R, pass: &mut Pass<Job<S>, Hand>, job: Job<S>) -> Option<Job<S>>
-        requires pass { IsPassOf self.now.jobs pass.old }
-        requires part { 0 < (view pass.old).parts }
-        ensures pass { IsPassOf self.now.jobs pass.new }
-        ensures pushed { MatchOption result (Pushed (view pass.old) job (view pass.new))
-            (λ back. (back ≡ job) × (view pass.new ≡ view pass.old)) }
-    {
-        match self.jobs.push_as::<Push, R>(rt, pass, job) {
-            Ok(()) => {
-                self.signals.job.notify_one();
-                None
-            }
-            Err(back) => Some(back),
-        }
-    }
-
-    /// Pushes the job that is left with the seat, where there is one and the queue has room for it now. Whether none is
-    /// left with it.
-    pub fn put_left<R: Wait>(&self, rt: &R, seat: &mut ConnSeat<S, L>) -> bool
-        requires seat { IsConnSeatOf self.now seat.old }
-        ensures seat { IsConnSeatOf self.now seat.new }
-        ensures parts { conn_parts seat.new ≡ conn_parts seat.old }
-        ensures counts { asks_of seat.new ≡ asks_of seat.old }
-        ensures exactly { IsTrue result ↔ (left_of seat.new ≡ None) }
-        ensures left { IsSome (left_of seat.new) → left_of seat.new ≡ left_of seat.old }
-    {
-        let Some(job) = seat.left.take() else {
-            return true;
-        };
-        let back = self.push(rt, &mut seat.pass, job);
-        let is_put = back.is_none();
-        seat.left = back;
-        is_put
-    }
-
-    // Waits until no job is left with the seat.
-    fn put_all<R: Wait>(&self, rt: &R, seat: &mut ConnSeat<S, L>)
-        requires seat { IsConnSeatOf self.now seat.old }
-        ensures seat { IsConnSeatOf self.now seat.new }
-        ensures parts { conn_parts seat.new ≡ conn_parts seat.old }
-        ensures counts { asks_of seat.new ≡ asks_of seat.old }
-        ensures none { left_of seat.new ≡ None }
-    {
-        let mut waiter = Waiter::new(&self.signals.room);
-        for _ in rt.forever() {
-            if self.put_left(rt, seat) {
-                if waiter.may_have_slept() {
-                    self.signals.room.acknowledge();
-                    self.signals.room.notify_one();
-                }
-                return;
-            }
-            waiter.pause(rt);
-        }
-        unreachable!()
-    }
 
     /// The first half of `ask`: a claim on the value that the group's cache keeps for the key, where it keeps one. `want`
     /// is the other half, and other threads may fill the key between the two.
@@ -125,14 +65,12 @@ impl<S: Source, L: Ledger> Pool<S, L> {
         key: &[u8],
     ) -> Result<Option<Claim<S>>, AskFault>
         requires seat { IsConnSeatOf self.now seat.old }
-        ensures seat { IsConnSeatOf self.now seat.new }
-        ensures parts { conn_parts seat.new ≡ conn_parts seat.old }
+        ensures seat { KeepsSeat self.now seat.old seat.new }
         ensures left { left_of seat.new ≡ left_of seat.old }
         ensures most { OnOk result ((asks_of seat.old).asked < 2 ^ 56) }
         ensures worn { (asks_of seat.old).asked ≡ 2 ^ 56 → result ≡ Err AskFault.Worn }
-        ensures place { IfOk result (λ found. IfSome found (λ claim. claim_place claim ≡ place_of group.number key.now)) }
-        ensures found { IfOk result (λ found. IfSome found IsFoundIfReady) }
-        ensures counted { IfOk result (λ found. IfSome found (λ claim. CountsAsk claim (asks_of seat.old) (asks_of seat.new))) }
+        ensures claim { IfOk result (λ found. IfSome found
+            (GivesClaim (place_of group.number key.now) (asks_of seat.old) (asks_of seat.new))) }
         ensures none { IfOk result (λ found. IfNone found (asks_of seat.new ≡ asks_of seat.old)) }
         ensures refused { OnErr result (asks_of seat.new ≡ asks_of seat.old) }
     {
@@ -156,11 +94,8 @@ impl<S: Source, L: Ledger> Pool<S, L> {
         requires seat { IsConnSeatOf self.now seat.old }
         requires most { (asks_of seat.old).asked < 2 ^ 56 }
         requires none { left_of seat.old ≡ None }
-        ensures seat { IsConnSeatOf self.now seat.new }
-        ensures parts { conn_parts seat.new ≡ conn_parts seat.old }
-        ensures place { IfOk result (λ claim. claim_place claim ≡ place_of group.number key) }
-        ensures found { IfOk result IsFoundIfReady }
-        ensures counted { IfOk result (λ claim. CountsAsk claim (asks_of seat.old) (asks_of seat.new)) }
+        ensures seat { KeepsSeat self.now seat.old seat.new }
+        ensures claim { IfOk result (GivesClaim (place_of group.number key) (asks_of seat.old) (asks_of seat.new)) }
         ensures refused { OnErr result (asks_of seat.new ≡ asks_of seat.old) }
     {
         let ask = lock(rt, &self.table).want(alloc, group, &key, &mut seat.share);
@@ -189,12 +124,10 @@ impl<S: Source, L: Ledger> Pool<S, L> {
     ) -> Result<Option<Claim<S>>, AskFault>
         requires seat { IsConnSeatOf self.now seat.old }
         requires most { (asks_of seat.old).asked < 2 ^ 56 }
-        ensures seat { IsConnSeatOf self.now seat.new }
-        ensures parts { conn_parts seat.new ≡ conn_parts seat.old }
+        ensures seat { KeepsSeat self.now seat.old seat.new }
         ensures left { left_of seat.new ≡ left_of seat.old }
-        ensures place { IfOk result (λ found. IfSome found (λ claim. claim_place claim ≡ place_of group.number key.now)) }
-        ensures found { IfOk result (λ found. IfSome found IsFoundIfReady) }
-        ensures counted { IfOk result (λ found. IfSome found (λ claim. CountsAsk claim (asks_of seat.old) (asks_of seat.new))) }
+        ensures claim { IfOk result (λ found. IfSome found
+            (GivesClaim (place_of group.number key.now) (asks_of seat.old) (asks_of seat.new))) }
         ensures none { IfOk result (λ found. IfNone found (asks_of seat.new ≡ asks_of seat.old)) }
         ensures refused { OnErr result (asks_of seat.new ≡ asks_of seat.old) }
     {
@@ -220,11 +153,9 @@ impl<S: Source, L: Ledger> Pool<S, L> {
     ) -> Result<Claim<S>, AskFault>
         requires seat { IsConnSeatOf self.now seat.old }
         requires most { (asks_of seat.old).asked < 2 ^ 56 }
-        ensures seat { IsConnSeatOf self.now seat.new }
-        ensures parts { conn_parts seat.new ≡ conn_parts seat.old }
-        ensures place { IfOk result (λ claim. claim_place claim ≡ place_of group.number key) }
-        ensures found { IfOk result IsFoundIfReady }
-        ensures counted { IfOk result (λ claim. CountsAsk claim (asks_of seat.old) (asks_of seat.new)) }
+        ensures seat { KeepsSeat self.now seat.old seat.new }
+        ensures claim { IfOk result (GivesClaim (place_of group.number key) (asks_of seat.old) (asks_of seat.new)) }
+        ensures put { OnOk result (left_of seat.new ≡ None) }
         ensures refused { OnErr result (asks_of seat.new ≡ asks_of seat.old) }
     {
         self.put_all(rt, seat);
@@ -247,11 +178,9 @@ impl<S: Source, L: Ledger> Pool<S, L> {
     ) -> Result<Claim<S>, AskFault>
         requires seat { IsConnSeatOf self.now seat.old }
         requires group { group.number < S.count (source_of self.now) }
-        ensures seat { IsConnSeatOf self.now seat.new }
-        ensures parts { conn_parts seat.new ≡ conn_parts seat.old }
-        ensures place { IfOk result (λ claim. claim_place claim ≡ place_of group.number key) }
-        ensures found { IfOk result IsFoundIfReady }
-        ensures counted { IfOk result (λ claim. CountsAsk claim (asks_of seat.old) (asks_of seat.new)) }
+        ensures seat { KeepsSeat self.now seat.old seat.new }
+        ensures claim { IfOk result (GivesClaim (place_of group.number key) (asks_of seat.old) (asks_of seat.new)) }
+        ensures put { left_of seat.old ≡ None → OnOk result (left_of seat.new ≡ None) }
         ensures refused { OnErr result (asks_of seat.new ≡ asks_of seat.old) }
         ensures worn { (asks_of seat.old).asked ≡ 2 ^ 56 → result ≡ Err AskFault.Worn }
     {
@@ -278,11 +207,9 @@ impl<S: Source, L: Ledger> Pool<S, L> {
     ) -> Result<Option<Claim<S>>, AskFault>
         requires seat { IsConnSeatOf self.now seat.old }
         requires group { group.number < S.count (source_of self.now) }
-        ensures seat { IsConnSeatOf self.now seat.new }
-        ensures parts { conn_parts seat.new ≡ conn_parts seat.old }
-        ensures place { IfOk result (λ asked. IfSome asked (λ claim. claim_place claim ≡ place_of group.number key.now)) }
-        ensures found { IfOk result (λ asked. IfSome asked IsFoundIfReady) }
-        ensures counted { IfOk result (λ asked. IfSome asked (λ claim. CountsAsk claim (asks_of seat.old) (asks_of seat.new))) }
+        ensures seat { KeepsSeat self.now seat.old seat.new }
+        ensures claim { IfOk result (λ asked. IfSome asked
+            (GivesClaim (place_of group.number key.now) (asks_of seat.old) (asks_of seat.new))) }
         ensures not_now { IfOk result (λ asked. IfNone asked (IsUnchanged seat.old seat.new × IsSome (left_of seat.old))) }
         ensures refused { OnErr result (asks_of seat.new ≡ asks_of seat.old) }
         ensures worn { (asks_of seat.old).asked ≡ 2 ^ 56 → result ≡ Err AskFault.Worn }
@@ -300,47 +227,5 @@ impl<S: Source, L: Ledger> Pool<S, L> {
         }
         let claim = self.join_or_lead(rt, alloc, seat, group, key)?;
         Ok(Some(claim))
-    }
-
-    // What tells of the claim's fill.
-    fn notice_of(&self, claim: &Claim<S>) -> &Notice {
-        match claim {
-            Claim::Ready(_) => self.signals.fill(0),
-            Claim::Pending(flight) => self.signals.fill(flight.number()),
-        }
-    }
-
-    /// The fill of a claim of this pool, once it is there. It waits for ever where no worker runs.
-    pub fn wait_for<'a, R: Wait>(&self, rt: &R, claim: &'a Claim<S>) -> &'a Fill<S>
-        ensures { Looked claim.now None (Some result.now) (Some result.now) }
-    {
-        let mut note = claim.note();
-        let mut waiter = Waiter::new(self.notice_of(claim));
-        for _ in rt.forever() {
-            if let Some(fill) = claim.look(&mut note) {
-                return fill;
-            }
-            waiter.pause(rt);
-        }
-        unreachable!()
-    }
-
-    /// A fill of the claim's group and key, where the fill that came is of others.
-    pub fn refill(
-        &self,
-        alloc: Global,
-        claim: &Claim<S>,
-        fill: &Fill<S>,
-    ) -> Result<Option<Fill<S>>, AllocError>
-        ensures own { claim_place claim.now ≡ place_of fill.now.group fill.now.key → result ≡ Ok None }
-        ensures none { IfOk result (λ made. IfNone made (claim_place claim.now ≡ place_of fill.now.group fill.now.key)) }
-        ensures place { IfOk result (λ made. IfSome made (λ f. place_of f.group f.key ≡ claim_place claim.now)) }
-        ensures answer { IfOk result (λ made. IfSome made (λ f. IfSome f.answer (S.answers (source_of self.now) f.group f.key))) }
-    {
-        if fill.group() == claim.group() && fill.key() == claim.key() {
-            return Ok(None);
-        }
-        let key = claim.key().share()?;
-        Ok(Some(Fill::run(alloc, &self.source, claim.group(), key)))
     }
 }

@@ -1,9 +1,9 @@
 //! How a pool ends: its seats are taken in, and what they counted is added up.
-ghost use Rattle.std.specs.Prelude.{◌≡◌, ℕ, ◌+◌, [], All, sum_by};
+ghost use Rattle.std.specs.Prelude.{◌≡◌, ◌+◌, [], All};
 ghost use Rattle.crossbeam_queue.specs.Passes.{view, IsPassOf};
 ghost use Rattle.peer_fill.specs.Counts.{no_fills};
-ghost use Rattle.peer_fill.specs.Seats.{asks_of, fills_of, HaveAllConns, HaveAllFills};
-ghost use Rattle.peer_fill.specs.Totals.{ArePushedBy, ArePoppedBy, IsTotalOfConns, IsTotalOfFills};
+ghost use Rattle.peer_fill.specs.Gatherings.{GathersConns, GathersFills};
+ghost use Rattle.peer_fill.specs.Seats.{HaveAllConns, HaveAllFills};
 
 use crate::closed::Closed;
 use crate::jobs::{Jobs, Whole};
@@ -47,12 +47,7 @@ pub(crate) fn gather_conns<S: Source, L: Ledger>(
     requires all { HaveAllConns conns.items }
     requires pass { All (λ seat. IsPassOf jobs.now seat.pass) conns.items }
     ensures pass { IsPassOf jobs.now result.pass }
-    ensures conn_parts { result.conn_parts ≡ 16 }
-    ensures fill_parts { result.fill_parts ≡ 0 }
-    ensures asks { IsTotalOfConns conns.items result.asks }
-    ensures fills { result.fills ≡ no_fills }
-    ensures pushed { ArePushedBy conns.items (view result.pass).pushed }
-    ensures popped { (view result.pass).popped ≡ [] }
+    ensures gathers { GathersConns conns.items result }
 {
     let Some(first) = conns.pop() else {
         unreachable!();
@@ -75,12 +70,7 @@ pub(crate) fn gather_fills<S: Source, L: Ledger>(
     requires all { HaveAllFills fills.items }
     requires pass { IsPassOf jobs.now totals.pass × All (λ seat. IsPassOf jobs.now seat.pass) fills.items }
     ensures pass { IsPassOf jobs.now result.pass }
-    ensures conn_parts { result.conn_parts ≡ totals.conn_parts }
-    ensures fill_parts { result.fill_parts ≡ 16 }
-    ensures asks { result.asks ≡ totals.asks }
-    ensures fills { IsTotalOfFills fills.items result.fills }
-    ensures pushed { (view result.pass).pushed ≡ (view totals.pass).pushed }
-    ensures popped { ArePoppedBy fills.items (view result.pass).popped }
+    ensures gathers { GathersFills fills.items totals result }
 {
     while let Some(seat) = fills.pop() {
         totals = totals.add_fill(jobs, seat);

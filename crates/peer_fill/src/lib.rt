@@ -9,6 +9,7 @@
 #![tactic(auto)]
 
 mod ask;
+mod bringing;
 mod caches;
 mod close;
 mod closed;
@@ -18,23 +19,30 @@ mod gate;
 mod handing;
 mod jobs;
 mod keeping;
+mod landing;
+mod making;
 mod open;
 mod parts;
 mod pool;
+mod pushing;
+mod seat;
 mod seats;
 mod signals;
 mod table;
+mod taking;
 mod totals;
+mod waiting;
 mod work;
 
+pub use bringing::TakenJob;
 pub use close::{CloseFault, Report};
 pub use closed::Closed;
 pub use counts::{AskCounts, FillCounts};
 pub use gate::{Gate, NoGate};
-pub use handing::{pop_conn, pop_fill};
+pub use handing::pop_seat;
 pub use jobs::{Hand, Job};
-pub use keeping::{KeepsConn, KeepsFill, join_conns, join_fills};
+pub use keeping::{Keeps, join_seats};
 pub use open::{OpenFault, Opened};
 pub use pool::Pool;
+pub use seat::Seat;
 pub use seats::{ConnSeat, FillSeat};
-pub use work::TakenJob;

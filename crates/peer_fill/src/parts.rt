@@ -1,7 +1,8 @@
 //! Whether the seats that are handed in are all seats of their kind.
-ghost use Rattle.std.specs.Prelude.{◌≡◌, ◌↔◌, ◌≤◌, ℕ, IsTrue, sum_by};
-ghost use Rattle.peer_fill.specs.Seats.{conn_parts, fill_parts, HaveAllConns, HaveAllFills};
+ghost use Rattle.std.specs.Prelude.{◌≡◌, ◌↔◌, IsTrue, sum_by};
+ghost use Rattle.peer_fill.specs.Seats.{HaveAllConns, HaveAllFills};
 
+use crate::seat::Seat;
 use crate::seats::{ConnSeat, FillSeat};
 use peer_source::Source;
 use std::sync::ledger::Ledger;
@@ -9,34 +10,8 @@ use std::sync::ledger::Ledger;
 // The parts of the seats of one kind.
 const PARTS: u64 = 16;
 
-/// What has parts of a pool.
-pub trait HasParts {
-    // How many it has.
-    ghost parts_of: { Self → ℕ };
-
-    fn parts(&self) -> u64
-        ensures parts { result ≡ parts_of self.now }
-        ensures within { result ≤ 16 };
-}
-
-impl<S: Source, L: Ledger> HasParts for ConnSeat<S, L> {
-    ghost parts_of = { λ seat. conn_parts seat };
-
-    fn parts(&self) -> u64 {
-        self.parts
-    }
-}
-
-impl<S: Source, L: Ledger> HasParts for FillSeat<S, L> {
-    ghost parts_of = { λ seat. fill_parts seat };
-
-    fn parts(&self) -> u64 {
-        self.parts
-    }
-}
-
 // Whether these seats have all parts of their kind.
-fn have_all_parts<T: HasParts>(seats: &[T]) -> bool
+fn have_all_parts<T: Seat>(seats: &[T]) -> bool
     ensures { IsTrue result ↔ (sum_by T.parts_of seats.now ≡ 16) }
 {
     let mut sum = 0;

@@ -1,8 +1,7 @@
 //! Pools, and how they begin and end.
-ghost use Rattle.std.specs.Prelude.{◌≡◌, ◌+◌, ◌<◌, ◌≤◌, ◌↔◌, All, IfErr, IfOk, IsErrOf, IsOk, sum_by, vec_len};
-ghost use Rattle.peer_fill.specs.Counts.{no_asks, no_fills};
+ghost use Rattle.std.specs.Prelude.{◌≡◌, ◌+◌, ◌↔◌, All, IfErr, IfOk, IsErrOf, IsOk};
 ghost use Rattle.peer_fill.specs.Opens.{IsOutside, IsWithin};
-ghost use Rattle.peer_fill.specs.Seats.{asks_of, fills_of, HaveAllConns, HaveAllFills};
+ghost use Rattle.peer_fill.specs.Seats.{HaveAllConns, HaveAllFills};
 
 use crate::caches::Caches;
 use crate::close::{CloseFault, Report, gather_conns, gather_fills};
@@ -37,9 +36,10 @@ pub struct Pool<S: Source, L: Ledger> {
 }
 
 impl<S: Source, L: Ledger> Pool<S, L> {
-    ghost use Rattle.peer_fill.specs.Closes.{asks_in, fills_in, pushed_in, popped_in, HandsBack};
+    ghost use Rattle.peer_fill.specs.Closes.{Gathers, HandsBack};
+    ghost use Rattle.peer_fill.specs.Openings.{Opens};
     ghost use Rattle.peer_fill.specs.Pools.{source_of, IsConnSeatOf, IsFillSeatOf};
-    ghost use Rattle.peer_fill.specs.Totals.{ArePushedBy, ArePoppedBy, IsTotalOfConns, IsTotalOfFills};
+    ghost use Rattle.peer_fill.specs.Totals.{AddsUp};
 
     /// A pool with a seat for each worker and for each connection. The blank names the ledger of the flights that
     /// are led, in 16 parts. The cache of each group of the source keeps at most so many bytes; the seed
@@ -60,15 +60,7 @@ impl<S: Source, L: Ledger> Pool<S, L> {
         ensures conns { IsErrOf result OpenFault.Conns ↔ (IsWithin 16 workers × IsOutside 16 conns) }
         ensures groups { IsErrOf result OpenFault.Groups ↔ (IsWithin 16 workers × IsWithin 16 conns × IsOutside 64 (S.count source)) }
         ensures memory { IsErrOf result OpenFault.Memory → IsWithin 16 workers × IsWithin 16 conns × IsWithin 64 (S.count source) }
-        ensures source { IfOk result (λ opened. source_of opened.pool ≡ source) }
-        ensures fills { IfOk result (λ opened. vec_len opened.fills ≡ workers) }
-        ensures seats { IfOk result (λ opened. vec_len opened.conns ≡ conns) }
-        ensures fills_of_pool { IfOk result (λ opened. All (IsFillSeatOf opened.pool) opened.fills.items) }
-        ensures conns_of_pool { IfOk result (λ opened. All (IsConnSeatOf opened.pool) opened.conns.items) }
-        ensures all_fills { IfOk result (λ opened. HaveAllFills opened.fills.items) }
-        ensures all_conns { IfOk result (λ opened. HaveAllConns opened.conns.items) }
-        ensures no_fills { IfOk result (λ opened. All (λ s. fills_of s ≡ no_fills) opened.fills.items) }
-        ensures no_asks { IfOk result (λ opened. All (λ s. asks_of s ≡ no_asks) opened.conns.items) }
+        ensures opened { IfOk result (Opens source workers conns) }
     {
         let groups = source.group_count();
         check_numbers(workers, conns, groups)?;
@@ -117,10 +109,7 @@ impl<S: Source, L: Ledger> Pool<S, L> {
         requires fills { All (IsFillSeatOf self) fills.items }
         requires conns { All (IsConnSeatOf self) conns.items }
         ensures exactly { IsOk result ↔ (HaveAllFills fills.items × HaveAllConns conns.items) }
-        ensures asks { IfOk result (λ closed. IsTotalOfConns conns.items (asks_in closed)) }
-        ensures fills { IfOk result (λ closed. IsTotalOfFills fills.items (fills_in closed)) }
-        ensures pushed { IfOk result (λ closed. ArePushedBy conns.items (pushed_in closed)) }
-        ensures popped { IfOk result (λ closed. ArePoppedBy fills.items (popped_in closed)) }
+        ensures gathers { IfOk result (Gathers fills.items conns.items) }
         ensures back { IfErr result (λ fault. HandsBack fault self fills conns) }
     {
         let all_fills = has_all_fills(&fills);
@@ -161,13 +150,7 @@ impl<S: Source, L: Ledger> Pool<S, L> {
         requires fills { All (IsFillSeatOf self) fills.items }
         requires conns { All (IsConnSeatOf self) conns.items }
         ensures exactly { IsOk result ↔ (HaveAllFills fills.items × HaveAllConns conns.items) }
-        ensures asked { IfOk result (λ report. report.asked ≡ sum_by (λ s. (asks_of s).asked) conns.items) }
-        ensures hits { IfOk result (λ report. report.hits ≡ sum_by (λ s. (asks_of s).hits) conns.items) }
-        ensures led { IfOk result (λ report. report.led ≡ sum_by (λ s. (asks_of s).led) conns.items) }
-        ensures joined { IfOk result (λ report. report.joined ≡ sum_by (λ s. (asks_of s).joined) conns.items) }
-        ensures strangers { IfOk result (λ report. report.strangers ≡ sum_by (λ s. (asks_of s).strangers) conns.items) }
-        ensures calls { IfOk result (λ report. report.calls ≡ sum_by (λ s. (fills_of s).calls) fills.items) }
-        ensures rehits { IfOk result (λ report. report.rehits ≡ sum_by (λ s. (fills_of s).rehits) fills.items) }
+        ensures sums { IfOk result (AddsUp fills.items conns.items) }
         ensures each_ask { IfOk result (λ report. report.asked ≡ report.hits + report.led + report.joined) }
         ensures each_flight { IfOk result (λ report. report.led ≡ report.calls + report.rehits + report.left) }
         ensures back { IfErr result (λ fault. HandsBack fault self fills conns) }

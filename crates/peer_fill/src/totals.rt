@@ -1,9 +1,9 @@
 //! Totals: what the seats that were handed in have together.
 ghost use Rattle.std.specs.Prelude.{◌≡◌, ℕ, ◌+◌, ◌++◌, ◌*◌, ◌^◌, ◌≤◌, ◌<◌, length};
 ghost use Rattle.crossbeam_queue.specs.Passes.{view, IsPassOf};
-ghost use Rattle.peer_fill.specs.Counts.{no_fills, AddsAsks, AddsFills};
+ghost use Rattle.peer_fill.specs.Counts.{no_fills};
 ghost use Rattle.peer_fill.specs.Jobs.{left_count};
-ghost use Rattle.peer_fill.specs.Seats.{asks_of, fills_of, conn_parts, fill_parts, pushed_of, popped_of};
+ghost use Rattle.peer_fill.specs.Seats.{asks_of, conn_parts, fill_parts};
 
 use crate::counts::{AskCounts, FillCounts};
 use crate::jobs::{Hand, Job, Jobs, OnePart};
@@ -48,6 +48,8 @@ fn count_left<S: Source>(left: Option<Job<S>>) -> u64
 }
 
 impl<S: Source, L: Ledger> Totals<S, L> {
+    ghost use Rattle.peer_fill.specs.Gatherings.{AddsConn, AddsFill};
+
     // The totals of one seat.
     pub(crate) fn of(seat: ConnSeat<S, L>) -> Totals<S, L>
         ensures pass { result.pass ≡ seat.pass }
@@ -79,12 +81,7 @@ impl<S: Source, L: Ledger> Totals<S, L> {
         requires pass { IsPassOf jobs.now self.pass × IsPassOf jobs.now seat.pass }
         requires room { self.conn_parts + conn_parts seat ≤ 16 }
         ensures pass { IsPassOf jobs.now result.pass }
-        ensures conn_parts { result.conn_parts ≡ self.conn_parts + conn_parts seat }
-        ensures fill_parts { result.fill_parts ≡ self.fill_parts }
-        ensures asks { AddsAsks self.asks (asks_of seat) result.asks }
-        ensures fills { result.fills ≡ self.fills }
-        ensures pushed { (view result.pass).pushed ≡ (view self.pass).pushed ++ pushed_of seat }
-        ensures popped { (view result.pass).popped ≡ (view self.pass).popped }
+        ensures adds { AddsConn self seat result }
     {
         let Totals {
             mut pass,
@@ -113,12 +110,7 @@ impl<S: Source, L: Ledger> Totals<S, L> {
         requires pass { IsPassOf jobs.now self.pass × IsPassOf jobs.now seat.pass }
         requires room { self.fill_parts + fill_parts seat ≤ 16 }
         ensures pass { IsPassOf jobs.now result.pass }
-        ensures conn_parts { result.conn_parts ≡ self.conn_parts }
-        ensures fill_parts { result.fill_parts ≡ self.fill_parts + fill_parts seat }
-        ensures asks { result.asks ≡ self.asks }
-        ensures fills { AddsFills self.fills (fills_of seat) result.fills }
-        ensures pushed { (view result.pass).pushed ≡ (view self.pass).pushed }
-        ensures popped { (view result.pass).popped ≡ (view self.pass).popped ++ popped_of seat }
+        ensures adds { AddsFill self seat result }
     {
         let Totals {
             mut pass,

@@ -3,7 +3,7 @@ ghost use Rattle.std.specs.Prelude.{◌≡◌, ◌+◌, ◌^◌, ◌<◌};
 ghost use Rattle.peer_groups.specs.Besides.{AllowsEither, AnswersEither, number_either};
 ghost use Rattle.peer_groups.specs.Besides.{either_answered, either_limited, either_numbered, either_within};
 
-use peer_source::{GetFault, GroupId, Source};
+use peer_source::{GetResult, GroupId, Source};
 use peer_view::AllocSink;
 use std::alloc::Global;
 
@@ -63,13 +63,7 @@ impl<A: Source, B: Source> Source for Beside<A, B> {
         }
     }
 
-    fn get(
-        &self,
-        alloc: Global,
-        group: GroupId,
-        key: &[u8],
-        sink: &mut AllocSink,
-    ) -> Result<(), GetFault> {
+    fn get(&self, alloc: Global, group: GroupId, key: &[u8], sink: &mut AllocSink) -> GetResult {
         let count = self.first.group_count();
         if group.number < count {
             self.first.get(alloc, group, key, sink)

@@ -4,7 +4,7 @@ ghost use Rattle.peer_source.specs.Reports.{reported};
 ghost use Rattle.peer_groups.specs.Maybes.{AllowsMaybe, AnswersMaybe, count_maybe, no_group, number_maybe};
 ghost use Rattle.peer_groups.specs.Maybes.{maybe_answered, maybe_limited, maybe_numbered, maybe_within};
 
-use peer_source::{GetFault, GroupId, Source};
+use peer_source::{GetFault, GetResult, GroupId, Source};
 use peer_view::AllocSink;
 use std::alloc::Global;
 
@@ -47,13 +47,7 @@ impl<S: Source> Source for Maybe<S> {
         }
     }
 
-    fn get(
-        &self,
-        alloc: Global,
-        group: GroupId,
-        key: &[u8],
-        sink: &mut AllocSink,
-    ) -> Result<(), GetFault> {
+    fn get(&self, alloc: Global, group: GroupId, key: &[u8], sink: &mut AllocSink) -> GetResult {
         match &self.source {
             Some(source) => source.get(alloc, group, key, sink),
             None => Err(no_group_fault(alloc, sink)),

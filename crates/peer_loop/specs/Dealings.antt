@@ -5,10 +5,10 @@ use Rattle.peer_source.specs.declared.source.Source as Source
 use Rattle.std.specs.declared.sync.ledger.Ledger as Ledger
 use Rattle.peer_fill.specs.Pools.{source_of, IsFillSeatOf}
 use Rattle.peer_fill.specs.Seats.{conn_parts, fill_parts}
-use Rattle.peer_fill.specs.Keeping as keeping
+use Rattle.peer_fill.specs.Keeping.{handed}
 use Rattle.peer_fill.specs.declared.pool.Pool.{Pool}
 use Rattle.peer_fill.specs.declared.seats.FillSeat.{FillSeat}
-use Rattle.peer_fill.specs.declared.keeping.KeepsFill.{KeepsFill}
+use Rattle.peer_fill.specs.declared.keeping.Keeps.{Keeps}
 use Rattle.peer_fetch.specs.Threads.{Allows}
 use Rattle.std.specs.declared.thread.PromisedHandle.{PromisedHandle}
 use Rattle.peer_loop.specs.Parts.{AreOf, AreSeatsOf, HaveRoom, KeepsRoom}
@@ -46,10 +46,10 @@ module _ {S L : Type 0} {g : Source.Ghosts S} {h : Ledger.Ghosts L} where
 
   -- threads of the pool fill by these seats
   pub record RunFillers (pool : Pool S L g h) (works : Vec (FillWork S L g h))
-      (working : Vec (PromisedHandle (FillSeat S L g h) (KeepsFill S L g h))) : Type 0 where
+      (working : Vec (PromisedHandle (FillSeat S L g h) (Keeps S L (FillSeat S L g h) g h))) : Type 0 where
     pub of : All (λ x. x.promise.pool.now ≡ pool) working.items
     pub count : vec_len working ≡ vec_len works
-    pub fills : keeping.handed_fills working.items ≡ filler_fills works.items
+    pub fills : handed fill_parts working.items ≡ filler_fills works.items
 
   -- seats of the lists were dealt to these loops
   pub record DealsLoops (pool : Pool S L g h) (old new : Seats S L g h) (works : Vec (LoopWork S L g h)) : Type 0 where

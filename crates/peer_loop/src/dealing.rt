@@ -15,7 +15,7 @@ use crate::fillers::Fillers;
 use crate::loop_seats::{LoopSeats, Seats, pop_loop};
 use crate::site::{LoopSite, Site};
 use peer_fetch::{FetchParts, FetchPlan};
-use peer_fill::{FillSeat, Pool, pop_fill};
+use peer_fill::{FillSeat, Pool, pop_seat};
 use peer_source::Source;
 use std::alloc::Global;
 use std::sync::ledger::Ledger;
@@ -136,7 +136,7 @@ fn deal_fills<'a, S: Source, L: Ledger>(
         return Some(Vec::new(alloc));
     }
     let mut works = Vec::with_capacity(alloc, fills.len()).ok()?;
-    while let Some(seat) = pop_fill(pool, fills) {
+    while let Some(seat) = pop_seat(pool, fills) {
         let fetcher = next_fetcher(alloc, plan, &mut fetchers, site.bells);
         let gate = site.gate(fills.len());
         works.push_reserved(FillWork {

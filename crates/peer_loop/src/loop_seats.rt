@@ -7,7 +7,7 @@ ghost use Rattle.peer_fill.specs.Pools.{IsConnSeatOf, IsFillSeatOf};
 ghost use Rattle.peer_fill.specs.Seats.{conn_parts, fill_parts};
 ghost use Rattle.peer_loop.specs.Parts.{AreOf, AreSeatsOf, KeepsParts, filling_parts, Takes, TakesBack};
 
-use peer_fill::{ConnSeat, FillSeat, Pool, pop_conn, pop_fill};
+use peer_fill::{ConnSeat, FillSeat, Pool, pop_seat};
 use peer_source::Source;
 use std::snapshot::Snapshot;
 use std::sync::ledger::Ledger;
@@ -63,8 +63,8 @@ pub fn pop_loop<S: Source, L: Ledger>(
     ensures left { AreSeatsOf pool.now seats.new }
     ensures takes { Takes seats.old seats.new result }
 {
-    let conn = pop_conn(pool, &mut seats.conns)?;
-    let fill = pop_fill(pool, &mut seats.fills);
+    let conn = pop_seat(pool, &mut seats.conns)?;
+    let fill = pop_seat(pool, &mut seats.fills);
     Some(LoopSeats { conn, fill })
 }
 

@@ -14,7 +14,7 @@ use crate::filling::Filling;
 use crate::loop_seats::{KeepsLoop, LoopSeats};
 use crate::seat::LoopSeat;
 use crate::site::LoopSite;
-use peer_fill::{FillSeat, KeepsFill, Pool};
+use peer_fill::{FillSeat, Keeps, Pool};
 use peer_source::Source;
 use std::alloc::Global;
 use std::marker::{Brand, PhantomData};
@@ -28,7 +28,7 @@ use std::time::Clock;
 pub type LoopHandle<'a, S, L> = PromisedHandle<LoopSeats<S, L>, KeepsLoop<'a, S, L>>;
 
 /// A thread that fills.
-pub type FillHandle<'a, S, L> = PromisedHandle<FillSeat<S, L>, KeepsFill<'a, S, L>>;
+pub type FillHandle<'a, S, L> = PromisedHandle<FillSeat<S, L>, Keeps<'a, S, L, FillSeat<S, L>>>;
 
 /// All threads of a server.
 #[derive(Drop)]
@@ -147,7 +147,7 @@ fn start_filler<
         fetcher,
         gate,
     } = work;
-    let promise = KeepsFill::new(pool, &seat);
+    let promise = Keeps::new(pool, &seat);
     let fill = move || -> FillSeat<S, L>
         requires seat { IsFillSeatOf pool.now seat }
         requires allows { IfSome fetcher (λ f. Allows (S.answers (source_of pool.now)) f.thread.plan) }

@@ -9,7 +9,7 @@ use crate::acceptor::Acceptor;
 use crate::dealing::{Dealt, ThreadParts, deal};
 use crate::loop_seats::{Seats, join_loops};
 use crate::starting::{Started, start};
-use peer_fill::{Pool, join_fills};
+use peer_fill::{Pool, join_seats};
 use peer_source::Source;
 use std::alloc::Global;
 use std::net::{Net, TcpListener, TcpStream};
@@ -52,7 +52,7 @@ fn serve_dealt<
     join_loops(rt, pool, serving, &mut seats);
     pool.stop();
     acceptor.site.bells.stop();
-    join_fills(rt, pool, working, &mut seats.fills);
+    join_seats(rt, pool, working, &mut seats.fills);
     Some(seats)
 }
 

@@ -13,7 +13,7 @@ use crate::place::Place;
 use crate::settings::FetchSettings;
 use crate::sockets::Sockets;
 use bytes::Bytes;
-use peer_source::{GetFault, GroupId, Source};
+use peer_source::{GetFault, GetResult, GroupId, Source};
 use peer_stats::FailureSlots;
 use peer_view::{AllocSink, ByteView, SinkFault};
 use std::alloc::{AllocError, Global};
@@ -116,13 +116,7 @@ impl<'a, H: Net<Listener = TcpListener, Stream = TcpStream> + Clock + Wait + Syn
         find(&self.origins, name)
     }
 
-    fn get(
-        &self,
-        alloc: Global,
-        group: GroupId,
-        key: &[u8],
-        sink: &mut AllocSink,
-    ) -> Result<(), GetFault> {
+    fn get(&self, alloc: Global, group: GroupId, key: &[u8], sink: &mut AllocSink) -> GetResult {
         let Some(origin) = self.origins.get(group.number) else {
             return Err(get_fault(alloc, FetchFault::Status(404)));
         };

@@ -16,4 +16,4 @@ pub use fault::Fault;
 pub use head::HeadRoom;
 pub use reply::Reply;
 pub use response::{PbFault, read_response};
-pub use wish::{Wish, WishBody};
+pub use wish::{ReplyForm, Wish, WishBody};

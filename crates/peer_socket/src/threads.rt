@@ -5,10 +5,7 @@ ghost use Rattle.peer_fill.specs.Seats.{conn_parts, fill_parts};
 ghost use Rattle.peer_socket.specs.Threads.{AreSeatsOf, ComeBack, ServeWith, WorkWith};
 
 use crate::acceptor::{Acceptor, serve_accepted};
-use peer_fill::{
-    ConnSeat, FillSeat, KeepsConn, KeepsFill, NoGate, Pool, join_conns, join_fills, pop_conn,
-    pop_fill,
-};
+use peer_fill::{ConnSeat, FillSeat, Keeps, NoGate, Pool, join_seats, pop_seat};
 use peer_source::Source;
 use std::alloc::Global;
 use std::sync::Wait;
@@ -24,9 +21,9 @@ pub struct Seats<S: Source, L: Ledger> {
     pub conns: Vec<ConnSeat<S, L>>,
 }
 
-type WorkerHandle<'a, S, L> = PromisedHandle<FillSeat<S, L>, KeepsFill<'a, S, L>>;
+type WorkerHandle<'a, S, L> = PromisedHandle<FillSeat<S, L>, Keeps<'a, S, L, FillSeat<S, L>>>;
 
-type ConnHandle<'a, S, L> = PromisedHandle<ConnSeat<S, L>, KeepsConn<'a, S, L>>;
+type ConnHandle<'a, S, L> = PromisedHandle<ConnSeat<S, L>, Keeps<'a, S, L, ConnSeat<S, L>>>;
 
 // Starts the thread of a worker. None where it was refused.
 fn start_worker<'s, E, S: Source, L: Ledger + Send + Sync, H: Threads + Wait + Sync>(
@@ -40,7 +37,7 @@ fn start_worker<'s, E, S: Source, L: Ledger + Send + Sync, H: Threads + Wait + S
     ensures pool { IfSome result (λ x. x.promise.pool.now ≡ pool.now) }
     ensures seat { IfSome result (λ x. x.promise.seat.value ≡ seat) }
 {
-    let promise = KeepsFill::new(pool, &seat);
+    let promise = Keeps::new(pool, &seat);
     let work = move || -> FillSeat<S, L>
         requires { IsFillSeatOf pool.now seat }
         ensures seat { IsFillSeatOf pool.entry.now result }
@@ -65,7 +62,7 @@ fn start_workers<'s, E, S: Source, L: Ledger + Send + Sync, H: Threads + Wait + 
     ensures work { IfSome result (WorkWith pool.now seats.old seats.new) }
 {
     let mut working = Vec::with_capacity(alloc, seats.len()).ok()?;
-    while let Some(seat) = pop_fill(pool, seats) {
+    while let Some(seat) = pop_seat(pool, seats) {
         let handle = start_worker(scope, rt, alloc, pool, seat)?;
         working.push_reserved(handle);
     }
@@ -85,7 +82,7 @@ fn start_conn<'s, E, S: Source, L: Ledger + Send + Sync, H: Threads + Wait + Clo
     ensures pool { IfSome result (λ x. x.promise.pool.now ≡ pool.now) }
     ensures seat { IfSome result (λ x. x.promise.seat.value ≡ seat) }
 {
-    let promise = KeepsConn::new(pool, &seat);
+    let promise = Keeps::new(pool, &seat);
     let serve = move || -> ConnSeat<S, L>
         requires { IsConnSeatOf pool.now seat }
         ensures seat { IsConnSeatOf pool.entry.now result }
@@ -111,7 +108,7 @@ fn start_conns<'s, E, S: Source, L: Ledger + Send + Sync, H: Threads + Wait + Cl
     ensures serve { IfSome result (ServeWith pool.now seats.old seats.new) }
 {
     let mut serving = Vec::with_capacity(alloc, seats.len()).ok()?;
-    while let Some(seat) = pop_conn(pool, seats) {
+    while let Some(seat) = pop_seat(pool, seats) {
         let handle = start_conn(scope, rt, alloc, pool, seat, acceptor)?;
         serving.push_reserved(handle);
     }
@@ -139,9 +136,9 @@ fn run_threads<'s, E, S: Source, L: Ledger + Send + Sync, H: Threads + Wait + Cl
         return None;
     };
     acceptor.start.begin(rt);
-    join_conns(rt, pool, serving, &mut seats.conns);
+    join_seats(rt, pool, serving, &mut seats.conns);
     pool.stop();
-    join_fills(rt, pool, working, &mut seats.fills);
+    join_seats(rt, pool, working, &mut seats.fills);
     Some(seats)
 }
 

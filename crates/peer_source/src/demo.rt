@@ -8,7 +8,7 @@ ghost use Rattle.peer_source.specs.Reports.{reported};
 
 use crate::functional::FunctionalSource;
 use crate::group::GroupId;
-use crate::source::{GetFault, Source};
+use crate::source::{GetFault, GetResult, Source};
 use bytes::Bytes;
 use itoa::Buffer;
 use peer_view::{AllocSink, ByteView, SinkFault, VALUE_LIMIT};
@@ -143,13 +143,7 @@ impl Source for DemoSource {
         None
     }
 
-    fn get(
-        &self,
-        alloc: Global,
-        group: GroupId,
-        key: &[u8],
-        sink: &mut AllocSink,
-    ) -> Result<(), GetFault> {
+    fn get(&self, alloc: Global, group: GroupId, key: &[u8], sink: &mut AllocSink) -> GetResult {
         match group.number {
             0 => find(alloc, key, sink),
             1 => square(alloc, key, sink),

@@ -25,4 +25,4 @@ pub use functional::FunctionalSource;
 pub use group::GroupId;
 pub use kept::Kept;
 pub use names::Names;
-pub use source::{GetFault, Source};
+pub use source::{GetFault, GetResult, Source};

@@ -17,6 +17,9 @@ pub enum GetFault {
     Memory,
 }
 
+/// What a `get` came to: the sink has the value, or there is none.
+pub type GetResult = Result<(), GetFault>;
+
 /// What has values by group and key. Its answers may differ from call to call.
 pub trait Source: Send + Sync + Drop {
     ghost use Rattle.peer_source.specs.Reports.{reported};
@@ -39,13 +42,7 @@ pub trait Source: Send + Sync + Drop {
         ensures { option_map (λ g. g.number) result ≡ number_of self.now name.now };
 
     /// Puts the value for a group and a key into the sink, or says why there is none.
-    fn get(
-        &self,
-        alloc: Global,
-        group: GroupId,
-        key: &[u8],
-        sink: &mut AllocSink,
-    ) -> Result<(), GetFault>
+    fn get(&self, alloc: Global, group: GroupId, key: &[u8], sink: &mut AllocSink) -> GetResult
         ensures { IfSome (reported result sink.new) (answers self.now group.number key.now) };
 
     /// Whether `get` waits for nothing, so that a thread which has other work may call it.

@@ -3,7 +3,7 @@ ghost use Rattle.std.specs.Prelude.{◌≡◌, ℕ, List, [], length, refl};
 ghost use Rattle.peer_table.specs.Tables.{lines_of, names_of, number_below, number_in, table_allowed, table_answer, table_limited};
 
 use crate::table::TableSource;
-use peer_source::{FunctionalSource, GetFault, GroupId, Source};
+use peer_source::{FunctionalSource, GetResult, GroupId, Source};
 use peer_view::AllocSink;
 use std::alloc::Global;
 use std::marker::{Brand, PhantomData};
@@ -56,13 +56,7 @@ impl<T: TableText + Send + Sync> Source for NamedTable<T> {
         self.table.group(name)
     }
 
-    fn get(
-        &self,
-        alloc: Global,
-        group: GroupId,
-        key: &[u8],
-        sink: &mut AllocSink,
-    ) -> Result<(), GetFault> {
+    fn get(&self, alloc: Global, group: GroupId, key: &[u8], sink: &mut AllocSink) -> GetResult {
         self.table.get(alloc, group, key, sink)
     }
 

@@ -14,7 +14,7 @@ use crate::fields::next_of;
 use crate::index::{Index, add_line, find};
 use crate::intake::read_all;
 use bytes::Bytes;
-use peer_source::{GetFault, GroupId, Source};
+use peer_source::{GetFault, GetResult, GroupId, Source};
 use peer_view::{AllocSink, ByteView, PeerRead, SinkFault};
 use std::alloc::{AllocError, Global};
 use std::marker::Model;
@@ -143,13 +143,7 @@ impl Source for TableSource {
         }
     }
 
-    fn get(
-        &self,
-        alloc: Global,
-        group: GroupId,
-        key: &[u8],
-        sink: &mut AllocSink,
-    ) -> Result<(), GetFault> {
+    fn get(&self, alloc: Global, group: GroupId, key: &[u8], sink: &mut AllocSink) -> GetResult {
         put(
             alloc,
             find(alloc, &self.text, &self.index, group.number, key),

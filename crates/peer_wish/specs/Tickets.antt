@@ -1,6 +1,7 @@
 -- The wishes that tickets stand for.
-use Rattle.std.specs.Prelude.{ℕ, ◌+◌, Bool, List, [], ◌∷◌}
+use Rattle.std.specs.Prelude.{ℕ, ◌+◌, List, [], ◌∷◌}
 use Rattle.peer_source.specs.Answers.{Filled}
+use Rattle.peer_reply.specs.declared.wish.ReplyForm.{ReplyForm}
 use Rattle.peer_reply.specs.declared.wish.Wish.{Wish}
 use Rattle.peer_reply.specs.declared.wish.WishBody.{WishBody}
 use Rattle.peer_reply.specs.declared.wish.WishBody.TheVariants as wish
@@ -17,11 +18,11 @@ body_by (ticket.Fault f) = wish.Fault f
 body_by (ticket.Claim c) = wish.Get (record { number = (claim_place c).group }) (claim_place c).key
 
 -- the wish of a claim, and that of a fill
-abbrev pub claim_wish : {S : Type 0} → Claim S → Bool → Bool → Wish
-claim_wish c closing bare = get_wish (record { number = (claim_place c).group }) (claim_place c).key closing bare
+abbrev pub claim_wish : {S : Type 0} → Claim S → ReplyForm → Wish
+claim_wish c form = get_wish (record { number = (claim_place c).group }) (claim_place c).key form.closing form.bare
 
-abbrev pub fill_wish : Filled → Bool → Bool → Wish
-fill_wish f closing bare = get_wish (record { number = f.group }) f.key closing bare
+abbrev pub fill_wish : Filled → ReplyForm → Wish
+fill_wish f form = get_wish (record { number = f.group }) f.key form.closing form.bare
 
 -- the wish that a ticket answers
 abbrev pub wish_by : {S : Type 0} → Ticket S → Wish

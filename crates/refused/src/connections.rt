@@ -6,7 +6,7 @@ use crate::heads::reader_of;
 use crate::seen::Seen;
 use crate::window;
 use peer_conn::{End, Served, serve_connection, serve_functional, serve_serial};
-use peer_fill::{ConnSeat, FillSeat, Pool, pop_fill};
+use peer_fill::{ConnSeat, FillSeat, Pool, pop_seat};
 use peer_source::{DemoSource, Source};
 use peer_view::{MemReader, MemWriter};
 use std::alloc::Global;
@@ -117,7 +117,7 @@ pub fn serve_beside<S: Source, L: Ledger + Send + Sync, H: Threads + Wait + Sync
     ensures fills { All (IsFillSeatOf pool.now) fills.new.items }
     ensures conn { IfSome result (λ used. IsConnSeatOf pool.now used.0) }
 {
-    let fill = pop_fill(pool, fills)?;
+    let fill = pop_seat(pool, fills)?;
     let serve = move || -> (ConnSeat<S, L>, Option<Served<MemReader, MemWriter>>)
         requires { IsConnSeatOf pool.now conn }
         ensures { IsConnSeatOf pool.entry.now result.0 }

@@ -6,7 +6,7 @@ use crate::connections::{FIRST_REPLY, serve_beside};
 use crate::seen::Seen;
 use crate::sources::finds;
 use peer_conn::{End, Served};
-use peer_fill::{Pool, Report, pop_conn};
+use peer_fill::{Pool, Report, pop_seat};
 use peer_flight::Claim;
 use peer_view::{MemReader, MemWriter};
 use std::alloc::Global;
@@ -55,7 +55,7 @@ fn once<L: Ledger + Send + Sync, H: Threads + Wait + Sync>(
     ensures fills { All (IsFillSeatOf pool.now) lists.new.fills.items }
     ensures conns { All (IsConnSeatOf pool.now) lists.new.conns.items }
 {
-    let conn = pop_conn(pool, &mut lists.conns)?;
+    let conn = pop_seat(pool, &mut lists.conns)?;
     let (mut conn, served) = serve_beside(rt, alloc, pool, &mut lists.fills, conn)?;
     let claim = ask_for(rt, alloc, pool, &mut conn, b"b");
     push_conn(pool, &mut lists.conns, conn);

@@ -8,7 +8,7 @@ use crate::seen::Seen;
 use crate::talks::{Script, Talk};
 use crate::window;
 use peer_exchange::{End, Exchange, GivenUp};
-use peer_fill::{ConnSeat, FillSeat, NoGate, Pool, pop_fill};
+use peer_fill::{ConnSeat, FillSeat, NoGate, Pool, pop_seat};
 use peer_source::DemoSource;
 use std::alloc::Global;
 use std::cmp::min;
@@ -274,7 +274,7 @@ pub fn talk<L: Ledger, R: Wait>(
     ensures fills { All (IsFillSeatOf pool.now) fills.new.items }
     ensures conn { IsConnSeatOf pool.now conn.new }
 {
-    let mut fill = pop_fill(pool, fills)?;
+    let mut fill = pop_seat(pool, fills)?;
     let seen = twice(rt, alloc, pool, &mut fill, conn, what);
     push_fill(pool, fills, fill)?;
     seen

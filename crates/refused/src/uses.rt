@@ -8,7 +8,7 @@ use crate::seen::Seen;
 use crate::talking::talk;
 use crate::talks::Talk;
 use crate::{window, without};
-use peer_fill::{ConnSeat, FillSeat, Pool, Report, pop_conn};
+use peer_fill::{ConnSeat, FillSeat, Pool, Report, pop_seat};
 use peer_source::DemoSource;
 use std::alloc::Global;
 use std::marker::Brand;
@@ -88,7 +88,7 @@ fn make_with<L: Ledger + Send + Sync, H: Threads + Wait + Sync>(
     ensures fills { All (IsFillSeatOf pool.now) lists.new.fills.items }
     ensures conns { All (IsConnSeatOf pool.now) lists.new.conns.items }
 {
-    let conn = pop_conn(pool, &mut lists.conns)?;
+    let conn = pop_seat(pool, &mut lists.conns)?;
     let (conn, seen) = make(rt, alloc, pool, &mut lists.fills, conn, call)?;
     let asked = conn.asked();
     push_conn(pool, &mut lists.conns, conn);

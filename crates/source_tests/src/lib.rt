@@ -5,18 +5,4 @@
 #![tactic(auto)]
 
 #[cfg(test)]
-mod caches;
-#[cfg(test)]
-mod devices;
-#[cfg(test)]
-mod fills;
-#[cfg(test)]
-mod generated;
-#[cfg(test)]
-mod inputs;
-#[cfg(test)]
-mod sinks;
-#[cfg(test)]
-mod tables;
-#[cfg(test)]
-mod views;
+mod tests;

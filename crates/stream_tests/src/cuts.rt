@@ -6,7 +6,7 @@ use crate::demos::is_told;
 use crate::ends::{THREE, THREE_REPLIES, thirds};
 use crate::runs::READS;
 use peer_conn::{End, serve_connection};
-use peer_fill::{ConnSeat, FillSeat, NoGate, Pool, pop_conn};
+use peer_fill::{ConnSeat, FillSeat, NoGate, Pool, pop_seat};
 use peer_source::{DemoSource, Source};
 use peer_view::{MemReader, MemWriter};
 use std::alloc::{AllocError, Global};
@@ -29,7 +29,7 @@ fn is_served_by_next<S: Source, L: Ledger + Send + Sync, H: Threads + Wait + Syn
     requires { All (IsConnSeatOf pool.now) conns.old.items }
     ensures { All (IsConnSeatOf pool.now) conns.new.items }
 {
-    let conn = pop_conn(pool, conns)?;
+    let conn = pop_seat(pool, conns)?;
     let reader = MemReader::new(pieces, false);
     let writer = MemWriter::new(alloc, 65_536, None);
     let (served, conn) = serve_connection(rt, alloc, pool, conn, reader, writer, READS);

@@ -5,9 +5,9 @@ ghost use Rattle.peer_fill.specs.Pools.{IsConnSeatOf, IsFillSeatOf};
 ghost use Rattle.stream_tests.specs.Numbers.{IsNumber, echo_number, echo_numbered, number_limited, some_number};
 
 use itoa::Buffer;
-use peer_fill::{Pool, pop_conn};
+use peer_fill::{Pool, pop_seat};
 use peer_flight::Claim;
-use peer_source::{Fill, GetFault, GroupId, Outcome, Source};
+use peer_source::{Fill, GetFault, GetResult, GroupId, Outcome, Source};
 use peer_view::AllocSink;
 use std::alloc::Global;
 use std::marker::Brand;
@@ -54,13 +54,7 @@ impl Source for Numbering {
         None
     }
 
-    fn get(
-        &self,
-        alloc: Global,
-        _group: GroupId,
-        _key: &[u8],
-        sink: &mut AllocSink,
-    ) -> Result<(), GetFault> {
+    fn get(&self, alloc: Global, _group: GroupId, _key: &[u8], sink: &mut AllocSink) -> GetResult {
         let before = self.calls.fetch_add(1, SeqCst);
         find(alloc, before.wrapping_add(1), sink)
     }
@@ -104,8 +98,8 @@ fn show_numbers<S: Source, L: Ledger, R: Wait>(
     requires fills { All (IsFillSeatOf pool.now) lists.old.fills.items }
     requires conns { All (IsConnSeatOf pool.now) lists.old.conns.items }
 {
-    let mut one = pop_conn(pool, &mut lists.conns)?;
-    let mut two = pop_conn(pool, &mut lists.conns)?;
+    let mut one = pop_seat(pool, &mut lists.conns)?;
+    let mut two = pop_seat(pool, &mut lists.conns)?;
     let first = ask_for(rt, alloc, pool, &mut one, b"k");
     let second = ask_for(rt, alloc, pool, &mut two, b"k");
     do_jobs(rt, alloc, pool, &mut lists.fills);

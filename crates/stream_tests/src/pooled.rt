@@ -4,9 +4,7 @@ ghost use Rattle.peer_fill.specs.Seats.{fill_parts};
 ghost use Rattle.peer_fill.specs.Pools.{IsConnSeatOf, IsFillSeatOf};
 
 use peer_conn::{Served, serve_connection};
-use peer_fill::{
-    ConnSeat, FillSeat, Gate, KeepsFill, Pool, Report, join_fills, pop_conn, pop_fill,
-};
+use peer_fill::{ConnSeat, FillSeat, Gate, Keeps, Pool, Report, join_seats, pop_seat};
 use peer_source::Source;
 use peer_view::{PeerRead, PeerWrite};
 use std::alloc::Global;
@@ -91,8 +89,8 @@ fn use_pool<
             ensures conn { IfSome result (λ run. IsConnSeatOf pool.entry.now run.0.conn) }
         {
             let mut working = Vec::new(alloc);
-            while let Some(seat) = pop_fill(pool, &mut fills) {
-                let keeps = KeepsFill::new(pool, &seat);
+            while let Some(seat) = pop_seat(pool, &mut fills) {
+                let keeps = Keeps::new(pool, &seat);
                 let work = move ||
                     requires { IsFillSeatOf pool.now seat }
                     ensures { IsFillSeatOf pool.entry.now result × (fill_parts result ≡ fill_parts seat) }
@@ -108,7 +106,7 @@ fn use_pool<
             }
             let (served, conn) = serve_connection(rt, alloc, pool, conn, reader, writer, reads);
             pool.stop();
-            join_fills(rt, pool, working, &mut fills);
+            join_seats(rt, pool, working, &mut fills);
             Some((OneConn { fills, conn }, served))
         },
     )
@@ -138,7 +136,7 @@ fn use_lists<
     ensures conns { IfSome result (λ used. All (IsConnSeatOf pool.now) used.0.conns.items) }
 {
     let SeatLists { fills, mut conns } = lists;
-    let conn = pop_conn(pool, &mut conns)?;
+    let conn = pop_seat(pool, &mut conns)?;
     let (seats, served) = use_pool(rt, alloc, pool, OneConn { fills, conn }, gate, devices)?;
     let OneConn { fills, conn } = seats;
     let asked = conn.asked();

@@ -7,7 +7,7 @@ use crate::numbers::shows;
 use crate::runs::{READS, whole};
 use crate::tellers::{ActingReader, TellingLater};
 use peer_conn::{End, serve_connection};
-use peer_fill::{ConnSeat, Pool, Report, pop_conn, pop_fill};
+use peer_fill::{ConnSeat, Pool, Report, pop_seat};
 use peer_source::Source;
 use peer_view::{MemReader, MemWriter};
 use std::alloc::Global;
@@ -78,8 +78,8 @@ fn serve_beside<S: Source, L: Ledger + Send + Sync, H: Threads + Wait + Sync>(
     ensures fills { All (IsFillSeatOf pool.now) lists.new.fills.items }
     ensures conns { All (IsConnSeatOf pool.now) lists.new.conns.items }
 {
-    let fill = pop_fill(pool, &mut lists.fills)?;
-    let conn = pop_conn(pool, &mut lists.conns)?;
+    let fill = pop_seat(pool, &mut lists.fills)?;
+    let conn = pop_seat(pool, &mut lists.conns)?;
     let serve = move || -> (ConnSeat<S, L>, [bool; 2])
         requires { IsConnSeatOf pool.now conn }
         ensures { IsConnSeatOf pool.entry.now result.0 }
@@ -103,7 +103,7 @@ fn ask_again<S: Source, L: Ledger, R: Wait>(
     ensures fills { All (IsFillSeatOf pool.now) lists.new.fills.items }
     ensures conns { All (IsConnSeatOf pool.now) lists.new.conns.items }
 {
-    let mut conn = pop_conn(pool, &mut lists.conns)?;
+    let mut conn = pop_seat(pool, &mut lists.conns)?;
     let claim = ask_for(rt, alloc, pool, &mut conn, b"b");
     do_jobs(rt, alloc, pool, &mut lists.fills)?;
     push_conn(pool, &mut lists.conns, conn)?;

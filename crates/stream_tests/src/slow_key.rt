@@ -5,7 +5,7 @@ ghost use Rattle.peer_fill.specs.Pools.{IsConnSeatOf, IsFillSeatOf};
 use crate::demos::is_told;
 use crate::runs::{READS, whole};
 use peer_conn::{End, serve_connection_functional};
-use peer_fill::{ConnSeat, Gate, Pool, pop_conn, pop_fill};
+use peer_fill::{ConnSeat, Gate, Pool, pop_seat};
 use peer_source::{DemoSource, FunctionalSource, GroupId};
 use peer_view::{MemReader, MemWriter};
 use std::alloc::Global;
@@ -59,9 +59,9 @@ fn are_answered<S: FunctionalSource, L: Ledger + Send + Sync, H: Threads + Wait 
     requires fills { All (IsFillSeatOf pool.now) lists.old.fills.items }
     requires conns { All (IsConnSeatOf pool.now) lists.old.conns.items }
 {
-    let fill = pop_fill(pool, &mut lists.fills)?;
-    let one = pop_conn(pool, &mut lists.conns)?;
-    let two = pop_conn(pool, &mut lists.conns)?;
+    let fill = pop_seat(pool, &mut lists.fills)?;
+    let one = pop_seat(pool, &mut lists.conns)?;
+    let two = pop_seat(pool, &mut lists.conns)?;
     let (_seat, answered) = join(
         rt,
         move ||

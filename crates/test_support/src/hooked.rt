@@ -2,7 +2,7 @@
 ghost use Rattle.peer_source.specs.Demo.{DemoAnswers, demo_number, demo_answered, demo_numbered};
 ghost use Rattle.peer_source.specs.DemoLaws.{demo_limited};
 
-use peer_source::{DemoSource, GetFault, GroupId, Source};
+use peer_source::{DemoSource, GetFault, GetResult, GroupId, Source};
 use peer_view::AllocSink;
 use std::alloc::Global;
 use std::sync::atomic::AtomicBool;
@@ -37,13 +37,7 @@ impl<K: Hook> Source for Hooked<K> {
         DemoSource.group(name)
     }
 
-    fn get(
-        &self,
-        alloc: Global,
-        group: GroupId,
-        key: &[u8],
-        sink: &mut AllocSink,
-    ) -> Result<(), GetFault> {
+    fn get(&self, alloc: Global, group: GroupId, key: &[u8], sink: &mut AllocSink) -> GetResult {
         if !self.hook.may_call(alloc, key) {
             return Err(GetFault::Memory);
         }

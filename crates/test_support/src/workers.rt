@@ -4,7 +4,7 @@ ghost use Rattle.peer_fill.specs.Seats.{fill_parts};
 ghost use Rattle.peer_fill.specs.Pools.{IsFillSeatOf};
 
 use crate::seats::push_fill;
-use peer_fill::{FillSeat, Gate, KeepsFill, NoGate, Pool, pop_fill};
+use peer_fill::{FillSeat, Gate, Keeps, NoGate, Pool, pop_seat};
 use peer_source::Source;
 use std::alloc::{AllocError, Global};
 use std::sync::Wait;
@@ -22,7 +22,7 @@ pub fn do_jobs<S: Source, L: Ledger, R: Wait>(
     requires { All (IsFillSeatOf pool.now) fills.old.items }
     ensures { All (IsFillSeatOf pool.now) fills.new.items }
 {
-    let fill = pop_fill(pool, fills)?;
+    let fill = pop_seat(pool, fills)?;
     let fill = pool.run_worker(rt, alloc, fill, &NoGate);
     push_fill(pool, fills, fill)
 }
@@ -73,7 +73,7 @@ pub fn beside_worker<
             ensures fill { IfSome result (λ done. IsFillSeatOf pool.entry.now done.0) }
             ensures call { IfSome result (λ done. C.post call done.1) }
         {
-            let keeps = KeepsFill::new(pool, &fill);
+            let keeps = Keeps::new(pool, &fill);
             let work = move ||
                 requires { IsFillSeatOf pool.now fill }
                 ensures { IsFillSeatOf pool.entry.now result × (fill_parts result ≡ fill_parts fill) }

@@ -2,7 +2,7 @@
 ghost use Rattle.std.specs.Prelude.{◌≡◌, refl};
 ghost use Rattle.upper_peer.specs.Upper.{upper_answer, upper_number, upper_limited, upper_answered, upper_numbered};
 
-use peer_source::{FunctionalSource, GetFault, GroupId, Source};
+use peer_source::{FunctionalSource, GetFault, GetResult, GroupId, Source};
 use peer_view::{AllocSink, SinkFault};
 use std::alloc::Global;
 
@@ -31,13 +31,7 @@ impl Source for UpperSource {
         }
     }
 
-    fn get(
-        &self,
-        alloc: Global,
-        _group: GroupId,
-        key: &[u8],
-        sink: &mut AllocSink,
-    ) -> Result<(), GetFault> {
+    fn get(&self, alloc: Global, _group: GroupId, key: &[u8], sink: &mut AllocSink) -> GetResult {
         let Ok(value) = key.to_ascii_uppercase(alloc) else {
             return Err(GetFault::Memory);
         };

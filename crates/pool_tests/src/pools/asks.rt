@@ -4,7 +4,7 @@ ghost use Rattle.peer_fill.specs.Pools.{source_of, IsConnSeatOf, IsFillSeatOf};
 
 use super::numbering::Numbering;
 use crate::values::{ECHO, value_of};
-use peer_fill::{ConnSeat, FillSeat, Pool, Report, pop_conn};
+use peer_fill::{ConnSeat, FillSeat, Pool, Report, pop_seat};
 use peer_flight::Claim;
 use peer_source::Source;
 use std::alloc::Global;
@@ -78,7 +78,7 @@ fn use_lists<S: Source, L: Ledger, R: Wait>(
     ensures fills { All (IsFillSeatOf pool.now) lists.new.fills.items }
     ensures conns { All (IsConnSeatOf pool.now) lists.new.conns.items }
 {
-    let mut conn = pop_conn(pool, &mut lists.conns)?;
+    let mut conn = pop_seat(pool, &mut lists.conns)?;
     let shown = ask_for_each(rt, alloc, pool, &mut conn, &mut lists.fills, keys);
     let _claim = ask_in(rt, alloc, pool, &mut conn, ECHO, &[keys[4]]);
     push_conn(pool, &mut lists.conns, conn)?;

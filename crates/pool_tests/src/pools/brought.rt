@@ -6,7 +6,7 @@ ghost use Rattle.peer_fill.specs.Pools.{source_of, IsConnSeatOf, IsFillSeatOf};
 use super::numbering::Numbering;
 use crate::values::{ECHO, value_of};
 use bytes::Bytes;
-use peer_fill::{ConnSeat, FillSeat, Gate, Pool, Report, TakenJob, pop_conn, pop_fill};
+use peer_fill::{ConnSeat, FillSeat, Gate, Pool, Report, TakenJob, pop_seat};
 use peer_flight::Claim;
 use peer_source::{GroupId, Outcome, Source};
 use peer_view::ByteView;
@@ -212,8 +212,8 @@ fn use_lists<L: Ledger, R: Wait>(
     ensures fills { All (IsFillSeatOf pool.now) lists.new.fills.items }
     ensures conns { All (IsConnSeatOf pool.now) lists.new.conns.items }
 {
-    let mut seat = pop_conn(pool, &mut lists.conns)?;
-    let mut fill = pop_fill(pool, &mut lists.fills)?;
+    let mut seat = pop_seat(pool, &mut lists.conns)?;
+    let mut fill = pop_seat(pool, &mut lists.fills)?;
     let seen = use_seats(rt, alloc, pool, &mut seat, &mut fill);
     push_conn(pool, &mut lists.conns, seat)?;
     push_fill(pool, &mut lists.fills, fill)?;

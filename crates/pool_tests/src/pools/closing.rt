@@ -3,7 +3,7 @@ ghost use Rattle.std.specs.Prelude.{◌≡◌, All, IfSome};
 ghost use Rattle.peer_fill.specs.Pools.{IsConnSeatOf, IsFillSeatOf};
 
 use crate::values::shows;
-use peer_fill::{CloseFault, Pool, Report, pop_conn};
+use peer_fill::{CloseFault, Pool, Report, pop_seat};
 use peer_flight::Claim;
 use peer_source::{DemoSource, Source};
 use std::alloc::Global;
@@ -49,8 +49,8 @@ fn ask_thrice<S: Source, L: Ledger, R: Wait>(
     ensures fills { All (IsFillSeatOf pool.now) lists.new.fills.items }
     ensures conns { All (IsConnSeatOf pool.now) lists.new.conns.items }
 {
-    let mut one = pop_conn(pool, &mut lists.conns)?;
-    let mut two = pop_conn(pool, &mut lists.conns)?;
+    let mut one = pop_seat(pool, &mut lists.conns)?;
+    let mut two = pop_seat(pool, &mut lists.conns)?;
     let first = ask_for(rt, alloc, pool, &mut one, b"k");
     let second = ask_for(rt, alloc, pool, &mut two, b"k");
     pool.stop();

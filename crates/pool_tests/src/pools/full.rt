@@ -4,7 +4,7 @@ ghost use Rattle.peer_fill.specs.Pools.{source_of, IsConnSeatOf, IsFillSeatOf};
 
 use super::numbering::Numbering;
 use crate::values::ECHO;
-use peer_fill::{ConnSeat, FillSeat, NoGate, Pool, Report, pop_conn, pop_fill};
+use peer_fill::{ConnSeat, FillSeat, NoGate, Pool, Report, pop_seat};
 use peer_flight::Claim;
 use peer_source::Source;
 use std::alloc::Global;
@@ -142,8 +142,8 @@ fn use_lists<S: Source, L: Ledger, R: Wait>(
     ensures fills { All (IsFillSeatOf pool.now) lists.new.fills.items }
     ensures conns { All (IsConnSeatOf pool.now) lists.new.conns.items }
 {
-    let mut seat = pop_conn(pool, &mut lists.conns)?;
-    let mut fill = pop_fill(pool, &mut lists.fills)?;
+    let mut seat = pop_seat(pool, &mut lists.conns)?;
+    let mut fill = pop_seat(pool, &mut lists.fills)?;
     let seen = ask_at_full(rt, alloc, pool, &mut seat, &mut fill);
     push_conn(pool, &mut lists.conns, seat)?;
     push_fill(pool, &mut lists.fills, fill)?;

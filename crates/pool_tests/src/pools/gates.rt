@@ -4,7 +4,7 @@ ghost use Rattle.peer_fill.specs.Pools.{source_of, IsConnSeatOf, IsFillSeatOf};
 
 use super::numbering::Numbering;
 use crate::values::{ECHO, value_of};
-use peer_fill::{ConnSeat, FillSeat, Gate, Pool, pop_conn, pop_fill};
+use peer_fill::{ConnSeat, FillSeat, Gate, Pool, pop_seat};
 use peer_flight::Claim;
 use peer_source::GroupId;
 use std::alloc::Global;
@@ -66,7 +66,7 @@ fn ask_by_next<L: Ledger, R: Wait>(
     ensures conn { IfSome result (λ asked. IsConnSeatOf pool.now asked.0) }
     ensures conns { All (IsConnSeatOf pool.now) conns.new.items }
 {
-    let mut conn = pop_conn(pool, conns)?;
+    let mut conn = pop_seat(pool, conns)?;
     let claim = ask_in(rt, alloc, pool, &mut conn, ECHO, b"k")?;
     Some((conn, claim))
 }
@@ -116,7 +116,7 @@ fn ask_by_gate<L: Ledger + Send + Sync, R: Wait>(
 {
     let (_one, first) = ask_by_next(rt, alloc, pool, &mut lists.conns)?;
     let (two, second) = ask_by_next(rt, alloc, pool, &mut lists.conns)?;
-    let fill = pop_fill(pool, &mut lists.fills)?;
+    let fill = pop_seat(pool, &mut lists.fills)?;
     let counts = meddle(rt, alloc, pool, fill, two);
     let shown = [
         value_of(pool.wait_for(rt, &first)) == b"k1".as_slice(),

@@ -4,7 +4,7 @@ ghost use Rattle.peer_fill.specs.Pools.{source_of, IsConnSeatOf, IsFillSeatOf};
 
 use super::numbering::Numbering;
 use crate::values::{ECHO, value_of};
-use peer_fill::{ConnSeat, FillSeat, NoGate, Pool, Report, pop_conn, pop_fill};
+use peer_fill::{ConnSeat, FillSeat, NoGate, Pool, Report, pop_seat};
 use peer_flight::Claim;
 use peer_view::ByteView;
 use std::alloc::Global;
@@ -77,8 +77,8 @@ fn use_lists<L: Ledger, R: Wait>(
     ensures fills { All (IsFillSeatOf pool.now) lists.new.fills.items }
     ensures conns { All (IsConnSeatOf pool.now) lists.new.conns.items }
 {
-    let mut conn = pop_conn(pool, &mut lists.conns)?;
-    let mut fill = pop_fill(pool, &mut lists.fills)?;
+    let mut conn = pop_seat(pool, &mut lists.conns)?;
+    let mut fill = pop_seat(pool, &mut lists.fills)?;
     let shown = ask_twice(rt, alloc, pool, &mut fill, &mut conn)?;
     push_conn(pool, &mut lists.conns, conn)?;
     push_fill(pool, &mut lists.fills, fill)?;

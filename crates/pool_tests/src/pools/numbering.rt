@@ -2,7 +2,7 @@
 ghost use Rattle.std.specs.Prelude.{◌≡◌, None, Some};
 ghost use Rattle.peer_source.specs.Answers.{Failed, IsWithinLimit, too_long_text};
 
-use peer_source::{GetFault, GroupId, Source};
+use peer_source::{GetFault, GetResult, GroupId, Source};
 use peer_view::AllocSink;
 use std::alloc::{AllocError, Global};
 use std::sync::atomic::AtomicU64;
@@ -70,13 +70,7 @@ impl Source for Numbering {
         None
     }
 
-    fn get(
-        &self,
-        alloc: Global,
-        _group: GroupId,
-        key: &[u8],
-        sink: &mut AllocSink,
-    ) -> Result<(), GetFault> {
+    fn get(&self, alloc: Global, _group: GroupId, key: &[u8], sink: &mut AllocSink) -> GetResult {
         let number = self.calls.fetch_add(1, SeqCst).wrapping_add(1);
         self.wait_for_calls();
         if number <= self.failures {

@@ -3,7 +3,7 @@ ghost use Rattle.std.specs.Prelude.{◌≡◌, All};
 ghost use Rattle.peer_fill.specs.Pools.{IsConnSeatOf, IsFillSeatOf};
 
 use super::asks::{Shown, ask_for_each};
-use peer_fill::{Pool, Report, pop_conn};
+use peer_fill::{Pool, Report, pop_seat};
 use peer_source::DemoSource;
 use std::alloc::Global;
 use std::marker::Brand;
@@ -24,7 +24,7 @@ fn ask_five<L: Ledger, R: Wait>(
     ensures fills { All (IsFillSeatOf pool.now) lists.new.fills.items }
     ensures conns { All (IsConnSeatOf pool.now) lists.new.conns.items }
 {
-    let mut conn = pop_conn(pool, &mut lists.conns)?;
+    let mut conn = pop_seat(pool, &mut lists.conns)?;
     let shown = ask_for_each(rt, alloc, pool, &mut conn, &mut lists.fills, b"abcac");
     push_conn(pool, &mut lists.conns, conn)?;
     shown

@@ -3,7 +3,7 @@ ghost use Rattle.std.specs.Prelude.{◌≡◌, All};
 ghost use Rattle.peer_fill.specs.Pools.{IsConnSeatOf};
 
 use crate::values::{ECHO, SQUARE, shows};
-use peer_fill::{ConnSeat, Pool, Report, pop_conn};
+use peer_fill::{ConnSeat, Pool, Report, pop_seat};
 use peer_flight::Claim;
 use peer_source::{DemoSource, Fill, GroupId};
 use peer_view::ByteView;
@@ -56,8 +56,8 @@ fn use_both<L: Ledger, R: Wait>(
     requires { All (IsConnSeatOf pool.now) conns.old.items }
     ensures { All (IsConnSeatOf pool.now) conns.new.items }
 {
-    let mut one = pop_conn(pool, conns)?;
-    let mut two = pop_conn(pool, conns)?;
+    let mut one = pop_seat(pool, conns)?;
+    let mut two = pop_seat(pool, conns)?;
     let right = refill_each(rt, alloc, pool, &mut one);
     one.add_strangers(strangers[0]);
     two.add_strangers(strangers[1]);

@@ -6,18 +6,15 @@ use Rattle.peer_conn.proofs.connection.serve_connection.Goals as goal
 
 pub returns-in-Err-clause-connects : goal.returns-in-Err-clause-connects
 returns-in-Err-clause-connects g c =
-    connects_refused g.R.PeerRead g.W.PeerWrite c.refused.ensures.reader (c.refused.ensures.writer ∙ c.in-Err.ensures.err) c.refused.ensures.end
+    let err = c.in-Err.ensures.err in connects_refused g.R.PeerRead g.W.PeerWrite err.reader err.writer err.end
 
-pub returns-in-Err-new-clause-connects : goal.returns-in-Err-new-clause-connects
-returns-in-Err-new-clause-connects g c =
-    connects_refused g.R.PeerRead g.W.PeerWrite (c.refused-in-Err-new.ensures.reader ∙ c.in-Err-new.ensures.err) (c.refused-in-Err-new.ensures.writer ∙ c.in-Ok.ensures.ok.writer) c.refused-in-Err-new.ensures.end
+pub returns-in_default-clause-connects : goal.returns-in_default-clause-connects
+returns-in_default-clause-connects g c =
+    let none = c.refused.ensures in let new = c.in-Ok.ensures.ok in
+    connects_refused g.R.PeerRead g.W.PeerWrite (none.reader ∙ new.requests.reader) (none.writer ∙ new.responses.writer) none.end
 
-pub returns-in-Ok-lane-clause-connects : goal.returns-in-Ok-lane-clause-connects
-returns-in-Ok-lane-clause-connects g c = connects_sides c.in-Ok-new.ensures.ok c.in-Ok.ensures.ok c.serve_sides.ensures.serves
-
-pub returns-in-Err-lane-clause-connects : goal.returns-in-Err-lane-clause-connects
-returns-in-Err-lane-clause-connects g c =
-    connects_refused g.R.PeerRead g.W.PeerWrite (c.refused-in-Err-lane.ensures.reader ∙ c.in-Ok-new.ensures.ok.reader) (c.refused-in-Err-lane.ensures.writer ∙ c.in-Ok.ensures.ok.writer) c.refused-in-Err-lane.ensures.end
+pub returns-clause-connects : goal.returns-clause-connects
+returns-clause-connects g c = let new = c.in-Ok.ensures.ok in connects_sides new.requests new.responses c.serve_sides.ensures.serves
 
 -- each group and key has an answer, which is allowed: so what is written is a front of replies to all wishes
 pub returns-in-Err-clause-writes_replies : goal.returns-in-Err-clause-writes_replies
@@ -25,17 +22,12 @@ returns-in-Err-clause-writes_replies g c =
     let source = g.met.S.Source g.world.𝓛 g.world.𝓜 g.world.𝓡 (λ s h. h, λ h. h, λ h. h, λ h. h) in
     written_allowed (source.answered (source_of c.args.pool.now)) (source.within (source_of c.args.pool.now)) (returns-in-Err-clause-connects g c).serves
 
-pub returns-in-Err-new-clause-writes_replies : goal.returns-in-Err-new-clause-writes_replies
-returns-in-Err-new-clause-writes_replies g c =
+pub returns-in_default-clause-writes_replies : goal.returns-in_default-clause-writes_replies
+returns-in_default-clause-writes_replies g c =
     let source = g.met.S.Source g.world.𝓛 g.world.𝓜 g.world.𝓡 (λ s h. h, λ h. h, λ h. h, λ h. h) in
-    written_allowed (source.answered (source_of c.args.pool.now)) (source.within (source_of c.args.pool.now)) (returns-in-Err-new-clause-connects g c).serves
+    written_allowed (source.answered (source_of c.args.pool.now)) (source.within (source_of c.args.pool.now)) (returns-in_default-clause-connects g c).serves
 
-pub returns-in-Ok-lane-clause-writes_replies : goal.returns-in-Ok-lane-clause-writes_replies
-returns-in-Ok-lane-clause-writes_replies g c =
+pub returns-clause-writes_replies : goal.returns-clause-writes_replies
+returns-clause-writes_replies g c =
     let source = g.met.S.Source g.world.𝓛 g.world.𝓜 g.world.𝓡 (λ s h. h, λ h. h, λ h. h, λ h. h) in
-    written_allowed (source.answered (source_of c.args.pool.now)) (source.within (source_of c.args.pool.now)) (returns-in-Ok-lane-clause-connects g c).serves
-
-pub returns-in-Err-lane-clause-writes_replies : goal.returns-in-Err-lane-clause-writes_replies
-returns-in-Err-lane-clause-writes_replies g c =
-    let source = g.met.S.Source g.world.𝓛 g.world.𝓜 g.world.𝓡 (λ s h. h, λ h. h, λ h. h, λ h. h) in
-    written_allowed (source.answered (source_of c.args.pool.now)) (source.within (source_of c.args.pool.now)) (returns-in-Err-lane-clause-connects g c).serves
+    written_allowed (source.answered (source_of c.args.pool.now)) (source.within (source_of c.args.pool.now)) (returns-clause-connects g c).serves

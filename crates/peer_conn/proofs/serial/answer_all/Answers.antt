@@ -6,8 +6,8 @@ use Rattle.peer_conn.proofs.serial.answer_all.Goals as goal
 pub loop-wish-init : goal.loop-wish-init
 loop-wish-init g c = ([], receives_none _, replies_none _)
 
-pub loop-wish-preserved-else-not-is_active : goal.loop-wish-preserved-else-not-is_active
-loop-wish-preserved-else-not-is_active g c =
+pub loop-wish-preserved : goal.loop-wish-preserved
+loop-wish-preserved g c =
     let i = c.loop-wish.invariant in
     (i.0 ++ c.in-Request.wish ∷ [], receives_then i.1 c.in-Request.ensures.gives, replies_then i.2 c.answer.ensures)
 
@@ -21,26 +21,22 @@ returns-in-Last-clause-serves g c =
     let i = c.loop-wish.invariant in
     record { wishes = i.0 ++ c.in-Last.wish ∷ []; stops = stops_then i.1 c.in-Last.ensures.gives; replies = replies_then i.2 c.answer-in-Last.ensures }
 
-pub returns-then-not-is_active-2-clause-serves : goal.returns-then-not-is_active-2-clause-serves
-returns-then-not-is_active-2-clause-serves g c =
-    let i = c.loop-wish.invariant in
-    record { wishes = i.0; stops = halts (receives_on i.1 c.in-Need.ensures.gives.1); replies = replies_on i.2 (replies_flushed c.flush.ensures.flushes) }
-
 pub returns-in-Err-clause-serves : goal.returns-in-Err-clause-serves
 returns-in-Err-clause-serves g c =
     let i = c.loop-wish.invariant in
-    record { wishes = i.0; stops = stops_on i.1 (stops_then c.in-Need.ensures.gives.1 (c.in-Err.ensures.reads _)); replies = replies_on i.2 (replies_flushed c.flush.ensures.flushes) }
+    record { wishes = i.0; stops = stops_on i.1 (stops_then c.in-Need.ensures.gives.1 (c.in-Err.ensures.reads _)); replies = replies_on i.2 (replies_flushed c.in-Err.ensures.flushes) }
 
-pub loop-wish-smaller : goal.loop-wish-smaller
-loop-wish-smaller g c =
+pub loop-wish-smaller-in-Ok : goal.loop-wish-smaller-in-Ok
+loop-wish-smaller-in-Ok g c =
     let given = c.in-Need.ensures.gives.1 in
-    let fed = c.in_default.ensures.reads (g.S.Source.number_of c.args.names.now) in
-    omega (arith, given.counted, fed.counted, c.in-Need.ensures.left, c.in_default.ensures.left)
+    let fed = c.in-Ok.ensures.reads (g.S.Source.number_of c.args.names.now) in
+    omega (arith, given.counted, fed.counted, c.in-Need.ensures.left, c.in-Ok.ensures.left)
 
-pub loop-wish-preserved : goal.loop-wish-preserved
-loop-wish-preserved g c =
+pub loop-wish-preserved-in-Ok : goal.loop-wish-preserved-in-Ok
+loop-wish-preserved-in-Ok g c =
     let i = c.loop-wish.invariant in
-    (i.0, receives_on i.1 (receives_then c.in-Need.ensures.gives.1 (c.in_default.ensures.reads _)), replies_on i.2 (replies_flushed c.flush.ensures.flushes))
+    let read = c.in-Ok.ensures in
+    (i.0, receives_on i.1 (receives_then c.in-Need.ensures.gives.1 (read.reads _)), replies_on i.2 (replies_flushed read.flushes))
 
 pub returns-in-NoMemory-clause-serves : goal.returns-in-NoMemory-clause-serves
 returns-in-NoMemory-clause-serves g c =

@@ -38,13 +38,13 @@ loop-seat-preserved g c =
     record {
       own = k.pass;
       others = of_front (λ s. IsPassOf c.args.jobs.now s.pass) _ _ _ e i.others;
-      parts = omega (arith, k.conn_parts, i.parts, sum_last (λ s. s.parts) _ _ _ e);
+      parts = omega (arith, k.adds.conn_parts, i.parts, sum_last (λ s. s.parts) _ _ _ e);
       no_fills = search rules;
-      asked = omega (arith, k.asks.asked, i.asked, sum_last (λ s. s.asks.asked) _ _ _ e);
-      hits = omega (arith, k.asks.hits, i.hits, sum_last (λ s. s.asks.hits) _ _ _ e);
-      led = omega (arith, k.asks.led, i.led, sum_last (λ s. s.asks.led) _ _ _ e);
-      joined = omega (arith, k.asks.joined, i.joined, sum_last (λ s. s.asks.joined) _ _ _ e);
-      strangers = omega (arith, k.asks.strangers, i.strangers, sum_last (λ s. s.asks.strangers) _ _ _ e);
-      pushed = λ w. next_taken pushed_of _ _ _ _ _ w _ e k.pushed (i.pushed w);
-      popped = k.popped ∙ i.popped;
+      asked = omega (arith, k.adds.asks.asked, i.asked, sum_last (λ s. s.asks.asked) _ _ _ e);
+      hits = omega (arith, k.adds.asks.hits, i.hits, sum_last (λ s. s.asks.hits) _ _ _ e);
+      led = omega (arith, k.adds.asks.led, i.led, sum_last (λ s. s.asks.led) _ _ _ e);
+      joined = omega (arith, k.adds.asks.joined, i.joined, sum_last (λ s. s.asks.joined) _ _ _ e);
+      strangers = omega (arith, k.adds.asks.strangers, i.strangers, sum_last (λ s. s.asks.strangers) _ _ _ e);
+      pushed = λ w. next_taken pushed_of _ _ _ _ _ w _ e k.adds.pushed (i.pushed w);
+      popped = k.adds.popped ∙ i.popped;
     }

@@ -13,11 +13,11 @@ loop-seat-preserved g c =
     record {
       own = k.pass;
       others = of_front (λ s. IsPassOf c.args.jobs.now s.pass) _ _ _ e i.others;
-      parts = omega (arith, k.fill_parts, i.parts, sum_last (λ s. s.parts) _ _ _ e);
+      parts = omega (arith, k.adds.fill_parts, i.parts, sum_last (λ s. s.parts) _ _ _ e);
       conn_parts = search rules;
       asks = search rules;
-      calls = omega (arith, k.fills.calls, i.calls, sum_last (λ s. s.fills.calls) _ _ _ e);
-      rehits = omega (arith, k.fills.rehits, i.rehits, sum_last (λ s. s.fills.rehits) _ _ _ e);
-      pushed = k.pushed ∙ i.pushed;
-      popped = λ w. next_taken popped_of _ _ _ _ _ w _ e k.popped (i.popped w);
+      calls = omega (arith, k.adds.fills.calls, i.calls, sum_last (λ s. s.fills.calls) _ _ _ e);
+      rehits = omega (arith, k.adds.fills.rehits, i.rehits, sum_last (λ s. s.fills.rehits) _ _ _ e);
+      pushed = k.adds.pushed ∙ i.pushed;
+      popped = λ w. next_taken popped_of _ _ _ _ _ w _ e k.adds.popped (i.popped w);
     }

@@ -22,7 +22,7 @@ loop-seat-preserved g c =
         left = taken.rest;
         of = all_push (IsFillWorkOf pool) _ _ _ pushed.items before.of
             (taken.seat, by_plan _ (λ f. f.thread.plan) _ _ c.requires.allows c.next_fetcher-fetcher.ensures);
-        fills = moves fill_parts (λ w. fill_parts w.seat) c.loop-seat.fills.items c.pop_fill.new.seats.items
+        fills = moves fill_parts (λ w. fill_parts w.seat) c.loop-seat.fills.items c.pop_seat.new.seats.items
             c.loop-seat.works.items c.push_reserved.new.self.items _ (fill_parts seat) _ taken.parts pushed.items refl before.fills;
         len = omega (arith, before.len, taken.fewer, pushed.len);
         room = taken.capacity ∙ before.room;

@@ -17,6 +17,6 @@ returns-clause-put g c =
       | in-Get+in_ok-ask-in-Get w ↦
           let asked = w.in_ok-ask-in-Get.ensures in
           let wish_at : Place → WishBody = λ p. wish.Get (record { number = p.group }) p.key in
-          puts_one c.args.wish c.match-body.body w.self-is asked.seat asked.parts asked.counted.strangers
-          (let n = ap flights_in_body w.body-is in omega (arith, n, flights_of_ask asked.counted)) (let n = ap asks_in_body w.in-Get.is in omega (arith, n, asked.counted.asked)) lane.lane lane.put (ap body_by w.body-is ∙ ap wish_at asked.place ∙ sym w.in-Get.is)
+          puts_one c.args.wish c.match-body.body w.self-is asked.seat.own asked.seat.parts asked.claim.counted.strangers
+          (let n = ap flights_in_body w.body-is in omega (arith, n, flights_of_ask asked.claim.counted)) (let n = ap asks_in_body w.in-Get.is in omega (arith, n, asked.claim.counted.asked)) lane.lane lane.put (ap body_by w.body-is ∙ ap wish_at asked.claim.place ∙ sym w.in-Get.is)
     ]

@@ -1,10 +1,11 @@
 use Rattle.std.proofs.Common.{refl, ◌∙◌, arith}
 use Rattle.peer_exchange.proofs.ExchangeLemmas.{keeps_none, keeps_then}
+use Rattle.peer_exchange.proofs.SeatLemmas.{seat_kept, seat_then}
 use Rattle.peer_exchange.proofs.AskingLemmas.{answers_none, answers_one, answers_same, answers_lost}
 use Rattle.peer_exchange.proofs.exchange_state.ExchangeState.answer_ready.Goals as goal
 
 pub loop-why-init : goal.loop-why-init
-loop-why-init g c = record { seat = c.requires; parts = refl; keeps = λ numbers. keeps_none _; answers = answers_none _ _ c.args.seat.now.most_strangers; stage = refl }
+loop-why-init g c = record { seat = seat_kept c.requires; keeps = λ numbers. keeps_none _; answers = answers_none _ _ c.args.seat.now.most_strangers; stage = refl }
 
 pub loop-why-preserved-in-Ok-Put : goal.loop-why-preserved-in-Ok-Put
 loop-why-preserved-in-Ok-Put g c =
@@ -12,8 +13,7 @@ loop-why-preserved-in-Ok-Put g c =
     let put = c.answer_first.ensures in
     let one = rw c.in-Ok-Put.field-0-is at c.in-Ok-Put.ensures.answers in
     record {
-      seat = put.seat;
-      parts = put.parts ∙ i.parts;
+      seat = seat_then i.seat put.seat;
       keeps = λ numbers. keeps_then (i.keeps numbers) (put.keeps numbers);
       answers = answers_one i.answers one.0;
       stage = one.1 ∙ i.stage;
@@ -30,8 +30,7 @@ loop-why-preserved g c =
     let put = c.answer_first.ensures in
     let one = rw c.in-Ok-MadeGood.field-0-is at c.in-Ok-MadeGood.ensures.answers in
     record {
-      seat = put.seat;
-      parts = put.parts ∙ i.parts;
+      seat = seat_then i.seat put.seat;
       keeps = λ numbers. keeps_then (i.keeps numbers) (put.keeps numbers);
       answers = answers_one i.answers one.0;
       stage = one.1 ∙ i.stage;
@@ -48,8 +47,7 @@ returns-in-Ok-Waits g c =
     let put = c.answer_first.ensures in
     let none = rw c.in-Ok-Waits.field-0-is at c.in-Ok-Waits.ensures.answers in
     record {
-      seat = put.seat;
-      parts = put.parts ∙ i.parts;
+      seat = seat_then i.seat put.seat;
       keeps = λ numbers. keeps_then (i.keeps numbers) (put.keeps numbers);
       answers = answers_same i.answers none.0 none.1 none.4 none.5;
       through = none.3;

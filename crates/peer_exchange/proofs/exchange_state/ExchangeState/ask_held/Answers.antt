@@ -1,10 +1,11 @@
 use Rattle.std.proofs.Common.{refl, ◌∙◌, arith}
 use Rattle.peer_exchange.proofs.ExchangeLemmas.{upholds_like, keeps_then}
+use Rattle.peer_exchange.proofs.SeatLemmas.{seat_kept, seat_then}
 use Rattle.peer_exchange.proofs.AskingLemmas.{adds_none, adds_one, adds_same, adds_lost, adds_end, full_through}
 use Rattle.peer_exchange.proofs.exchange_state.ExchangeState.ask_held.Goals as goal
 
 pub loop-init : goal.loop-init
-loop-init g c = record { seat = c.requires.seat; parts = refl; keeps = record { keeps = λ came sent h. upholds_like refl refl refl h }; tickets = adds_none _ _ _ refl; goes_on = refl; now = refl; window = refl; many = omega arith }
+loop-init g c = record { seat = seat_kept c.requires.seat; keeps = record { keeps = λ came sent h. upholds_like refl refl refl h }; tickets = adds_none _ _ _ refl; goes_on = refl; now = refl; window = refl; many = omega arith }
 
 pub loop-preserved : goal.loop-preserved
 loop-preserved g c =
@@ -12,8 +13,7 @@ loop-preserved g c =
     let asked = c.ask_next.ensures in
     let one = rw c.in-Ok-true.field-0-test at c.in-Ok-true.ensures.asks in
     record {
-      seat = asked.seat;
-      parts = asked.parts ∙ i.parts;
+      seat = seat_then i.seat asked.seat;
       keeps = keeps_then i.keeps asked.keeps;
       tickets = adds_one i.tickets one.0;
       goes_on = one.1 ∙ i.goes_on;
@@ -28,13 +28,11 @@ returns-in-Ok-false g c =
     let asked = c.ask_next.ensures in
     let none = rw c.in-Ok-false.field-0-test at c.in-Ok-false.ensures.asks in
     record {
-      seat = asked.seat;
-      parts = asked.parts ∙ i.parts;
+      seat = seat_then i.seat asked.seat;
       keeps = keeps_then i.keeps asked.keeps;
       tickets = adds_same i.tickets none.0 none.1;
       through = none.3;
       goes_on = none.2 ∙ i.goes_on;
-      given_up = tt;
       window = asked.window ∙ i.window;
     }
 

@@ -1,7 +1,7 @@
 use Rattle.std.proofs.Common.{false, ◌≡◌, ◌≤◌}
 use Rattle.std.specs.VecDeque.{deque_len}
-use Rattle.peer_fill.specs.Pools.{IsConnSeatOf}
-use Rattle.peer_fill.specs.Seats.{asks_of, conn_parts}
+use Rattle.peer_fill.specs.Claiming.{KeepsSeat}
+use Rattle.peer_fill.specs.Seats.{asks_of}
 use Rattle.peer_wish.specs.Allowed.{allows}
 use Rattle.peer_exchange.specs.Asking.{AddsTickets}
 use Rattle.peer_exchange.specs.Intakes.{is_given_up}
@@ -11,8 +11,7 @@ use Rattle.peer_exchange.proofs.exchange_state.ExchangeState.ask_held.Given as g
 
 abbrev pub invariant-loop : goal.invariant-loop
 invariant-loop g l = record {
-  seat : IsConnSeatOf l.pool l.seat;
-  parts : conn_parts l.seat ≡ conn_parts l.fn.seat;
+  seat : KeepsSeat l.pool l.fn.seat l.seat;
   keeps : Keeps (g.S.Source.number_of l.names) (allows g.S.Source.allowed) l.fn.self l.self;
   tickets : AddsTickets l.fn.self l.self (asks_of l.fn.seat) (asks_of l.seat) went_well;
   goes_on : is_given_up l.self.intake.stage ≡ is_given_up l.fn.self.intake.stage;

@@ -4,5 +4,5 @@ use Rattle.peer_exchange.proofs.outgoing.Outgoing.answer_claim.Goals as goal
 
 pub returns : goal.returns
 returns g c =
-    answers_filled (allows g.S.Source.allowed) c.args.claim.now c.in-Some.fill.now c.args.closing c.args.bare c.args.self.now.out.bytes c.put_filled.new.self.out.bytes c.put_filled.result
+    answers_filled (allows g.S.Source.allowed) c.args.claim.now c.in-Some.fill.now c.args.form c.args.self.now.out.bytes c.put_filled.new.self.out.bytes c.put_filled.result
     c.in-Some.ensures.there c.put_filled.ensures

@@ -7,5 +7,5 @@ pub put_value-requires : goal.put_value-requires
 put_value-requires g c =
     let value = c.in-Some-value_of.value.now in
     let of = c.in-Some-value_of.ensures in
-    let is = value_reply_of c.args.closing c.args.bare c.args.fill.now.answer value c.in-Some.reply c.in-Some.ensures of.0 of.1 in
-    subst (EndsIn value) (sym (c.parts.ensures ∙ is)) (value_ends c.args.closing value)
+    let is = value_reply_of c.args.form.closing c.args.form.bare c.args.fill.now.answer value c.in-Some.reply c.in-Some.ensures of.0 of.1 in
+    subst (EndsIn value) (sym (c.parts.ensures ∙ is)) (value_ends c.args.form.closing value)

@@ -5,10 +5,9 @@ use peer_view::{
     MemReader, MemWriter, PeerRead, PeerWrite, ReadFailed, StdReader, StdWriter, WriteFailed,
     WriteFault, write_all,
 };
-use std::alloc::Global;
+use std::alloc::{AllocError, Global};
 use std::io;
 use std::io::{ErrorKind, Read, Write};
-use std::test::Fail;
 
 // A reader of std that gives one byte, is interrupted, and then ends.
 #[derive(Drop)]
@@ -45,7 +44,7 @@ impl Write for Full {
 }
 
 // The pieces `abc`, an empty one, and `d`.
-fn pieces(alloc: Global) -> Result<Vec<Vec<u8>>, Fail> {
+fn pieces(alloc: Global) -> Result<Vec<Vec<u8>>, AllocError> {
     let mut pieces = Vec::new(alloc);
     for piece in [b"abc".as_slice(), b"", b"d"] {
         pieces.push(piece.to_vec(alloc)?)?;
@@ -67,8 +66,8 @@ fn reads(
 }
 
 #[test]
-fn a_reader_gives_a_piece_a_read(rt: HostRuntime) -> Result<(), Fail> {
-    let mut reader = MemReader::new(pieces(rt.alloc())?, false);
+fn a_reader_gives_a_piece_a_read(rt: HostRuntime) {
+    let mut reader = MemReader::new(pieces(rt.alloc()).expect(&rt, "memory"), false);
     let mut room = *b"..";
     assert!(rt; reads(&mut reader, &mut room, Ok(2), b"ab"));
     assert!(rt; reads(&mut reader, &mut [], Ok(0), b""));
@@ -76,19 +75,17 @@ fn a_reader_gives_a_piece_a_read(rt: HostRuntime) -> Result<(), Fail> {
     assert!(rt; reads(&mut reader, &mut room, Ok(1), b"db"));
     assert!(rt; reads(&mut reader, &mut room, Ok(0), b"db"));
     assert!(rt; reads(&mut reader, &mut room, Ok(0), b"db"));
-    Ok(())
 }
 
 #[test]
-fn a_reader_fails_after_its_last_piece(rt: HostRuntime) -> Result<(), Fail> {
-    let mut reader = MemReader::new(pieces(rt.alloc())?, true);
+fn a_reader_fails_after_its_last_piece(rt: HostRuntime) {
+    let mut reader = MemReader::new(pieces(rt.alloc()).expect(&rt, "memory"), true);
     let mut room = *b"....";
     assert!(rt; reads(&mut reader, &mut room, Ok(3), b"abc."));
     assert!(rt; reads(&mut reader, &mut room, Ok(1), b"dbc."));
     assert!(rt; reads(&mut reader, &mut room, Err(ReadFailed), b"dbc."));
     assert!(rt; reads(&mut reader, &mut [], Ok(0), b""));
     assert!(rt; reads(&mut reader, &mut room, Err(ReadFailed), b"dbc."));
-    Ok(())
 }
 
 // Whether one write says this. It tells the proof of a test the count of failures alone.

@@ -2,7 +2,7 @@
 ghost use Rattle.std.specs.Prelude.{◌≡◌, Some, length, OnOk, OnErr};
 ghost use Rattle.peer_view.specs.Sinks.{placed};
 
-use crate::inputs::view_of;
+use crate::tests::inputs::view_of;
 use bytes::Bytes;
 use peer_view::{AllocSink, ByteView, Sink, SinkFault, TruncSink, ViewSink};
 use std::alloc::{AllocError, Global};
@@ -81,10 +81,9 @@ fn outlasts(alloc: Global, long: &ByteView) -> bool {
 }
 
 #[test]
-fn a_sink_holds_the_last_value(rt: HostRuntime) -> Result<(), AllocError> {
-    let long = letters(rt.alloc(), 1_048_577)?;
+fn a_sink_holds_the_last_value(rt: HostRuntime) {
+    let long = letters(rt.alloc(), 1_048_577).expect(&rt, "memory");
     assert!(rt; outlasts(rt.alloc(), &long));
-    Ok(())
 }
 
 #[test]
@@ -99,22 +98,20 @@ fn is_copied(alloc: Global, value: &[u8]) -> bool {
 }
 
 #[test]
-fn a_value_at_the_limit_is_held(rt: HostRuntime) -> Result<(), AllocError> {
-    let long = letters(rt.alloc(), 1_048_576)?;
+fn a_value_at_the_limit_is_held(rt: HostRuntime) {
+    let long = letters(rt.alloc(), 1_048_576).expect(&rt, "memory");
     assert!(rt; is_copied(rt.alloc(), long.as_slice()));
-    Ok(())
 }
 
 #[test]
-fn a_lent_view_is_set(rt: HostRuntime) -> Result<(), AllocError> {
-    let long = letters(rt.alloc(), 1_048_577)?;
+fn a_lent_view_is_set(rt: HostRuntime) {
+    let long = letters(rt.alloc(), 1_048_577).expect(&rt, "memory");
     let mut view = view_of(b"old");
     let _ = ViewSink::new(&mut view);
     assert!(rt; view.eq_bytes(b"old"));
     assert!(rt; takes_copies(&mut ViewSink::new(&mut view), rt.alloc()));
     assert!(rt; refuses(&mut ViewSink::new(&mut view), rt.alloc(), &long));
     assert!(rt; view.eq_bytes(b"bc"));
-    Ok(())
 }
 
 // Whether a sink that holds its value shares the view.
@@ -159,12 +156,11 @@ fn a_destination_keeps_what_fits(rt: HostRuntime) {
 }
 
 #[test]
-fn a_destination_refuses_nothing(rt: HostRuntime) -> Result<(), AllocError> {
-    let long = letters(rt.alloc(), 1_048_577)?;
+fn a_destination_refuses_nothing(rt: HostRuntime) {
+    let long = letters(rt.alloc(), 1_048_577).expect(&rt, "memory");
     let mut destination = *b"...";
     let mut sink = TruncSink::new(&mut destination);
     assert!(rt; takes_copies(&mut sink, rt.alloc()));
     assert!(rt; takes_view(&mut sink, &long));
     assert!(rt; *sink.filled() == *b"xxx".as_slice());
-    Ok(())
 }

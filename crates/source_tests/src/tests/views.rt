@@ -1,7 +1,7 @@
 //! A view of `hello`, and each answer of its calls.
 ghost use Rattle.std.specs.Prelude.{◌≡◌, ◌-◌, ◌^◌, ◌<◌, length};
 
-use crate::inputs::view_of;
+use crate::tests::inputs::view_of;
 use peer_view::{ByteView, MemWriter, TextFault, WriteFault};
 use std::alloc::{AllocError, Global};
 

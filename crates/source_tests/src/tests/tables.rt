@@ -107,14 +107,13 @@ fn answers_by_its_lines(rt: HostRuntime) {
 }
 
 #[test]
-fn refuses_bad_lines(rt: HostRuntime) -> Result<(), AllocError> {
+fn refuses_bad_lines(rt: HostRuntime) {
     let alloc = rt.alloc();
     for text in [b"".as_slice(), b"a\tk\n", b"a\tk\tv", b"a\tk\tv\tw\n"] {
-        assert!(rt; fails(alloc, text, TableFault::Line(1))?);
+        assert!(rt; fails(alloc, text, TableFault::Line(1)) == Ok(true));
     }
-    assert!(rt; fails(alloc, b"a\tk\tv\n\n", TableFault::Line(2))?);
-    assert!(rt; fails(alloc, b"a\tk\tv\na\tk\tw\n", TableFault::Repeated(2))?);
-    Ok(())
+    assert!(rt; fails(alloc, b"a\tk\tv\n\n", TableFault::Line(2)) == Ok(true));
+    assert!(rt; fails(alloc, b"a\tk\tv\na\tk\tw\n", TableFault::Repeated(2)) == Ok(true));
 }
 
 #[test]
@@ -126,23 +125,26 @@ fn takes_fields_that_are_empty_or_any_bytes(rt: HostRuntime) {
 }
 
 #[test]
-fn tells_how_reading_failed(rt: HostRuntime) -> Result<(), AllocError> {
+fn tells_how_reading_failed(rt: HostRuntime) {
     let alloc = rt.alloc();
     let text = [b"a\tk\tv\n".as_slice()];
-    assert!(rt; fault_in(alloc, &text, false, 0)? == Some(TableFault::Spent));
-    assert!(rt; fault_in(alloc, &text, false, 1)? == Some(TableFault::Spent));
-    assert!(rt; fault_in(alloc, &text, true, 10)? == Some(TableFault::ReadFault));
-    Ok(())
+    assert!(rt; fault_in(alloc, &text, false, 0) == Ok(Some(TableFault::Spent)));
+    assert!(rt; fault_in(alloc, &text, false, 1) == Ok(Some(TableFault::Spent)));
+    assert!(rt; fault_in(alloc, &text, true, 10) == Ok(Some(TableFault::ReadFault)));
 }
 
 #[test]
-fn tells_how_reading_byte_by_byte_failed(rt: HostRuntime) -> Result<(), AllocError> {
+fn tells_how_reading_byte_by_byte_failed(rt: HostRuntime) {
     let alloc = rt.alloc();
     let text = b"a\tk\tv\n";
-    assert!(rt; fault_of_bytes(alloc, text, false, 6)? == Some(TableFault::Spent));
-    assert!(rt; fault_of_bytes(alloc, text, false, 7)?.is_none());
-    assert!(rt; fault_of_bytes(alloc, text, true, 7)? == Some(TableFault::ReadFault));
-    Ok(())
+    assert!(rt; fault_of_bytes(alloc, text, false, 6) == Ok(Some(TableFault::Spent)));
+    assert!(rt; fault_of_bytes(alloc, text, false, 7) == Ok(None));
+    assert!(rt; fault_of_bytes(alloc, text, true, 7) == Ok(Some(TableFault::ReadFault)));
+}
+
+// Whether the one text has no fault, and the other has this one.
+fn is_limit(alloc: Global, most: &[u8], more: &[u8], fault: TableFault) -> bool {
+    fault_of(alloc, most) == Ok(None) && fails(alloc, more, fault) == Ok(true)
 }
 
 // A text of lines with so many groups of one byte.
@@ -155,17 +157,11 @@ fn groups(alloc: Global, count: u8) -> Result<Vec<u8>, AllocError> {
 }
 
 #[test]
-fn takes_sixty_four_groups(rt: HostRuntime) -> Result<(), AllocError> {
-    let text = groups(rt.alloc(), 64)?;
-    assert!(rt; fault_of(rt.alloc(), &text)?.is_none());
-    Ok(())
-}
-
-#[test]
-fn refuses_sixty_five_groups(rt: HostRuntime) -> Result<(), AllocError> {
-    let text = groups(rt.alloc(), 65)?;
-    assert!(rt; fails(rt.alloc(), &text, TableFault::Groups(65))?);
-    Ok(())
+fn takes_sixty_four_groups_and_no_more(rt: HostRuntime) {
+    let alloc = rt.alloc();
+    let most = groups(alloc, 64).expect(&rt, "memory");
+    let more = groups(alloc, 65).expect(&rt, "memory");
+    assert!(rt; is_limit(alloc, &most, &more, TableFault::Groups(65)));
 }
 
 // A text of one line with a value of so many bytes.
@@ -177,27 +173,20 @@ fn line_with(alloc: Global, count: usize) -> Result<Vec<u8>, AllocError> {
 }
 
 #[test]
-fn takes_a_value_at_the_limit(rt: HostRuntime) -> Result<(), AllocError> {
-    let text = line_with(rt.alloc(), 1_048_576)?;
-    assert!(rt; fault_of(rt.alloc(), &text)?.is_none());
-    Ok(())
+fn takes_a_value_at_the_limit_and_none_above(rt: HostRuntime) {
+    let alloc = rt.alloc();
+    let most = line_with(alloc, 1_048_576).expect(&rt, "memory");
+    let more = line_with(alloc, 1_048_577).expect(&rt, "memory");
+    assert!(rt; is_limit(alloc, &most, &more, TableFault::Value(1)));
 }
 
 #[test]
-fn refuses_a_value_over_the_limit(rt: HostRuntime) -> Result<(), AllocError> {
-    let text = line_with(rt.alloc(), 1_048_577)?;
-    assert!(rt; fails(rt.alloc(), &text, TableFault::Value(1))?);
-    Ok(())
-}
-
-#[test]
-fn refuses_too_many_bytes(rt: HostRuntime) -> Result<(), AllocError> {
+fn refuses_too_many_bytes(rt: HostRuntime) {
     let alloc = rt.alloc();
     let mut text = Vec::new(alloc);
-    text.resize(16_777_217, b'x')?;
+    text.resize(16_777_217, b'x').expect(&rt, "memory");
     let (most, more) = text.split_at(16_777_216);
-    assert!(rt; fault_of(alloc, most)? == Some(TableFault::Line(1)));
-    assert!(rt; fault_in(alloc, &[most, more], false, 1000)? == Some(TableFault::TooLarge));
-    assert!(rt; fault_of(alloc, &text)? == Some(TableFault::TooLarge));
-    Ok(())
+    assert!(rt; fault_of(alloc, most) == Ok(Some(TableFault::Line(1))));
+    assert!(rt; fault_in(alloc, &[most, more], false, 1000) == Ok(Some(TableFault::TooLarge)));
+    assert!(rt; fault_of(alloc, &text) == Ok(Some(TableFault::TooLarge)));
 }

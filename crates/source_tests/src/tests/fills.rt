@@ -2,8 +2,8 @@
 ghost use Rattle.peer_source.specs.Demo.{DemoAnswers, demo_number, demo_answered, demo_numbered};
 ghost use Rattle.peer_source.specs.DemoLaws.{demo_limited};
 
-use crate::inputs::view_of;
-use peer_source::{DemoSource, Fill, GetFault, GroupId, Names, Outcome, Source};
+use crate::tests::inputs::view_of;
+use peer_source::{DemoSource, Fill, GetResult, GroupId, Names, Outcome, Source};
 use peer_view::AllocSink;
 use std::alloc::{AllocError, Global};
 use std::sync::atomic::{AtomicU64, Ordering};
@@ -37,13 +37,7 @@ impl Source for Counting {
         DemoSource.group(name)
     }
 
-    fn get(
-        &self,
-        alloc: Global,
-        group: GroupId,
-        key: &[u8],
-        sink: &mut AllocSink,
-    ) -> Result<(), GetFault> {
+    fn get(&self, alloc: Global, group: GroupId, key: &[u8], sink: &mut AllocSink) -> GetResult {
         self.calls.fetch_add(1, Ordering::SeqCst);
         DemoSource.get(alloc, group, key, sink)
     }
@@ -155,17 +149,15 @@ fn another_number_is_no_group(rt: HostRuntime) {
 }
 
 #[test]
-fn a_shared_fill_is_equal(rt: HostRuntime) -> Result<(), AllocError> {
-    let shared = fill(rt.alloc(), ECHO, b"k").share()?;
+fn a_shared_fill_is_equal(rt: HostRuntime) {
+    let shared = fill(rt.alloc(), ECHO, b"k").share().expect(&rt, "memory");
     assert!(rt; is_asked(&shared) && has_found(&shared, b"k"));
-    Ok(())
 }
 
 #[test]
-fn a_shared_failure_is_equal(rt: HostRuntime) -> Result<(), AllocError> {
-    let shared = fill(rt.alloc(), SQUARE, b"x").share()?;
+fn a_shared_failure_is_equal(rt: HostRuntime) {
+    let shared = fill(rt.alloc(), SQUARE, b"x").share().expect(&rt, "memory");
     assert!(rt; has_failed(&shared, b"not a number"));
-    Ok(())
 }
 
 #[test]

@@ -1,0 +1,67 @@
+//! What becomes of a fill: it is set, those who wait for it are told, and its flight is landed.
+//!
+//! It stands on the flights of `peer_flight`. It promises that only a fill of the flight's own group and key is set.
+ghost use Rattle.std.specs.Prelude.{◌≡◌, ◌≤◌, ◌^◌, Some, IsTrue};
+ghost use Rattle.peer_flight.specs.SingleFlight.{place_of};
+
+use crate::counts::FillCounts;
+use crate::gate::Gate;
+use crate::pool::Pool;
+use peer_flight::{FillRight, Put};
+use peer_source::{Fill, Source};
+use peer_wait::lock;
+use std::sync::Wait;
+use std::sync::ledger::Ledger;
+
+// One who waits for room in the queue is told each time that a worker has made so many fills, and wakes the next one. A
+// notice for each job would wake a reader for the place of one job. Where the queue is empty, all are told.
+const JOBS_PER_NOTICE: u64 = 32;
+
+impl<S: Source, L: Ledger> Pool<S, L> {
+    ghost use Rattle.peer_fill.specs.Counts.{taken_of};
+
+    // Sets the fill of the flight, which is of the flight's group and key, and tells those who wait for it.
+    fn put<R: Wait, G: Gate>(&self, rt: &R, right: FillRight<S>, fill: Fill<S>, gate: &G) -> Put<S>
+        requires { place_of fill.group fill.key ≡ right.place }
+        ensures flight { result.flight ≡ right }
+        ensures kept { IsTrue result.kept → result.note.known ≡ Some fill }
+    {
+        let put = right.put(fill);
+        self.signals.fill(put.flight.number()).notify_all();
+        gate.after_put(
+            rt,
+            put.flight.number(),
+            put.flight.group(),
+            put.flight.key().as_slice(),
+        );
+        put
+    }
+
+    // Takes the flight out of the table. Its right is spent, or there were no `put`.
+    fn land<R: Wait>(&self, rt: &R, put: Put<S>) {
+        lock(rt, &self.table).land(&put);
+    }
+
+    // Sets the fill of a flight with this right, and lands it.
+    pub(crate) fn put_and_land<R: Wait, G: Gate>(
+        &self,
+        rt: &R,
+        right: FillRight<S>,
+        fill: Fill<S>,
+        gate: &G,
+    )
+        requires { place_of fill.group fill.key ≡ right.place }
+    {
+        let put = self.put(rt, right, fill, gate);
+        self.land(rt, put);
+    }
+
+    // Tells who waits for room, each time that a worker has made so many fills.
+    pub(crate) fn tell_of_room(&self, fills: &FillCounts)
+        requires { taken_of fills.now ≤ 2 ^ 56 }
+    {
+        if (fills.calls + fills.rehits) % JOBS_PER_NOTICE == 0 {
+            self.signals.room.notify_one();
+        }
+    }
+}
