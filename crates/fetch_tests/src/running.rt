@@ -47,7 +47,11 @@ struct Beside<'t, 'k> {
 }
 
 // Asks beside the origin, and then tells the origin and the fetch thread to end.
-fn ask_beside<S: Source, L: Ledger + Send + Sync, H: Threads + Clock + Wait + Sync>(
+fn ask_beside<
+    S: Source,
+    L: Ledger + Send + Sync,
+    H: Net<Listener = TcpListener, Stream = TcpStream> + Threads + Wait + Clock + Sync,
+>(
     rt: &H,
     alloc: Global,
     pool: &Pool<S, L>,
@@ -84,7 +88,7 @@ fn ask_beside<S: Source, L: Ledger + Send + Sync, H: Threads + Clock + Wait + Sy
 fn run_all<
     S: Source,
     L: Ledger + Send + Sync,
-    H: Threads + Net<Listener = TcpListener, Stream = TcpStream> + Clock + Wait + Sync,
+    H: Net<Listener = TcpListener, Stream = TcpStream> + Threads + Wait + Clock + Sync,
 >(
     rt: &H,
     alloc: Global,
@@ -121,7 +125,7 @@ fn run_all<
 fn use_lists<
     S: Source,
     L: Ledger + Send + Sync,
-    H: Threads + Net<Listener = TcpListener, Stream = TcpStream> + Clock + Wait + Sync,
+    H: Net<Listener = TcpListener, Stream = TcpStream> + Threads + Wait + Clock + Sync,
 >(
     rt: &H,
     alloc: Global,
@@ -148,7 +152,7 @@ fn use_lists<
 fn run_opened<
     S: Source,
     L: Ledger + Send + Sync,
-    H: Threads + Net<Listener = TcpListener, Stream = TcpStream> + Clock + Wait + Sync,
+    H: Net<Listener = TcpListener, Stream = TcpStream> + Threads + Wait + Clock + Sync,
 >(
     rt: &H,
     alloc: Global,
@@ -166,7 +170,7 @@ fn run_opened<
 }
 
 // The place of the listener, under the prefix `/v/`.
-fn place_of<H: Net<Listener = TcpListener, Stream = TcpStream>>(
+fn place_of<H: Net<Listener = TcpListener, Stream = TcpStream> + Wait + Clock>(
     rt: &H,
     alloc: Global,
     listener: &TcpListener,
@@ -184,7 +188,7 @@ pub struct Prepared {
 }
 
 /// A listener on a free port of the loopback address.
-pub fn prepare<H: Net<Listener = TcpListener, Stream = TcpStream>>(
+pub fn prepare<H: Net<Listener = TcpListener, Stream = TcpStream> + Wait + Clock>(
     rt: &H,
     alloc: Global,
 ) -> Option<Prepared> {
@@ -199,7 +203,7 @@ pub fn prepare<H: Net<Listener = TcpListener, Stream = TcpStream>>(
 // What is seen of a setting at the places of these origins.
 fn see_at<
     L: Ledger + Send + Sync,
-    H: Threads + Net<Listener = TcpListener, Stream = TcpStream> + Clock + Wait + Sync,
+    H: Net<Listener = TcpListener, Stream = TcpStream> + Threads + Wait + Clock + Sync,
 >(
     rt: &H,
     alloc: Global,
@@ -234,7 +238,7 @@ fn see_at<
 // What is seen of a setting.
 fn see<
     L: Ledger + Send + Sync,
-    H: Threads + Net<Listener = TcpListener, Stream = TcpStream> + Clock + Wait + Sync,
+    H: Net<Listener = TcpListener, Stream = TcpStream> + Threads + Wait + Clock + Sync,
 >(rt: &H, alloc: Global, setting: Setting<'_>, blank: Blank) -> Option<(Seen, Option<Report>)>
     requires name { blank.name ≡ L.name }
     requires parts { (blank.parts ≡ L.parts) × (blank.parts ≡ 16) }

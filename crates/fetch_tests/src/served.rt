@@ -33,7 +33,7 @@ fn digits(number: u8) -> [u8; 2] {
 }
 
 // A client that has asked for the key of its number.
-fn ask<H: Net<Listener = TcpListener, Stream = TcpStream>>(
+fn ask<H: Net<Listener = TcpListener, Stream = TcpStream> + Wait + Clock>(
     rt: &H,
     address: SocketAddr,
     number: u8,
@@ -57,7 +57,7 @@ fn is_answered(alloc: Global, stream: &TcpStream, number: u8) -> bool {
 }
 
 // Asks for a key by each client, and then looks at all replies.
-fn ask_all<H: Net<Listener = TcpListener, Stream = TcpStream>>(
+fn ask_all<H: Net<Listener = TcpListener, Stream = TcpStream> + Wait + Clock>(
     rt: &H,
     alloc: Global,
     address: SocketAddr,
@@ -77,10 +77,10 @@ fn ask_all<H: Net<Listener = TcpListener, Stream = TcpStream>>(
 fn serve_clients<
     S: Source,
     H: AllocGlobal
-        + Threads
         + Net<Listener = TcpListener, Stream = TcpStream>
-        + Clock
+        + Threads
         + Wait
+        + Clock
         + Sync,
 >(
     rt: &H,
@@ -117,10 +117,10 @@ fn limits() -> Limits {
 fn serve_held<
     S: Source,
     H: AllocGlobal
-        + Threads
         + Net<Listener = TcpListener, Stream = TcpStream>
-        + Clock
+        + Threads
         + Wait
+        + Clock
         + Sync,
 >(
     rt: &H,
@@ -160,11 +160,11 @@ struct Outside {
 fn serve_prepared<
     'x,
     H: AllocGlobal
-        + Threads
-        + Net<Listener = TcpListener, Stream = TcpStream>
-        + Clock
-        + Wait
         + RandomSource
+        + Net<Listener = TcpListener, Stream = TcpStream>
+        + Threads
+        + Wait
+        + Clock
         + Sync,
 >(rt: &'x H, outside: &'x Outside) -> Option<bool> {
     let Prepared { listener, origins } = prepare(rt, rt.alloc())?;

@@ -2,9 +2,10 @@
 //!
 //! It stands on the sides of a connection and the lane between them. It promises that what is written is the replies to
 //! what was read, as the end says, and what the seat counted.
-ghost use Rattle.std.specs.Prelude.{◌≡◌, ℕ, ◌+◌, ◌-◌, ◌^◌, ◌<◌};
+ghost use Rattle.std.specs.Prelude.{ℕ, ◌+◌, ◌-◌, ◌^◌, ◌<◌};
+ghost use Rattle.peer_fill.specs.Claiming.{KeepsSeat};
 ghost use Rattle.peer_fill.specs.Pools.{source_of, IsConnSeatOf};
-ghost use Rattle.peer_fill.specs.Seats.{asks_of, conn_parts};
+ghost use Rattle.peer_fill.specs.Seats.{asks_of};
 ghost use Rattle.peer_wish.specs.Allowed.{only, allows};
 ghost use Rattle.peer_conn.specs.Calls.{CallConnects, CallWrites};
 ghost use Rattle.peer_conn.specs.Sides.{AreNewSides, ServesSides};
@@ -25,7 +26,7 @@ use std::snapshot::Snapshot;
 use std::sync::Wait;
 use std::sync::ledger::Ledger;
 use std::thread;
-use std::thread::{Promise, Threads};
+use std::thread::{Promise, Scope, Threads};
 
 /// Serves one connection with at most `reads` reads. One thread reads and asks the pool ahead, and another writes, so
 /// that fills for one connection are had beside one another.
@@ -50,8 +51,7 @@ pub fn serve_connection<
     requires seat { IsConnSeatOf pool.now seat }
     requires calls { R.calls reader + reads < 2 ^ 64 }
     requires failures { W.failures writer < 2 ^ 64 - 1 }
-    ensures seat { IsConnSeatOf pool.now result.1 }
-    ensures parts { conn_parts result.1 ≡ conn_parts seat }
+    ensures seat { KeepsSeat pool.now seat result.1 }
     ensures strangers { CountsFew (asks_of seat) (asks_of result.1) }
     ensures connects { CallConnects R.PeerRead W.PeerWrite reader writer result.0 (S.number_of (source_of pool.now))
         (allows S.allowed) reads seat result.1 }
@@ -103,8 +103,7 @@ pub fn serve_connection_functional<
     requires seat { IsConnSeatOf pool.now seat }
     requires calls { R.calls reader + reads < 2 ^ 64 }
     requires failures { W.failures writer < 2 ^ 64 - 1 }
-    ensures seat { IsConnSeatOf pool.now result.1 }
-    ensures parts { conn_parts result.1 ≡ conn_parts seat }
+    ensures seat { KeepsSeat pool.now seat result.1 }
     ensures strangers { CountsFew (asks_of seat) (asks_of result.1) }
     ensures connects { CallConnects R.PeerRead W.PeerWrite reader writer result.0 S.the_number (only S.the_answer) reads seat result.1 }
     ensures writes_replies { CallWrites R.PeerRead W.PeerWrite reader writer result.0 S.the_number (only S.the_answer) }
@@ -127,8 +126,7 @@ fn serve_sides<
 ) -> (Served<R, W>, ConnSeat<S, L>)
     requires seat { IsConnSeatOf pool.now reader.seat }
     requires sides { AreNewSides reader writer }
-    ensures seat { IsConnSeatOf pool.now result.1 }
-    ensures parts { conn_parts result.1 ≡ conn_parts reader.seat }
+    ensures seat { KeepsSeat pool.now reader.seat result.1 }
     ensures strangers { CountsFew (asks_of reader.seat) (asks_of result.1) }
     ensures serves { ServesSides (S.number_of (source_of pool.now)) (allows S.allowed) reader writer result.0 (asks_of result.1).asked }
 {
@@ -163,8 +161,67 @@ impl<'a, S: Source, L: Ledger, R: PeerRead + Drop> Promise<StoppedReader<S, L, R
     ghost kept_by = { λ p r. TakesRequests (S.number_of (source_of p.pool.now)) p.pool.now p.side.value r.side r.stop };
 }
 
+// Reads until the reader stops, and tells the writer that nothing more comes.
+fn read_side<S: Source, L: Ledger, R: PeerRead + Drop, H: Wait>(
+    rt: &H,
+    pool: &Pool<S, L>,
+    signal: &Signal,
+    reader: ReaderSide<S, L, R>,
+) -> StoppedReader<S, L, R>
+    requires { IsConnSeatOf pool.now reader.seat }
+    ensures { TakesRequests (S.number_of (source_of pool.now)) pool.now reader result.side result.stop }
+{
+    let mut side = reader;
+    let stop = side.take_requests(rt, pool, &pool.source(), signal);
+    signal.finish();
+    StoppedReader { side, stop }
+}
+
 // Reads in a thread of its own and writes in this one. Where no thread can be had, the reader is stopped before its first
 // read.
+fn run_within<
+    's,
+    E,
+    S: Source,
+    L: Ledger + Send + Sync,
+    R: PeerRead + Send + Drop + 's,
+    W: PeerWrite + Drop,
+    H: Threads + Wait + Sync,
+>(
+    scope: &Scope<'s, E>,
+    rt: &'s H,
+    pool: &'s Pool<S, L>,
+    signal: &'s Signal,
+    reader: ReaderSide<S, L, R>,
+    mut writer: WriterSide<S, W>,
+) -> (StoppedReader<S, L, R>, WriterSide<S, W>)
+    requires { IsConnSeatOf pool.now reader.seat }
+    ensures read { TakesRequests (S.number_of (source_of pool.now)) pool.now reader result.0.side result.0.stop }
+    ensures wrote { AnswersTickets (allows S.allowed) writer result.1 }
+{
+    let promise = ReaderPromise {
+        pool,
+        side: Snapshot::of(&reader),
+    };
+    let read = move || -> StoppedReader<S, L, R>
+        requires { IsConnSeatOf pool.now reader.seat }
+        ensures { TakesRequests (S.number_of (source_of pool.entry.now)) pool.entry.now reader result.side result.stop }
+    { read_side(rt, pool, signal, reader) };
+    match scope.spawn_with(promise, read) {
+        Ok(child) => {
+            writer.run(rt, pool, signal);
+            (child.join(rt), writer)
+        }
+        Err(refused) => {
+            signal.stop();
+            let read = (refused.value)();
+            writer.run(rt, pool, signal);
+            (read, writer)
+        }
+    }
+}
+
+// The same, in a scope of its own.
 fn run_sides<
     S: Source,
     L: Ledger + Send + Sync,
@@ -189,33 +246,6 @@ fn run_sides<
             requires { IsConnSeatOf pool.now reader.seat }
             ensures read { TakesRequests (S.number_of (source_of pool.entry.now)) pool.entry.now reader result.0.side result.0.stop }
             ensures wrote { AnswersTickets (allows S.allowed) writer result.1 }
-        {
-            let mut writer = writer;
-            let promise = ReaderPromise {
-                pool,
-                side: Snapshot::of(&reader),
-            };
-            let job = move || -> StoppedReader<S, L, R>
-                requires { IsConnSeatOf pool.now reader.seat }
-                ensures { TakesRequests (S.number_of (source_of pool.entry.now)) pool.entry.now reader result.side result.stop }
-            {
-                let mut side = reader;
-                let stop = side.take_requests(rt, pool, &pool.source(), signal);
-                signal.finish();
-                StoppedReader { side, stop }
-            };
-            match scope.spawn_with(promise, job) {
-                Ok(child) => {
-                    writer.run(rt, pool, signal);
-                    (child.join(rt), writer)
-                }
-                Err(refused) => {
-                    signal.stop();
-                    let read = (refused.value)();
-                    writer.run(rt, pool, signal);
-                    (read, writer)
-                }
-            }
-        },
+        { run_within(scope, rt, pool, signal, reader, writer) },
     )
 }

@@ -14,7 +14,8 @@ use Rattle.peer_fetch.specs.declared.settings.FetchPlan.{FetchPlan}
 
 -- of groups that have a place the source may answer whatever an origin may
 abbrev pub AllowsOrigins : (ℕ → List ℕ → Answer → Type 0) → ℕ → List Place → Type 0
-AllowsOrigins answers first each = (group : ℕ) (key : List ℕ) (a : Answer) → HasPlace first each group → IsOriginAnswer a → answers group key a
+AllowsOrigins answers first each = (group : ℕ) (key : List ℕ) (a : Answer) → HasPlace first each group → IsOriginAnswer a
+    → answers group key a
 
 -- the same for the places of a plan
 abbrev pub Allows : (ℕ → List ℕ → Answer → Type 0) → FetchPlan → Type 0

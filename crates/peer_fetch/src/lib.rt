@@ -9,10 +9,13 @@
 #![tactic(auto)]
 
 mod bell;
+mod connections;
 mod done;
 mod fetcher;
 mod fetching;
+mod jobs;
 mod link;
+mod opening;
 mod places;
 mod settings;
 mod thread;

@@ -1,5 +1,5 @@
 //! A connection to an origin, and the value that is under way on it.
-ghost use Rattle.std.specs.Prelude.{◌≤◌, length, IfOk};
+ghost use Rattle.std.specs.Prelude.{◌≤◌, length, IfOk, IfSome};
 ghost use Rattle.peer_view.specs.Sinks.{MAX_VALUE};
 ghost use Rattle.peer_fetch.specs.Values.{IsFoundBy};
 
@@ -44,7 +44,7 @@ enum Halt {
 
 // What the system reported of a stream, and no call has found otherwise since.
 #[derive(Clone, Copy)]
-struct Signs {
+struct Readiness {
     readable: bool,
     // The origin sends no more.
     read_closed: bool,
@@ -57,7 +57,7 @@ pub struct Link<'a, S: Source> {
     under: Option<UnderWay<'a, S>>,
     // When the address is given up. None once it is connected.
     connect_due: Option<Duration>,
-    signs: Signs,
+    readiness: Readiness,
     /// The number of its origin.
     pub origin: usize,
     /// Which address of the origin is tried next, where this one is not reached.
@@ -115,16 +115,40 @@ fn send<S: Source>(stream: &mut TcpStream, under: &mut UnderWay<'_, S>) -> Optio
     Some(Halt::Busy)
 }
 
-// The answer that the end of the connection gives.
-fn end<S: Source>(under: &mut UnderWay<'_, S>) -> Result<Answer, Halt>
-    requires { length under.old.fetching.request.items ≤ under.old.fetching.sent }
-    ensures within { IfOk result (λ a. IfOk a.value (λ v. length v.items ≤ MAX_VALUE)) }
-    ensures found { IfOk result (λ a. IfOk a.value (IsFoundBy under.new.fetching)) }
+// Reads what has come. `Some(0)` is the end of the stream, and none is nothing that has come.
+fn read(
+    stream: &mut TcpStream,
+    room: &mut [u8],
+    readiness: &mut Readiness,
+) -> io::Result<Option<usize>>
+    ensures { IfOk result (λ came. IfSome came (λ n. n ≤ length room.new)) }
 {
-    match under.end() {
-        Ok(answer) => Ok(answer),
-        Err(failure) => Err(Halt::Failed(failure)),
+    match stream.read(room) {
+        Ok(n) => {
+            // Less than there was room for is all that has come.
+            readiness.readable = n == room.len() || readiness.read_closed;
+            Ok(Some(n))
+        }
+        Err(error) if would_block(&error) => {
+            readiness.readable = false;
+            Ok(None)
+        }
+        Err(error) if was_interrupted(&error) => Ok(None),
+        Err(error) => Err(error),
     }
+}
+
+// Takes in what was read, no byte being the end of the connection. None where there is no answer yet.
+fn take_in<S: Source>(under: &mut UnderWay<'_, S>, bytes: &[u8]) -> Result<Option<Answer>, Failure>
+    requires { length under.old.fetching.request.items ≤ under.old.fetching.sent }
+    ensures within { IfOk result (λ came. IfSome came (λ a. IfOk a.value (λ v. length v.items ≤ MAX_VALUE))) }
+    ensures found { IfOk result (λ came. IfSome came (λ a. IfOk a.value (IsFoundBy under.new.fetching))) }
+{
+    if bytes.is_empty() {
+        let answer = under.end()?;
+        return Ok(Some(answer));
+    }
+    under.receive(bytes)
 }
 
 // Receives what comes, once all is sent.
@@ -132,29 +156,25 @@ fn receive<S: Source>(
     stream: &mut TcpStream,
     under: &mut UnderWay<'_, S>,
     buffer: &mut [u8],
-    signs: &mut Signs,
+    readiness: &mut Readiness,
 ) -> Result<Answer, Halt>
     ensures within { IfOk result (λ a. IfOk a.value (λ v. length v.items ≤ MAX_VALUE)) }
     ensures found { IfOk result (λ a. IfOk a.value (IsFoundBy under.new.fetching)) }
 {
     for _ in 0..ROUNDS {
-        if !signs.readable || !under.is_sent() {
+        if !readiness.readable || !under.is_sent() {
             return Err(Halt::Waits);
         }
-        match stream.read(buffer) {
-            Ok(0) => return end(under),
-            Ok(n) => {
-                // Less than there was room for is all that has come.
-                signs.readable = n == buffer.len() || signs.read_closed;
-                match under.receive(&buffer[..n]) {
-                    Ok(None) => {}
-                    Ok(Some(answer)) => return Ok(answer),
-                    Err(failure) => return Err(Halt::Failed(failure)),
-                }
-            }
-            Err(error) if would_block(&error) => signs.readable = false,
-            Err(error) if was_interrupted(&error) => {}
-            Err(_) => return Err(Halt::Failed(under.cut())),
+        let Ok(came) = read(stream, buffer, readiness) else {
+            return Err(Halt::Failed(under.cut()));
+        };
+        let Some(n) = came else {
+            continue;
+        };
+        match take_in(under, &buffer[..n]) {
+            Ok(None) => {}
+            Ok(Some(answer)) => return Ok(answer),
+            Err(failure) => return Err(Halt::Failed(failure)),
         }
     }
     Err(Halt::Busy)
@@ -173,7 +193,7 @@ impl<'a, S: Source> Link<'a, S> {
             stream,
             under: Some(under),
             connect_due: Some(due),
-            signs: Signs {
+            readiness: Readiness {
                 readable: false,
                 read_closed: false,
             },
@@ -186,13 +206,15 @@ impl<'a, S: Source> Link<'a, S> {
 
     /// Notes what was reported.
     pub fn note(&mut self, event: &Event) {
-        self.signs.readable |= event.is_readable() || event.is_read_closed() || event.is_error();
-        self.signs.read_closed |= event.is_read_closed() || event.is_error();
+        self.readiness.readable |= event.is_readable()
+            || event.is_read_closed()
+            || event.is_error();
+        self.readiness.read_closed |= event.is_read_closed() || event.is_error();
     }
 
     /// Whether no value is under way, and another one may be asked for: nothing came, not even the end.
     pub fn is_idle(&self) -> bool {
-        if self.under.is_some() || self.signs.read_closed {
+        if self.under.is_some() || self.readiness.read_closed {
             return false;
         }
         let mut byte = [0u8; 1];
@@ -209,7 +231,7 @@ impl<'a, S: Source> Link<'a, S> {
 
     /// Asks for another value.
     pub fn begin(&mut self, under: UnderWay<'a, S>) {
-        self.signs.readable = false;
+        self.readiness.readable = false;
         self.was_kept = true;
         self.put(under);
     }
@@ -230,7 +252,7 @@ impl<'a, S: Source> Link<'a, S> {
         let mut under = under;
         let halt = match send(&mut self.stream, &mut under) {
             Some(halt) => halt,
-            None => match receive(&mut self.stream, &mut under, buffer, &mut self.signs) {
+            None => match receive(&mut self.stream, &mut under, buffer, &mut self.readiness) {
                 Ok(answer) => {
                     let Answer { value, keeps } = answer;
                     return Turn::Done(under.done(value), keeps);

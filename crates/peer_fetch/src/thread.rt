@@ -1,29 +1,25 @@
 //! The thread that fetches: it takes jobs, waits for its connections, and fills flights.
-ghost use Rattle.std.specs.Prelude.{◌≡◌, IfSome};
-ghost use Rattle.peer_source.specs.Outcomes.{answer_of};
+ghost use Rattle.std.specs.Prelude.{◌≡◌};
 ghost use Rattle.peer_fill.specs.Pools.{source_of, IsFillSeatOf};
-ghost use Rattle.peer_origin.specs.Origins.{IsOriginAnswer};
 ghost use Rattle.peer_fetch.specs.Threads.{Allows, IsLaterSeat};
 
 use crate::bell::{FetchBell, WOKEN};
-use crate::done::{Done, outcome_of};
-use crate::fetcher::{Fetcher, Ground, Room};
+use crate::fetcher::{Fetcher, Room};
+use crate::jobs::{Jobs, serve_ready, take_jobs};
+use crate::opening::System;
 use crate::settings::FetchPlan;
-use mio::{Events, Poll, Registry};
-use peer_fill::{FillSeat, Gate, Pool, TakenJob};
-use peer_source::{Outcome, Source};
+use mio::{Events, Poll};
+use peer_fill::{FillSeat, Gate, Pool};
+use peer_host::Network;
+use peer_source::Source;
 use std::alloc::Global;
 use std::net::Net;
-use std::sync::Wait;
 use std::sync::ledger::Ledger;
 use std::thread;
 use std::time::{Clock, Duration, Instant};
 
 // How many events one wait gives.
 const MAX_EVENTS: usize = 1024;
-
-// How many jobs are taken in one turn.
-const JOBS_OF_TURN: usize = 1024;
 
 /// What the system and memory give a thread that fetches, before it is one.
 #[derive(Drop)]
@@ -50,142 +46,25 @@ struct Running<'a, S: Source> {
     pause: Duration,
 }
 
-// The pool whose jobs are taken, its gate, and what is fetched.
-#[derive(Drop)]
-struct Desk<'p, 'a, S: Source, L: Ledger, G> {
-    alloc: Global,
-    pool: &'p Pool<S, L>,
-    gate: &'p G,
-    plan: FetchPlan<'a>,
-}
-
-// Fills the flight of a job: with this outcome, where its group has a place. No job of another group comes here, and one
-// that did would be filled by a call of the source.
-fn fill<'a, S: Source, L: Ledger, G: Gate, H: Wait>(
-    rt: &H,
-    desk: &Desk<'_, 'a, S, L, G>,
-    seat: &mut FillSeat<S, L>,
-    job: TakenJob<S>,
-    outcome: Outcome,
-)
-    requires seat { IsFillSeatOf desk.now.pool.now seat.old }
-    requires answers { Allows (S.answers (source_of desk.now.pool.now)) desk.now.plan }
-    requires answer { IfSome (answer_of outcome) IsOriginAnswer }
-    ensures { IsLaterSeat desk.now.pool.now seat.old seat.new }
-{
-    match desk.plan.places.of(job.group()) {
-        Some(_) => desk.pool.finish(rt, seat, job, outcome, desk.gate),
-        None => desk.pool.fill_job(rt, desk.alloc, seat, job, desk.gate),
-    }
-}
-
-// Fills the flight of a job whose value was fetched, or was not, and counts why it was not.
-fn fill_done<'a, S: Source, L: Ledger, G: Gate, H: Wait>(
-    rt: &H,
-    desk: &Desk<'_, 'a, S, L, G>,
-    seat: &mut FillSeat<S, L>,
-    done: Option<Done<'a, S>>,
-)
-    requires seat { IsFillSeatOf desk.now.pool.now seat.old }
-    requires answers { Allows (S.answers (source_of desk.now.pool.now)) desk.now.plan }
-    ensures { IsLaterSeat desk.now.pool.now seat.old seat.new }
-{
-    let Some(done) = done else {
-        return;
-    };
-    let Done { job, got, .. } = done;
-    if let Err(fault) = &got {
-        desk.plan.failures.count(fault.kind());
-    }
-    fill(rt, desk, seat, job, outcome_of(desk.alloc, got));
-}
-
-// Takes a job, and begins to fetch its value where its group has a place. Whether there was one.
-fn take_job<'a, S: Source, L: Ledger, G: Gate, H: Net + Wait>(
-    ground: &Ground<'_, H>,
-    desk: &Desk<'_, 'a, S, L, G>,
-    seat: &mut FillSeat<S, L>,
-    fetcher: &mut Fetcher<'a, S>,
-) -> bool
-    requires seat { IsFillSeatOf desk.now.pool.now seat.old }
-    requires answers { Allows (S.answers (source_of desk.now.pool.now)) desk.now.plan }
-    ensures { IsLaterSeat desk.now.pool.now seat.old seat.new }
-{
-    let Some(job) = desk.pool.take_job(ground.rt, seat, desk.gate) else {
-        return false;
-    };
-    match desk.plan.places.of(job.group()) {
-        Some(at) => {
-            let done = fetcher.begin(ground, at, job);
-            fill_done(ground.rt, desk, seat, done);
-        }
-        None => desk
-            .pool
-            .fill_job(ground.rt, desk.alloc, seat, job, desk.gate),
-    }
-    true
-}
-
-// Takes jobs while there is room for their values, so many at most. Whether there was one.
-fn take_jobs<'a, S: Source, L: Ledger, G: Gate, H: Net + Wait>(
-    ground: &Ground<'_, H>,
-    desk: &Desk<'_, 'a, S, L, G>,
-    seat: &mut FillSeat<S, L>,
-    fetcher: &mut Fetcher<'a, S>,
-) -> bool
-    requires seat { IsFillSeatOf desk.now.pool.now seat.old }
-    requires answers { Allows (S.answers (source_of desk.now.pool.now)) desk.now.plan }
-    ensures { IsLaterSeat desk.now.pool.now seat.old seat.new }
-{
-    let mut took = false;
-    for _ in 0..JOBS_OF_TURN {
-        if !fetcher.has_room() || !take_job(ground, desk, seat, fetcher) {
-            return took;
-        }
-        took = true;
-    }
-    took
-}
-
-// Gives each of those a turn that are to have one by now.
-fn serve_ready<'a, S: Source, L: Ledger, G: Gate, H: Net + Wait>(
-    ground: &Ground<'_, H>,
-    desk: &Desk<'_, 'a, S, L, G>,
-    seat: &mut FillSeat<S, L>,
-    fetcher: &mut Fetcher<'a, S>,
-)
-    requires seat { IsFillSeatOf desk.now.pool.now seat.old }
-    requires answers { Allows (S.answers (source_of desk.now.pool.now)) desk.now.plan }
-    ensures { IsLaterSeat desk.now.pool.now seat.old seat.new }
-{
-    for _ in 0..fetcher.ready_count() {
-        let Some(key) = fetcher.next_ready() else {
-            return;
-        };
-        let done = fetcher.turn(ground, key);
-        fill_done(ground.rt, desk, seat, done);
-    }
-}
-
 // How long the thread may wait for events. Where it has room for a value, it looks for a job behind setting that it
 // sleeps.
-fn time_to_wait<'a, S: Source, L: Ledger, G: Gate, H: Net + Wait>(
-    ground: &Ground<'_, H>,
-    desk: &Desk<'_, 'a, S, L, G>,
+fn time_to_wait<'a, S: Source, L: Ledger, G: Gate, H: Network>(
+    system: &System<'_, H>,
+    jobs: &Jobs<'_, 'a, S, L, G>,
     seat: &mut FillSeat<S, L>,
     fetcher: &mut Fetcher<'a, S>,
     bell: &FetchBell,
 ) -> Option<Duration>
-    requires seat { IsFillSeatOf desk.now.pool.now seat.old }
-    requires answers { Allows (S.answers (source_of desk.now.pool.now)) desk.now.plan }
-    ensures { IsLaterSeat desk.now.pool.now seat.old seat.new }
+    requires seat { IsFillSeatOf jobs.now.pool.now seat.old }
+    requires answers { Allows (S.answers (source_of jobs.now.pool.now)) jobs.now.plan }
+    ensures { IsLaterSeat jobs.now.pool.now seat.old seat.new }
 {
     if fetcher.is_ready() {
         return Some(Duration::ZERO);
     }
     if fetcher.has_room() {
         bell.fall_asleep();
-        if take_jobs(ground, desk, seat, fetcher) || bell.is_stopping() && fetcher.is_empty() {
+        if take_jobs(system, jobs, seat, fetcher) || bell.is_stopping() && fetcher.is_empty() {
             return Some(Duration::ZERO);
         }
     }
@@ -194,20 +73,20 @@ fn time_to_wait<'a, S: Source, L: Ledger, G: Gate, H: Net + Wait>(
 
 // Takes jobs, and gives those that are ready their turn. Whether all is done: no more jobs are pushed, there is none, and
 // no value is under way.
-fn work_on<'a, S: Source, L: Ledger, G: Gate, H: Net + Wait>(
-    ground: &Ground<'_, H>,
-    desk: &Desk<'_, 'a, S, L, G>,
+fn work_on<'a, S: Source, L: Ledger, G: Gate, H: Network>(
+    system: &System<'_, H>,
+    jobs: &Jobs<'_, 'a, S, L, G>,
     seat: &mut FillSeat<S, L>,
     fetcher: &mut Fetcher<'a, S>,
     bell: &FetchBell,
 ) -> bool
-    requires seat { IsFillSeatOf desk.now.pool.now seat.old }
-    requires answers { Allows (S.answers (source_of desk.now.pool.now)) desk.now.plan }
-    ensures { IsLaterSeat desk.now.pool.now seat.old seat.new }
+    requires seat { IsFillSeatOf jobs.now.pool.now seat.old }
+    requires answers { Allows (S.answers (source_of jobs.now.pool.now)) jobs.now.plan }
+    ensures { IsLaterSeat jobs.now.pool.now seat.old seat.new }
 {
     let stopping = bell.is_stopping();
-    let took = take_jobs(ground, desk, seat, fetcher);
-    serve_ready(ground, desk, seat, fetcher);
+    let took = take_jobs(system, jobs, seat, fetcher);
+    serve_ready(system, jobs, seat, fetcher);
     stopping && !took && fetcher.is_empty()
 }
 
@@ -232,7 +111,7 @@ impl<'a> FetchThread<'a> {
 
     /// Takes jobs of the pool and fills their flights with what the origins answer, until the bell was stopped, there is no
     /// job, and no value is under way. For a group without a place the source is called.
-    pub fn run<S: Source, L: Ledger, G: Gate, H: Net + Clock + Wait>(
+    pub fn run<S: Source, L: Ledger, G: Gate, H: Network>(
         self,
         rt: &H,
         pool: &Pool<S, L>,
@@ -254,14 +133,14 @@ impl<'a> FetchThread<'a> {
         };
         let mut seat = seat;
         let begun = Instant::now(rt).ok();
-        let desk = Desk {
+        let jobs = Jobs {
             alloc,
             pool,
             gate,
             plan,
         };
         for _ in rt.forever() {
-            if thread.turn(rt, &desk, &mut seat, bell) {
+            if thread.turn(rt, &jobs, &mut seat, bell) {
                 return seat;
             }
             thread.tell_time(rt, begun);
@@ -294,25 +173,25 @@ impl<'a, S: Source> Running<'a, S> {
     }
 
     // One turn: takes jobs, serves those that are ready, and waits. Whether all is done.
-    fn turn<L: Ledger, G: Gate, H: Net + Clock + Wait>(
+    fn turn<L: Ledger, G: Gate, H: Network>(
         &mut self,
         rt: &H,
-        desk: &Desk<'_, 'a, S, L, G>,
+        jobs: &Jobs<'_, 'a, S, L, G>,
         seat: &mut FillSeat<S, L>,
         bell: &FetchBell,
     ) -> bool
-        requires seat { IsFillSeatOf desk.now.pool.now seat.old }
-        requires answers { Allows (S.answers (source_of desk.now.pool.now)) desk.now.plan }
-        ensures { IsLaterSeat desk.now.pool.now seat.old seat.new }
+        requires seat { IsFillSeatOf jobs.now.pool.now seat.old }
+        requires answers { Allows (S.answers (source_of jobs.now.pool.now)) jobs.now.plan }
+        ensures { IsLaterSeat jobs.now.pool.now seat.old seat.new }
     {
-        let ground = Ground {
+        let system = System {
             rt,
             registry: self.poll.registry(),
         };
-        if work_on(&ground, desk, seat, &mut self.fetcher, bell) {
+        if work_on(&system, jobs, seat, &mut self.fetcher, bell) {
             return true;
         }
-        let time = time_to_wait(&ground, desk, seat, &mut self.fetcher, bell);
+        let time = time_to_wait(&system, jobs, seat, &mut self.fetcher, bell);
         self.wait(rt, time, bell);
         false
     }

@@ -12,3 +12,4 @@ pub mod Claiming
 pub mod Openings
 pub mod Gatherings
 pub mod Closes
+pub mod Lists

@@ -61,8 +61,8 @@ fn run<
         + Print
         + Eprint
         + Files
-        + Net<Listener = TcpListener, Stream = TcpStream>
         + RandomSource
+        + Net<Listener = TcpListener, Stream = TcpStream>
         + Threads
         + Wait
         + Clock

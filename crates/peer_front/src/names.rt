@@ -1,10 +1,9 @@
 //! Names of services, which are looked up again while it serves: a service may move to other addresses.
 
 use crate::end::End;
+use peer_host::Network;
 use peer_origin::Place;
-use std::net::{Net, TcpListener, TcpStream};
-use std::sync::Wait;
-use std::time::{Clock, Duration};
+use std::time::Duration;
 
 // The seconds between two look-ups of a name.
 const BETWEEN: u64 = 5;
@@ -15,9 +14,7 @@ pub fn has_names(places: &[Place]) -> bool {
 }
 
 /// Looks the names up again every five seconds, until the end is told.
-pub fn look_up_names<
-    H: AllocGlobal + Net<Listener = TcpListener, Stream = TcpStream> + Wait + Clock,
->(rt: &H, places: &[Place], end: &End) {
+pub fn look_up_names<H: AllocGlobal + Network>(rt: &H, places: &[Place], end: &End) {
     for _ in rt.forever() {
         end.wait(rt, Duration::from_secs(BETWEEN));
         if end.is_told() {

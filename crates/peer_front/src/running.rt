@@ -8,32 +8,37 @@ use crate::page::Page;
 use crate::troubles::tell_troubles;
 use peer_fetch::FetchPlan;
 use peer_fill::Report;
+use peer_host::Host;
 use peer_loop::{ServerFault, Settings, serve_fetching, serve_loops};
 use peer_source::Source;
-use std::net::{Net, TcpListener, TcpStream};
+use std::net::TcpListener;
 use std::sync::Wait;
 use std::thread;
 use std::thread::Threads;
-use std::time::Clock;
+
+/// What is served, and how.
+#[derive(Drop)]
+pub struct Service<'a, S: Source> {
+    pub source: S,
+    pub listener: TcpListener,
+    pub settings: &'a Settings<'a>,
+    /// What threads fetch, where they do.
+    pub plan: Option<FetchPlan<'a>>,
+}
 
 // Serves, by fetches where there is a plan.
-fn serve_planned<
-    S: Source,
-    H: AllocGlobal
-        + Net<Listener = TcpListener, Stream = TcpStream>
-        + Threads
-        + Wait
-        + Clock
-        + Sync,
->(
+fn serve_planned<S: Source, H: AllocGlobal + Host>(
     rt: &H,
-    source: S,
-    listener: TcpListener,
-    settings: &Settings<'_>,
-    plan: Option<FetchPlan<'_>>,
+    service: Service<'_, S>,
 ) -> Result<Report, ServerFault>
-    requires { IfSome plan (Allows (S.answers source)) }
+    requires { IfSome service.plan (Allows (S.answers service.source)) }
 {
+    let Service {
+        source,
+        listener,
+        settings,
+        plan,
+    } = service;
     match plan {
         Some(plan) => serve_fetching(rt, rt.alloc(), source, listener, settings, plan),
         None => serve_loops(rt, rt.alloc(), source, listener, settings),
@@ -71,126 +76,70 @@ fn serve_beside<
 }
 
 // Serves while the page is served, where one is asked for.
-fn serve_paged<
-    S: Source,
-    H: AllocGlobal
-        + Net<Listener = TcpListener, Stream = TcpStream>
-        + Threads
-        + Wait
-        + Clock
-        + Sync,
->(
+fn serve_paged<S: Source, H: AllocGlobal + Host>(
     rt: &H,
-    source: S,
-    listener: TcpListener,
-    settings: &Settings<'_>,
-    plan: Option<FetchPlan<'_>>,
+    service: Service<'_, S>,
     page: Option<Page>,
 ) -> Result<Report, ServerFault>
-    requires { IfSome plan (Allows (S.answers source)) }
+    requires { IfSome service.plan (Allows (S.answers service.source)) }
 {
     let Some(Page { server, end }) = page else {
-        return serve_planned(rt, source, listener, settings, plan);
+        return serve_planned(rt, service);
     };
     let end = &end;
+    let counters = service.settings.counters;
     serve_beside(
         rt,
-        move || server.run(rt, settings.counters, end),
+        move || server.run(rt, counters, end),
         move || end.end(),
         move || -> Result<Report, ServerFault>
-            requires { IfSome plan (Allows (S.answers source)) }
-        { serve_planned(rt, source, listener, settings, plan) },
+            requires { IfSome service.plan (Allows (S.answers service.source)) }
+        { serve_planned(rt, service) },
     )
 }
 
-// Serves by this plan while the names of its services are looked up again.
-fn serve_looking_up<
-    S: Source,
-    H: AllocGlobal
-        + Net<Listener = TcpListener, Stream = TcpStream>
-        + Threads
-        + Wait
-        + Clock
-        + Sync,
->(
+// Serves, and looks names of services up again where there are some.
+fn serve_named<S: Source, H: AllocGlobal + Host>(
     rt: &H,
-    source: S,
-    listener: TcpListener,
-    settings: &Settings<'_>,
-    plan: FetchPlan<'_>,
+    service: Service<'_, S>,
     page: Option<Page>,
 ) -> Result<Report, ServerFault>
-    requires { Allows (S.answers source) plan }
+    requires { IfSome service.plan (Allows (S.answers service.source)) }
 {
+    let places = match &service.plan {
+        Some(plan) if has_names(plan.places.each) => plan.places.each,
+        _ => return serve_paged(rt, service, page),
+    };
     let end = End::new();
     let end = &end;
-    let places = plan.places.each;
     serve_beside(
         rt,
         move || look_up_names(rt, places, end),
         move || end.tell(),
         move || -> Result<Report, ServerFault>
-            requires { Allows (S.answers source) plan }
-        { serve_paged(rt, source, listener, settings, Some(plan), page) },
+            requires { IfSome service.plan (Allows (S.answers service.source)) }
+        { serve_paged(rt, service, page) },
     )
-}
-
-// Serves, and looks names of services up again where there are some.
-fn serve_named<
-    S: Source,
-    H: AllocGlobal
-        + Net<Listener = TcpListener, Stream = TcpStream>
-        + Threads
-        + Wait
-        + Clock
-        + Sync,
->(
-    rt: &H,
-    source: S,
-    listener: TcpListener,
-    settings: &Settings<'_>,
-    plan: Option<FetchPlan<'_>>,
-    page: Option<Page>,
-) -> Result<Report, ServerFault>
-    requires { IfSome plan (Allows (S.answers source)) }
-{
-    match plan {
-        Some(plan) if has_names(plan.places.each) => {
-            serve_looking_up(rt, source, listener, settings, plan, page)
-        }
-        plan => serve_paged(rt, source, listener, settings, plan, page),
-    }
 }
 
 /// Serves while troubles are told and the page is served, where one is asked for, and ends both behind it. Where there is a
 /// plan, threads fetch by it.
-pub fn serve_watched<
-    S: Source,
-    H: AllocGlobal
-        + Eprint
-        + Net<Listener = TcpListener, Stream = TcpStream>
-        + Threads
-        + Wait
-        + Clock
-        + Sync,
->(
+pub fn serve_watched<S: Source, H: AllocGlobal + Eprint + Host>(
     rt: &H,
-    source: S,
-    listener: TcpListener,
-    settings: &Settings<'_>,
-    plan: Option<FetchPlan<'_>>,
+    service: Service<'_, S>,
     page: Option<Page>,
 ) -> Result<Report, ServerFault>
-    requires { IfSome plan (Allows (S.answers source)) }
+    requires { IfSome service.plan (Allows (S.answers service.source)) }
 {
     let end = End::new();
     let end = &end;
+    let counters = service.settings.counters;
     serve_beside(
         rt,
-        move || tell_troubles(rt, settings.counters, end),
+        move || tell_troubles(rt, counters, end),
         move || end.tell(),
         move || -> Result<Report, ServerFault>
-            requires { IfSome plan (Allows (S.answers source)) }
-        { serve_named(rt, source, listener, settings, plan, page) },
+            requires { IfSome service.plan (Allows (S.answers service.source)) }
+        { serve_named(rt, service, page) },
     )
 }

@@ -5,7 +5,7 @@ ghost use Rattle.peer_fetch.specs.Threads.{Allows};
 use crate::exit::{BAD_WORD, CANNOT_BIND, DONE, Exit, NO_OUTPUT, NO_SEED, OUT_OF_MEMORY, refuse};
 use crate::files::within_files;
 use crate::page::page_of;
-use crate::running::serve_watched;
+use crate::running::{Service, serve_watched};
 use crate::said::{FilledBy, say_listening, say_serving, say_totals};
 use crate::source::{fetch_settings, source_of};
 use crate::until_eof::stop_of;
@@ -13,6 +13,7 @@ use peer_fetch::FetchPlan;
 use peer_fill::Report;
 use peer_flags::Options;
 use peer_groups::fetched_of;
+use peer_host::Host;
 use peer_loop::{Fillers, Limits, ServerFault, Settings, Stop};
 use peer_source::Source;
 use peer_stats::Counters;
@@ -21,9 +22,6 @@ use std::hash::RandomState;
 use std::io::Read;
 use std::net::{Net, TcpListener, TcpStream};
 use std::random::RandomSource;
-use std::sync::Wait;
-use std::thread::Threads;
-use std::time::Clock;
 
 // Who fills what is asked for.
 fn who_fills(options: &Options<'_>, has_services: bool) -> FilledBy {
@@ -94,18 +92,7 @@ fn end_of<H: AllocGlobal + Print + Eprint>(rt: &H, served: &Result<Report, Serve
 }
 
 // Serves this source, or says why not.
-fn serve_source<
-    S: Source,
-    H: AllocGlobal
-        + Print
-        + Eprint
-        + Net<Listener = TcpListener, Stream = TcpStream>
-        + RandomSource
-        + Threads
-        + Wait
-        + Clock
-        + Sync,
->(
+fn serve_source<S: Source, H: AllocGlobal + Print + Eprint + RandomSource + Host>(
     rt: &H,
     options: &Options<'_>,
     source: S,
@@ -131,7 +118,13 @@ fn serve_source<
         return NO_OUTPUT;
     }
     let settings = settings_of(options, filled_by, seed, outside);
-    let served = serve_watched(rt, source, listener, &settings, plan, page);
+    let service = Service {
+        source,
+        listener,
+        settings: &settings,
+        plan,
+    };
+    let served = serve_watched(rt, service, page);
     end_of(rt, &served)
 }
 
@@ -162,17 +155,7 @@ pub fn check_flags<H: AllocGlobal + Eprint>(
 /// Serves what is asked for, or says why not.
 pub fn serve<
     R: Read + Send + Drop + 'static,
-    H: AllocGlobal
-        + Input<Reader = R>
-        + Print
-        + Eprint
-        + Files
-        + Net<Listener = TcpListener, Stream = TcpStream>
-        + RandomSource
-        + Threads
-        + Wait
-        + Clock
-        + Sync,
+    H: AllocGlobal + Input<Reader = R> + Print + Eprint + Files + RandomSource + Host,
 >(rt: &H, options: &Options<'_>, words: &[&str]) -> Exit {
     let has_services = !words.is_empty();
     let options = &within_files(rt, options, has_services);

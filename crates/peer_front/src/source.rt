@@ -4,14 +4,12 @@ use crate::exit::{BAD_WORD, Exit, OUT_OF_MEMORY, refuse};
 use crate::table::read_table;
 use peer_flags::Options;
 use peer_groups::{Beside, FrontSource, Maybe, first_in, origins_of};
+use peer_host::Network;
 use peer_origin::{FetchSettings, Origin, OriginSource};
 use peer_source::{DemoSource, Source};
 use peer_stats::FailureSlots;
 use peer_table::TableSource;
 use std::fs::Files;
-use std::net::{Net, TcpListener, TcpStream};
-use std::sync::Wait;
-use std::time::Clock;
 
 // The groups for demonstrations.
 const DEMO_GROUPS: [&str; 3] = ["echo", "square", "fill"];
@@ -78,7 +76,7 @@ pub fn fetch_settings(options: &Options<'_>) -> FetchSettings {
 }
 
 // The parts as one source.
-fn join<'a, H: Net<Listener = TcpListener, Stream = TcpStream> + Clock + Wait + Sync>(
+fn join<'a, H: Network + Sync>(
     rt: &'a H,
     failures: &'a FailureSlots,
     options: &Options<'_>,
@@ -92,16 +90,7 @@ fn join<'a, H: Net<Listener = TcpListener, Stream = TcpStream> + Clock + Wait + 
 }
 
 /// The source that is asked for, or why there is none, which it says.
-pub fn source_of<
-    'a,
-    H: AllocGlobal
-        + Eprint
-        + Files
-        + Net<Listener = TcpListener, Stream = TcpStream>
-        + Clock
-        + Wait
-        + Sync,
->(
+pub fn source_of<'a, H: AllocGlobal + Eprint + Files + Network + Sync>(
     rt: &'a H,
     failures: &'a FailureSlots,
     options: &Options<'_>,

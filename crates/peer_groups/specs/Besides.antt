@@ -23,26 +23,33 @@ number_either count (Some i) second = Some i
 number_either count None second = option_map (λ i. count + i) second
 
 module _ (count : ℕ) (first second first_allowed second_allowed : ℕ → List ℕ → Answer → Type 0) where
-  pub either_within : ((g : ℕ) (k : List ℕ) (a : Answer) → first g k a → first_allowed g k a) → ((g : ℕ) (k : List ℕ) (a : Answer) → second g k a → second_allowed g k a) → (g : ℕ) (k : List ℕ) (a : Answer) → AnswersEither count first second g k a → AllowsEither first_allowed second_allowed g k a
+  pub either_within : ((g : ℕ) (k : List ℕ) (a : Answer) → first g k a → first_allowed g k a)
+      → ((g : ℕ) (k : List ℕ) (a : Answer) → second g k a → second_allowed g k a) → (g : ℕ) (k : List ℕ) (a : Answer)
+      → AnswersEither count first second g k a → AllowsEither first_allowed second_allowed g k a
   either_within f s g k a h = elim (cases_lt g count) [
     | inl low ↦ inl (f g k a (h.0 low))
     | inr high ↦ inr (g - count, s (g - count) k a (h.1 high))
   ]
 
-  pub either_limited : ((g : ℕ) (k : List ℕ) (a : Answer) → first_allowed g k a → IsWithinLimit (Some a)) → ((g : ℕ) (k : List ℕ) (a : Answer) → second_allowed g k a → IsWithinLimit (Some a)) → (g : ℕ) (k : List ℕ) (a : Answer) → AllowsEither first_allowed second_allowed g k a → IsWithinLimit (Some a)
+  pub either_limited : ((g : ℕ) (k : List ℕ) (a : Answer) → first_allowed g k a → IsWithinLimit (Some a))
+      → ((g : ℕ) (k : List ℕ) (a : Answer) → second_allowed g k a → IsWithinLimit (Some a))
+      → (g : ℕ) (k : List ℕ) (a : Answer) → AllowsEither first_allowed second_allowed g k a → IsWithinLimit (Some a)
   either_limited f s g k a h = elim h [
     | inl x ↦ f g k a x
     | inr y ↦ s y.0 k a y.1
   ]
 
-  pub either_answered : ((g : ℕ) (k : List ℕ) → (a : Answer) × first g k a) → ((g : ℕ) (k : List ℕ) → (a : Answer) × second g k a) → (g : ℕ) (k : List ℕ) → (a : Answer) × AnswersEither count first second g k a
+  pub either_answered : ((g : ℕ) (k : List ℕ) → (a : Answer) × first g k a) → ((g : ℕ) (k : List ℕ) → (a : Answer) × second g k a)
+      → (g : ℕ) (k : List ℕ) → (a : Answer) × AnswersEither count first second g k a
   either_answered f s g k = elim (cases_lt g count) [
     | inl low ↦ ((f g k).0, (λ l. (f g k).1, λ h. absurd (omega (arith, low, h))))
     | inr high ↦ ((s (g - count) k).0, (λ l. absurd (omega (arith, l, high)), λ h. (s (g - count) k).1))
   ]
 
 -- each number is that of a group
-pub either_numbered : (count count' : ℕ) (first second : Option ℕ) → ((i : ℕ) → first ≡ Some i → i < count) → ((i : ℕ) → second ≡ Some i → i < count') → (i : ℕ) → number_either count first second ≡ Some i → i < count + count'
+pub either_numbered : (count count' : ℕ) (first second : Option ℕ)
+    → ((i : ℕ) → first ≡ Some i → i < count) → ((i : ℕ) → second ≡ Some i → i < count')
+    → (i : ℕ) → number_either count first second ≡ Some i → i < count + count'
 either_numbered count count' (Some j) second f s i e = omega (arith, f i e)
 either_numbered count count' None (Some j) f s i e = grind (arith, s j refl, e)
 either_numbered count count' None None f s i e = absurd (grind (arith, e))

@@ -27,20 +27,25 @@ number_maybe number None name = None
 number_maybe number (Some s) name = number s name
 
 module _ {S : Type 0} (answers : S → ℕ → List ℕ → Answer → Type 0) (allowed : ℕ → List ℕ → Answer → Type 0) where
-  pub maybe_within : ((s : S) (g : ℕ) (k : List ℕ) (a : Answer) → answers s g k a → allowed g k a) → (o : Option S) (g : ℕ) (k : List ℕ) (a : Answer) → AnswersMaybe answers o g k a → AllowsMaybe allowed g k a
+  pub maybe_within : ((s : S) (g : ℕ) (k : List ℕ) (a : Answer) → answers s g k a → allowed g k a)
+      → (o : Option S) (g : ℕ) (k : List ℕ) (a : Answer) → AnswersMaybe answers o g k a → AllowsMaybe allowed g k a
   maybe_within w None g k a h = inr h
   maybe_within w (Some s) g k a h = inl (w s g k a h)
 
-  pub maybe_limited : ((g : ℕ) (k : List ℕ) (a : Answer) → allowed g k a → IsWithinLimit (Some a)) → (g : ℕ) (k : List ℕ) (a : Answer) → AllowsMaybe allowed g k a → IsWithinLimit (Some a)
+  pub maybe_limited : ((g : ℕ) (k : List ℕ) (a : Answer) → allowed g k a → IsWithinLimit (Some a))
+      → (g : ℕ) (k : List ℕ) (a : Answer) → AllowsMaybe allowed g k a → IsWithinLimit (Some a)
   maybe_limited l g k a h = elim h [
     | inl x ↦ l g k a x
     | inr e ↦ subst (λ b. IsWithinLimit (Some b)) (sym e) tt
   ]
 
-  pub maybe_answered : ((s : S) (g : ℕ) (k : List ℕ) → (a : Answer) × answers s g k a) → (o : Option S) (g : ℕ) (k : List ℕ) → (a : Answer) × AnswersMaybe answers o g k a
+  pub maybe_answered : ((s : S) (g : ℕ) (k : List ℕ) → (a : Answer) × answers s g k a) → (o : Option S) (g : ℕ) (k : List ℕ)
+      → (a : Answer) × AnswersMaybe answers o g k a
   maybe_answered w None g k = (no_group, refl)
   maybe_answered w (Some s) g k = w s g k
 
-pub maybe_numbered : {S : Type 0} (count : S → ℕ) (number : S → List ℕ → Option ℕ) → ((s : S) (name : List ℕ) (i : ℕ) → number s name ≡ Some i → i < count s) → (o : Option S) (name : List ℕ) (i : ℕ) → number_maybe number o name ≡ Some i → i < count_maybe count o
+pub maybe_numbered : {S : Type 0} (count : S → ℕ) (number : S → List ℕ → Option ℕ)
+    → ((s : S) (name : List ℕ) (i : ℕ) → number s name ≡ Some i → i < count s)
+    → (o : Option S) (name : List ℕ) (i : ℕ) → number_maybe number o name ≡ Some i → i < count_maybe count o
 maybe_numbered count number w None name i e = absurd (grind (arith, e))
 maybe_numbered count number w (Some s) name i e = w s name i e

@@ -5,13 +5,11 @@ ghost use Rattle.peer_groups.specs.Besides.{AnswersOrigins};
 
 use crate::beside::Beside;
 use peer_fetch::{FetchPlan, FetchThreadSettings, Places};
+use peer_host::Network;
 use peer_origin::{FetchSettings, OriginSource, Place};
 use peer_source::Source;
 use peer_stats::FailureSlots;
 use std::alloc::Global;
-use std::net::{Net, TcpListener, TcpStream};
-use std::sync::Wait;
-use std::time::Clock;
 
 /// The groups of services: from which number on they are, and where each is asked for.
 #[derive(Drop)]
@@ -47,12 +45,10 @@ impl Fetched {
 }
 
 /// The groups of services in a source in which they stand behind those of a first. None where memory is refused.
-pub fn fetched_of<
-    'a,
-    A: Source,
-    B: Source,
-    H: Net<Listener = TcpListener, Stream = TcpStream> + Clock + Wait + Sync,
->(alloc: Global, source: &Beside<Beside<A, OriginSource<'a, H>>, B>) -> Option<Fetched>
+pub fn fetched_of<'a, A: Source, B: Source, H: Network + Sync>(
+    alloc: Global,
+    source: &Beside<Beside<A, OriginSource<'a, H>>, B>,
+) -> Option<Fetched>
     ensures { IfSome result (λ fetched. AllowsOrigins (AnswersOrigins (A.count source.now.first.first)
         (length source.now.first.second.origins.items) (A.answers source.now.first.first) (B.answers source.now.second))
         fetched.first fetched.each.items) }

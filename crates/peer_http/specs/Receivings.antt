@@ -15,7 +15,8 @@ use Rattle.peer_http.specs.declared.progress.Stage.TheVariants as stage
 -- whatever makes a whole body of what is unread makes a whole reply of what came
 abbrev pub Proceeds : List ℕ → ℕ → List ℕ → Decoder → List ℕ → Type 0
 Proceeds came status value d unread =
-    (later : List ℕ) (body : Body) (rest : List ℕ) → Completes d (unread ++ later) body rest → IsReply (came ++ later) status (value ++ body.bytes)
+    (later : List ℕ) (body : Body) (rest : List ℕ) → Completes d (unread ++ later) body rest
+    → IsReply (came ++ later) status (value ++ body.bytes)
 
 -- the head of the final reply came, and the client goes on with its body, of which this value was taken
 abbrev pub IsInContent : List ℕ → ℕ → Client → List ℕ → List ℕ → Type 0

@@ -24,7 +24,8 @@ use Rattle.peer_http.specs.declared.reply.Taken.TheVariants as take
 -- interim responses stand at the front of the text, and then comes the rest
 pub data Interims (text : List ℕ) : List ℕ → Type 0 where
   none : Interims text text
-  more : (rest : List ℕ) (head : ResponseHead) (framing : Framing) (after : List ℕ) → Interims text rest → AcceptsResponse LIMITS Other rest head framing after → status_code head < 200 → Interims text after
+  more : (rest : List ℕ) (head : ResponseHead) (framing : Framing) (after : List ℕ) → Interims text rest
+      → AcceptsResponse LIMITS Other rest head framing after → status_code head < 200 → Interims text after
 
 -- the text begins with a reply of this status and this body
 pub record IsReply (text : List ℕ) (status : ℕ) (value : List ℕ) : Type 0 where
@@ -121,12 +122,14 @@ ReadsHeadAs given given' unread unread' c (Err f) = Unit {0}
 -- what was read and what came make a whole body of these bytes
 abbrev pub ReadsBodyAs : Option (List ℕ) → Option (List ℕ) → ℕ → ℕ → List ℕ → Decoder → List ℕ → Type 0
 ReadsBodyAs given given' ends ends' unread d value =
-    (text : List ℕ) × (trailers : List Field) × (rest : List ℕ) × Appends given given' text × Completes d (unread ++ text) (body_of value trailers) rest
+    (text : List ℕ) × (trailers : List Field) × (rest : List ℕ) × Appends given given' text
+    × Completes d (unread ++ text) (body_of value trailers) rest
     × (ends' ≡ ends → (later : List ℕ) → Completes d ((unread ++ text) ++ later) (body_of value trailers) (rest ++ later))
 
 -- a client that goes on with a body reads the whole of it
 abbrev pub ReadsContent : Option (List ℕ) → Option (List ℕ) → ℕ → ℕ → List ℕ → Client → List ℕ → Type 0
-ReadsContent given given' ends ends' unread c value = (d : Decoder) → c.reading ≡ Reads.Body d → ReadsBodyAs given given' ends ends' unread d value
+ReadsContent given given' ends ends' unread c value = (d : Decoder) → c.reading ≡ Reads.Body d
+    → ReadsBodyAs given given' ends ends' unread d value
 
 -- a piece of the body was taken
 pub record TakesPiece (d : Decoder) (c : Client) (unread unread' value value' : List ℕ) : Type 0 where
@@ -189,7 +192,8 @@ pub record GoesToEnd (given given' : Option (List ℕ)) (ends ends' : ℕ) (d : 
   pub grown : value' ≡ value ++ piece
 
 -- what a step within a body does
-abbrev pub StepsBody : Option (List ℕ) → Option (List ℕ) → ℕ → ℕ → Client → Client → List ℕ → List ℕ → List ℕ → List ℕ → Result Bool Fault → Type 0
+abbrev pub StepsBody : Option (List ℕ) → Option (List ℕ) → ℕ → ℕ → Client → Client → List ℕ → List ℕ → List ℕ → List ℕ
+    → Result Bool Fault → Type 0
 StepsBody given given' ends ends' old new unread unread' value value' (Ok false) =
     ((d : Decoder) → old.reading ≡ Reads.Body d → GoesFurther given given' d new unread unread' value value') × (ends' ≡ ends)
 StepsBody given given' ends ends' old new unread unread' value value' (Ok true) =

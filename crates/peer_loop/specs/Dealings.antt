@@ -11,9 +11,9 @@ use Rattle.peer_fill.specs.declared.seats.FillSeat.{FillSeat}
 use Rattle.peer_fill.specs.declared.keeping.Keeps.{Keeps}
 use Rattle.peer_fetch.specs.Threads.{Allows}
 use Rattle.std.specs.declared.thread.PromisedHandle.{PromisedHandle}
-use Rattle.peer_loop.specs.Parts.{AreOf, AreSeatsOf, HaveRoom, KeepsRoom}
-use Rattle.peer_loop.specs.Parts.{filling_parts, all_conn_parts, all_fill_parts, handed_conns, handed_fills}
-use Rattle.peer_loop.specs.declared.loop_seats.Seats.{Seats}
+use Rattle.peer_fill.specs.Lists.{all_conn_parts, all_fill_parts, AreSeatsOf}
+use Rattle.peer_fill.specs.declared.lists.Seats.{Seats}
+use Rattle.peer_loop.specs.Parts.{AreOf, filling_parts, handed_conns, handed_fills, HaveRoom, KeepsRoom}
 use Rattle.peer_loop.specs.declared.loop_seats.LoopSeats.{LoopSeats}
 use Rattle.peer_loop.specs.declared.loop_seats.KeepsLoop.{KeepsLoop}
 use Rattle.peer_loop.specs.declared.dealing.LoopWork.{LoopWork}

@@ -1,14 +1,15 @@
--- The seats of a server and of its loops, how they are dealt to threads, and what comes back of them.
-use Rattle.std.specs.Prelude.{◌≡◌, ℕ, ◌+◌, ◌≤◌, List, All, Option, Some, None, IfSome, sum_by, vec_len, vec_capacity}
+-- The seats of loops: how they are taken off the lists of a pool's seats, and what comes back of them.
+use Rattle.std.specs.Prelude.{◌≡◌, ℕ, ◌+◌, ◌≤◌, List, Option, Some, None, IfSome, sum_by, vec_len, vec_capacity}
 use Rattle.std.specs.Global.{Vec}
 use Rattle.std.specs.declared.thread.PromisedHandle.{PromisedHandle}
 use Rattle.peer_source.specs.declared.source.Source as Source
 use Rattle.std.specs.declared.sync.ledger.Ledger as Ledger
 use Rattle.peer_fill.specs.Pools.{IsConnSeatOf, IsFillSeatOf}
 use Rattle.peer_fill.specs.Seats.{conn_parts, fill_parts}
+use Rattle.peer_fill.specs.Lists.{all_conn_parts, all_fill_parts, AreSeatsOf}
+use Rattle.peer_fill.specs.declared.lists.Seats.{Seats}
 use Rattle.peer_fill.specs.declared.pool.Pool.{Pool}
 use Rattle.peer_fill.specs.declared.seats.FillSeat.{FillSeat}
-use Rattle.peer_loop.specs.declared.loop_seats.Seats.{Seats}
 use Rattle.peer_loop.specs.declared.loop_seats.LoopSeats.{LoopSeats}
 use Rattle.peer_loop.specs.declared.loop_seats.KeepsLoop.{KeepsLoop}
 
@@ -25,28 +26,6 @@ module _ {S L : Type 0} {g : Source.Ghosts S} {h : Ledger.Ghosts L} where
   -- both have their parts
   abbrev pub KeepsParts : LoopSeats S L g h → LoopSeats S L g h → Type 0
   KeepsParts old new = (conn_parts new.conn ≡ conn_parts old.conn) × (filling_parts new.fill ≡ filling_parts old.fill)
-
-  -- the parts of all seats of connections, and of all seats that fill
-  abbrev pub all_conn_parts : Seats S L g h → ℕ
-  all_conn_parts seats = sum_by conn_parts seats.conns.items
-
-  abbrev pub all_fill_parts : Seats S L g h → ℕ
-  all_fill_parts seats = sum_by fill_parts seats.fills.items
-
-  -- all are of the pool
-  pub record AreSeatsOf (pool : Pool S L g h) (seats : Seats S L g h) : Type 0 where
-    pub conns : All (IsConnSeatOf pool) seats.conns.items
-    pub fills : All (IsFillSeatOf pool) seats.fills.items
-
-  -- all are of the pool, and they have so many parts
-  pub record HaveParts (pool : Pool S L g h) (c f : ℕ) (seats : Seats S L g h) : Type 0 where
-    pub of : AreSeatsOf pool seats
-    pub conns : all_conn_parts seats ≡ c
-    pub fills : all_fill_parts seats ≡ f
-
-  -- they are of the pool, and have all parts that the old ones had
-  abbrev pub ComeBack : Pool S L g h → Seats S L g h → Seats S L g h → Type 0
-  ComeBack pool old = HaveParts pool (all_conn_parts old) (all_fill_parts old)
 
   -- the lists have room for the seats of so many loops, and of so many threads that fill
   abbrev pub HaveRoom : ℕ → ℕ → Seats S L g h → Type 0

@@ -7,11 +7,9 @@ use crate::listening::Listening;
 use crate::site::Site;
 use crate::stop::Stop;
 use mio::net::TcpStream;
+use peer_host::Host;
 use std::io::ErrorKind;
-use std::sync::Wait;
 use std::thread;
-use std::thread::Threads;
-use std::time::Clock;
 
 /// Where a server gets its clients.
 #[derive(Drop)]
@@ -25,19 +23,19 @@ pub struct Acceptor<'a> {
 
 impl<'a> Acceptor<'a> {
     // Lets some time pass behind a call that failed.
-    fn pause<H: Threads + Wait + Clock>(&self, rt: &H) {
+    fn pause<H: Host>(&self, rt: &H) {
         thread::sleep(rt, self.site.limits.pause);
     }
 
     // Waits for clients, or for room.
-    fn wait<H: Threads + Wait + Clock>(&mut self, rt: &H) {
+    fn wait<H: Host>(&mut self, rt: &H) {
         if !self.listening.wait() {
             self.pause(rt);
         }
     }
 
     // Gives a stream to a loop, and waits where too many wait there.
-    fn give<H: Threads + Wait + Clock>(&self, rt: &H, mut stream: TcpStream, turn: usize) {
+    fn give<H: Host>(&self, rt: &H, mut stream: TcpStream, turn: usize) {
         let Some(mailbox) = self.site.mailboxes.each.get(turn) else {
             return;
         };
@@ -53,7 +51,7 @@ impl<'a> Acceptor<'a> {
     }
 
     // Waits for clients where there was none, and else for some time.
-    fn wait_behind<H: Threads + Wait + Clock>(&mut self, rt: &H, kind: ErrorKind) {
+    fn wait_behind<H: Host>(&mut self, rt: &H, kind: ErrorKind) {
         if kind == ErrorKind::WouldBlock {
             self.wait(rt);
         } else {
@@ -63,7 +61,7 @@ impl<'a> Acceptor<'a> {
     }
 
     // Accepts one stream, or waits, and says whether there was one.
-    fn accept<H: Threads + Wait + Clock>(&mut self, rt: &H, turn: usize) -> bool {
+    fn accept<H: Host>(&mut self, rt: &H, turn: usize) -> bool {
         if self.site.occupancy.is_full() {
             self.site.occupancy.want_room();
             if self.site.occupancy.is_full() {
@@ -106,7 +104,7 @@ impl<'a> Acceptor<'a> {
     }
 
     // Accepts until the server was told to end, or as many connections as it is to.
-    fn accept_all<H: Threads + Wait + Clock>(&mut self, rt: &H) {
+    fn accept_all<H: Host>(&mut self, rt: &H) {
         let mut turn = 0;
         for _ in rt.forever() {
             if self.left == Some(0) || self.stop.is_asked() {
@@ -124,7 +122,7 @@ impl<'a> Acceptor<'a> {
 
     /// Accepts connections and deals them to the loops in turn, until it was told to stop, or has accepted as many as it is
     /// to.
-    pub fn run<H: Threads + Wait + Clock>(&mut self, rt: &H) {
+    pub fn run<H: Host>(&mut self, rt: &H) {
         self.accept_all(rt);
         self.close();
     }

@@ -1,11 +1,16 @@
-//! One client of a loop: its stream, its connection, and when it was last heard of.
+//! One client of a loop: its stream, its connection, and when it last did something.
+//!
+//! It stands on the connection as a state (`Exchange`), on the seat of its loop, and on what the system reports of the stream.
+//! It promises that the seat stays one of the pool, with its parts, and that the connection stays one of the pool's source.
 ghost use Rattle.std.specs.Prelude.{◌≡◌, Some};
 ghost use Rattle.peer_loop.specs.Parts.{KeepsParts};
 
+use crate::client_state::ClientState;
 use crate::facts::Facts;
-use crate::limits::{ASKS_OF_ROUND, Limits, MAX_SKIPPED, MAX_UNCOUNTED, ROUNDS_OF_TURN};
+use crate::limits::{ASKS_OF_ROUND, Limits, MAX_UNCOUNTED, ROUNDS_OF_TURN};
 use crate::occupancy::Occupancy;
 use crate::seat::{Asked, LoopSeat};
+use crate::stream::{Readiness, skip, was_interrupted, would_block};
 use mio::event::Event;
 use mio::net::TcpStream;
 use mio::{Interest, Registry, Token};
@@ -13,27 +18,12 @@ use peer_exchange::Exchange;
 use peer_source::Source;
 use std::cmp::min;
 use std::io;
-use std::io::{ErrorKind, Read, Write};
+use std::io::{Read, Write};
 use std::marker::PhantomData;
 use std::net::Shutdown;
 use std::sync::Wait;
 use std::sync::ledger::Ledger;
 use std::time::Duration;
-
-/// How a client stands after its turn.
-#[derive(Clone, Copy, PartialEq, Eq, Debug)]
-pub enum Stand {
-    /// It waits for an event of its stream.
-    Idle,
-    /// It waits for the fill of the flight with this number.
-    Awaits(u64),
-    /// It waits for room in the queue of jobs.
-    NoRoom,
-    /// It has had its turn, and has work left.
-    Busy,
-    /// It is to be let go.
-    Gone,
-}
 
 /// A client.
 #[derive(Drop)]
@@ -41,11 +31,7 @@ pub struct Client<'a, S: Source, F: Facts<S>> {
     stream: TcpStream,
     exchange: Exchange<'a, S>,
     of: PhantomData<F>,
-    // What the system reported, and no call has found otherwise since.
-    readable: bool,
-    writable: bool,
-    // The system reported that the client sends no more.
-    read_closed: bool,
+    readiness: Readiness,
     // The client told its end.
     ended: bool,
     // A call of the stream failed.
@@ -60,20 +46,10 @@ pub struct Client<'a, S: Source, F: Facts<S>> {
     /// Whether it is on the list of those that wait for room in the queue of jobs.
     pub is_for_room: bool,
     // When bytes last came or were taken, or its close began.
-    heard: Duration,
+    active: Duration,
     // When the stream last took bytes, or the client came.
     taken: Duration,
     ghost source: { F.source ≡ Some exchange.names },
-}
-
-// Whether a call of a stream would have to wait.
-fn would_block(error: &io::Error) -> bool {
-    error.kind() == ErrorKind::WouldBlock
-}
-
-// Whether a call of a stream was interrupted, and is to be made again.
-fn was_interrupted(error: &io::Error) -> bool {
-    error.kind() == ErrorKind::Interrupted
 }
 
 impl<'a, S: Source, F: Facts<S>> Client<'a, S, F> {
@@ -88,9 +64,7 @@ impl<'a, S: Source, F: Facts<S>> Client<'a, S, F> {
             stream,
             exchange,
             of: PhantomData,
-            readable: false,
-            writable: false,
-            read_closed: false,
+            readiness: Readiness::unknown(),
             ended: false,
             failed: false,
             lingers: false,
@@ -98,7 +72,7 @@ impl<'a, S: Source, F: Facts<S>> Client<'a, S, F> {
             counted: 0,
             is_ready: false,
             is_for_room: false,
-            heard: now,
+            active: now,
             taken: now,
         }
     }
@@ -111,9 +85,7 @@ impl<'a, S: Source, F: Facts<S>> Client<'a, S, F> {
 
     /// Notes what was reported.
     pub fn note(&mut self, event: &Event) {
-        self.readable |= event.is_readable() || event.is_read_closed() || event.is_error();
-        self.writable |= event.is_writable() || event.is_error();
-        self.read_closed |= event.is_read_closed();
+        self.readiness.note(event);
     }
 
     /// The number of the flight whose fill it waits for.
@@ -123,12 +95,12 @@ impl<'a, S: Source, F: Facts<S>> Client<'a, S, F> {
 
     // Whether bytes are read.
     fn reads(&self) -> bool {
-        self.readable && self.exchange.takes_bytes() && self.exchange.room() > 0
+        self.readiness.readable && self.exchange.takes_bytes() && self.exchange.room() > 0
     }
 
     // Whether bytes are written: those that are to be sent, where the stream is known to take some.
     fn writes(&self) -> bool {
-        self.writable && !self.exchange.output().is_empty()
+        self.readiness.writable && !self.exchange.output().is_empty()
     }
 
     // Reads once, where bytes are read.
@@ -139,18 +111,18 @@ impl<'a, S: Source, F: Facts<S>> Client<'a, S, F> {
         }
         match self.stream.read(&mut buffer[..room]) {
             Ok(0) => {
-                self.readable = false;
+                self.readiness.readable = false;
                 self.ended = true;
                 self.exchange.end();
             }
             Ok(n) => {
                 // Where memory is refused, the connection is over.
                 let _ = self.exchange.receive(&buffer[..n]);
-                self.heard = now;
+                self.active = now;
                 // Less than there was room for is all that has come.
-                self.readable = n == room || self.read_closed;
+                self.readiness.readable = n == room || self.readiness.read_closed;
             }
-            Err(error) if would_block(&error) => self.readable = false,
+            Err(error) if would_block(&error) => self.readiness.readable = false,
             Err(error) if was_interrupted(&error) => {}
             Err(_) => self.failed = true,
         }
@@ -165,10 +137,10 @@ impl<'a, S: Source, F: Facts<S>> Client<'a, S, F> {
             match self.stream.write(self.exchange.output()) {
                 Ok(n) => {
                     self.exchange.sent(n);
-                    self.heard = now;
+                    self.active = now;
                     self.taken = now;
                 }
-                Err(error) if would_block(&error) => self.writable = false,
+                Err(error) if would_block(&error) => self.readiness.writable = false,
                 Err(error) if was_interrupted(&error) => {}
                 Err(_) => self.failed = true,
             }
@@ -178,32 +150,14 @@ impl<'a, S: Source, F: Facts<S>> Client<'a, S, F> {
         }
     }
 
-    // Reads for nothing, as a lingering close does, and says how it stands.
-    fn skip(&mut self) -> Stand {
-        let mut room = [0u8; 4096];
-        for _ in 0..ROUNDS_OF_TURN {
-            match self.stream.read(&mut room) {
-                Ok(0) => return Stand::Gone,
-                Ok(n) => self.skipped = self.skipped.saturating_add(n),
-                Err(error) if would_block(&error) => return Stand::Idle,
-                Err(error) if was_interrupted(&error) => {}
-                Err(_) => return Stand::Gone,
-            }
-            if self.skipped > MAX_SKIPPED {
-                return Stand::Gone;
-            }
-        }
-        Stand::Busy
-    }
-
     // Closes what is over. Where the client has not told its end, the close lingers.
-    fn close(&mut self, now: Duration) -> Stand {
+    fn close(&mut self, now: Duration) -> ClientState {
         if self.ended || self.stream.shutdown(Shutdown::Write).is_err() {
-            return Stand::Gone;
+            return ClientState::Gone;
         }
         self.lingers = true;
-        self.heard = now;
-        self.skip()
+        self.active = now;
+        skip(&mut self.stream, &mut self.skipped)
     }
 
     // Whether it holds nothing: no reply is to be sent, and no ticket waits.
@@ -235,9 +189,9 @@ impl<'a, S: Source, F: Facts<S>> Client<'a, S, F> {
         Asked::More
     }
 
-    // How it stands behind a round, none where more can be done at once: also since a fill came behind the look at it, or
+    // What it waits for behind a round, none where more can be done at once: also since a fill came behind the look at it, or
     // since the replies that had to be sent first were.
-    fn stand(&self, asked: Asked) -> Option<Stand> {
+    fn state(&self, asked: Asked) -> Option<ClientState> {
         let awaits = self.awaits();
         let came = awaits.is_none() && self.exchange.rest().fill;
         let sent = asked == Asked::Unsent && self.exchange.output().is_empty();
@@ -245,20 +199,20 @@ impl<'a, S: Source, F: Facts<S>> Client<'a, S, F> {
             return None;
         }
         match awaits {
-            _ if asked == Asked::NoRoom => Some(Stand::NoRoom),
-            Some(number) => Some(Stand::Awaits(number)),
-            None => Some(Stand::Idle),
+            _ if asked == Asked::NoRoom => Some(ClientState::NoRoom),
+            Some(number) => Some(ClientState::Awaits(number)),
+            None => Some(ClientState::Idle),
         }
     }
 
-    // Reads once, and answers and writes some times at most. How it stands, none where more can be done at once.
+    // Reads once, and answers and writes some times at most. What it waits for, none where more can be done at once.
     fn round<L: Ledger, H: Wait>(
         &mut self,
         rt: &H,
         seat: &mut LoopSeat<'a, S, L, F>,
         now: Duration,
         occupancy: &Occupancy,
-    ) -> Option<Stand>
+    ) -> Option<ClientState>
         ensures pool { seat.new.pool.now ≡ seat.old.pool.now }
         ensures parts { KeepsParts seat.old.seats seat.new.seats }
     {
@@ -266,12 +220,12 @@ impl<'a, S: Source, F: Facts<S>> Client<'a, S, F> {
         let asked = self.serve(rt, seat, occupancy);
         self.send(now);
         if self.failed {
-            return Some(Stand::Gone);
+            return Some(ClientState::Gone);
         }
         if self.exchange.is_over() {
             return Some(self.close(now));
         }
-        self.stand(asked)
+        self.state(asked)
     }
 
     /// Counts what it holds among what all clients hold, where that is more than each may.
@@ -303,24 +257,24 @@ impl<'a, S: Source, F: Facts<S>> Client<'a, S, F> {
         seat: &mut LoopSeat<'a, S, L, F>,
         now: Duration,
         occupancy: &Occupancy,
-    ) -> Stand
+    ) -> ClientState
         ensures pool { seat.new.pool.now ≡ seat.old.pool.now }
         ensures parts { KeepsParts seat.old.seats seat.new.seats }
     {
         if self.lingers {
-            return self.skip();
+            return skip(&mut self.stream, &mut self.skipped);
         }
         for _ in 0..ROUNDS_OF_TURN {
-            if let Some(stand) = self.round(rt, seat, now, occupancy) {
-                return stand;
+            if let Some(state) = self.round(rt, seat, now, occupancy) {
+                return state;
             }
         }
-        Stand::Busy
+        ClientState::Busy
     }
 
     /// Whether it is to be let go for its silence, or since it takes nothing.
     pub fn is_overdue(&self, now: Duration, limits: &Limits, full: bool) -> bool {
-        let silent = now.saturating_sub(self.heard);
+        let silent = now.saturating_sub(self.active);
         if self.lingers {
             return silent > limits.linger;
         }

@@ -5,17 +5,18 @@
 ghost use Rattle.std.specs.Prelude.{◌≡◌, All, IfSome};
 ghost use Rattle.peer_fill.specs.Pools.{source_of, IsFillSeatOf};
 ghost use Rattle.peer_fetch.specs.Threads.{Allows};
-ghost use Rattle.peer_loop.specs.Parts.{all_conn_parts, all_fill_parts, AreOf, AreSeatsOf, TakesLoop};
+ghost use Rattle.peer_fill.specs.Lists.{all_conn_parts, all_fill_parts, AreSeatsOf};
+ghost use Rattle.peer_loop.specs.Parts.{AreOf, TakesLoop};
 ghost use Rattle.peer_loop.specs.Dealings.{dealt_conns, dealt_fills, AreDealt, DealsFills, DealsLoops};
 
 use crate::event_loop::Waits;
 use crate::fill_gate::FillGate;
 use crate::filler::{Fetcher, next_fetcher};
 use crate::fillers::Fillers;
-use crate::loop_seats::{LoopSeats, Seats, pop_loop};
+use crate::loop_seats::{LoopSeats, pop_loop};
 use crate::site::{LoopSite, Site};
 use peer_fetch::{FetchParts, FetchPlan};
-use peer_fill::{FillSeat, Pool, pop_seat};
+use peer_fill::{FillSeat, Pool, Seats, pop_seat};
 use peer_source::Source;
 use std::alloc::Global;
 use std::sync::ledger::Ledger;

@@ -8,12 +8,10 @@ use crate::bells::Bells;
 use crate::fill_gate::FillGate;
 use peer_fetch::{FetchBell, FetchParts, FetchPlan, FetchThread};
 use peer_fill::{FillSeat, Pool};
+use peer_host::Network;
 use peer_source::Source;
 use std::alloc::Global;
-use std::net::{Net, TcpListener, TcpStream};
-use std::sync::Wait;
 use std::sync::ledger::Ledger;
-use std::time::Clock;
 
 /// A thread that fetches, and its bell.
 #[derive(Drop)]
@@ -42,11 +40,7 @@ pub fn next_fetcher<'a>(
 
 /// Fills jobs until the pool and the bell were stopped and there is none: by fetches, where it is given what that needs, and
 /// else by calls of the source.
-pub fn run_filler<
-    S: Source,
-    L: Ledger,
-    H: Net<Listener = TcpListener, Stream = TcpStream> + Clock + Wait,
->(
+pub fn run_filler<S: Source, L: Ledger, H: Network>(
     rt: &H,
     alloc: Global,
     pool: &Pool<S, L>,

@@ -9,6 +9,8 @@
 mod acceptor;
 mod bells;
 mod client;
+mod client_state;
+mod clients;
 mod dealing;
 mod event_loop;
 mod facts;
@@ -29,7 +31,9 @@ mod settings;
 mod site;
 mod starting;
 mod stop;
+mod stream;
 mod threads;
+mod turns;
 mod wait_lists;
 
 pub use fillers::Fillers;

@@ -5,20 +5,14 @@
 ghost use Rattle.std.specs.Prelude.{◌≡◌, ◌+◌, ◌≤◌, All, IfSome, sum_by, vec_len, vec_capacity};
 ghost use Rattle.peer_fill.specs.Pools.{IsConnSeatOf, IsFillSeatOf};
 ghost use Rattle.peer_fill.specs.Seats.{conn_parts, fill_parts};
-ghost use Rattle.peer_loop.specs.Parts.{AreOf, AreSeatsOf, KeepsParts, filling_parts, Takes, TakesBack};
+ghost use Rattle.peer_fill.specs.Lists.{AreSeatsOf};
+ghost use Rattle.peer_loop.specs.Parts.{AreOf, KeepsParts, filling_parts, Takes, TakesBack};
 
-use peer_fill::{ConnSeat, FillSeat, Pool, pop_seat};
+use peer_fill::{ConnSeat, FillSeat, Pool, Seats, pop_seat};
 use peer_source::Source;
 use std::snapshot::Snapshot;
 use std::sync::ledger::Ledger;
 use std::thread::{Promise, PromisedHandle, Threads};
-
-/// The seats of a server.
-#[derive(Drop)]
-pub struct Seats<S: Source, L: Ledger> {
-    pub fills: Vec<FillSeat<S, L>>,
-    pub conns: Vec<ConnSeat<S, L>>,
-}
 
 /// The seats of one loop.
 #[derive(Drop)]

@@ -1,25 +1,24 @@
 //! The peer server on event loops.
-ghost use Rattle.std.specs.Prelude.{◌≡◌, ◌+◌, ◌↔◌, All, IfOk, IfSome, IsErrOf};
-ghost use Rattle.peer_fill.specs.Opens.{IsOutside, IsWithin};
+ghost use Rattle.std.specs.Prelude.{◌≡◌, All, IfSome};
 ghost use Rattle.peer_fill.specs.Pools.{source_of, IsConnSeatOf, IsFillSeatOf};
 ghost use Rattle.peer_fill.specs.Seats.{HaveAllConns, HaveAllFills};
 ghost use Rattle.peer_fetch.specs.Threads.{Allows};
-ghost use Rattle.peer_loop.specs.Parts.{AreSeatsOf, ComeBack};
-ghost use Rattle.peer_loop.specs.Serving.{fill_seats, seats_of};
+ghost use Rattle.peer_fill.specs.Lists.{AreSeatsOf, Balances, ComeBack};
+ghost use Rattle.peer_loop.specs.Reports.{ServesWith};
+ghost use Rattle.peer_loop.specs.Serving.{fill_seats};
 
 use crate::acceptor::Acceptor;
-use crate::loop_seats::Seats;
 use crate::opening::{ServerParts, open_parts};
 use crate::settings::{Orders, Settings};
 use crate::site::Site;
 use crate::threads::use_threads;
 use peer_fetch::FetchPlan;
-use peer_fill::{OpenFault, Opened, Pool, Report};
+use peer_fill::{OpenFault, Opened, Pool, Report, Seats};
+use peer_host::Host;
 use peer_source::Source;
 use std::alloc::Global;
 use std::marker::Brand;
-use std::net;
-use std::net::Net;
+use std::net::{Net, TcpListener, TcpStream};
 use std::sync::Wait;
 use std::sync::ledger::{Blank, Ledger};
 use std::thread::Threads;
@@ -38,11 +37,7 @@ pub enum ServerFault {
 }
 
 // Serves over a pool that was opened, with what the system gave. None where memory or a thread was refused.
-fn serve_parts<
-    S: Source,
-    L: Ledger + Send + Sync,
-    H: Threads + Wait + Clock + Net<Listener = net::TcpListener, Stream = net::TcpStream> + Sync,
->(
+fn serve_parts<S: Source, L: Ledger + Send + Sync, H: Host>(
     rt: &H,
     alloc: Global,
     pool: &Pool<S, L>,
@@ -76,16 +71,12 @@ fn serve_parts<
 }
 
 // Serves over a pool that was opened. None where memory, a thread or a descriptor was refused.
-fn serve_seats<
-    S: Source,
-    L: Ledger + Send + Sync,
-    H: Threads + Wait + Clock + Net<Listener = net::TcpListener, Stream = net::TcpStream> + Sync,
->(
+fn serve_seats<S: Source, L: Ledger + Send + Sync, H: Host>(
     rt: &H,
     alloc: Global,
     pool: &Pool<S, L>,
     seats: Seats<S, L>,
-    listener: net::TcpListener,
+    listener: TcpListener,
     orders: Orders<'_>,
 ) -> Option<Seats<S, L>>
     requires of { AreSeatsOf pool.now seats }
@@ -98,15 +89,11 @@ fn serve_seats<
 }
 
 // Serves over a pool that was opened, and closes it.
-fn serve_opened<
-    S: Source,
-    L: Ledger + Send + Sync,
-    H: Threads + Wait + Clock + Net<Listener = net::TcpListener, Stream = net::TcpStream> + Sync,
->(
+fn serve_opened<S: Source, L: Ledger + Send + Sync, H: Host>(
     rt: &H,
     alloc: Global,
     opened: Opened<S, L>,
-    listener: net::TcpListener,
+    listener: TcpListener,
     orders: Orders<'_>,
 ) -> Option<Report>
     requires fills { All (IsFillSeatOf opened.pool) opened.fills.items }
@@ -114,44 +101,27 @@ fn serve_opened<
     requires all_fills { HaveAllFills opened.fills.items }
     requires all_conns { HaveAllConns opened.conns.items }
     requires allows { IfSome orders.plan (Allows (S.answers (source_of opened.pool))) }
-    ensures each_ask { IfSome result (λ report. report.asked ≡ report.hits + report.led + report.joined) }
-    ensures each_flight { IfSome result (λ report. report.led ≡ report.calls + report.rehits + report.left) }
+    ensures { IfSome result Balances }
 {
     let Opened { pool, fills, conns } = opened;
     let seats = Seats { fills, conns };
-    let Some(Seats { fills, conns }) = serve_seats(rt, alloc, &pool, seats, listener, orders) else {
-        return None;
-    };
-    match pool.close(rt, fills, conns) {
-        Ok(report) => Some(report),
-        Err(_) => unreachable!(),
-    }
+    let seats = serve_seats(rt, alloc, &pool, seats, listener, orders)?;
+    Some(pool.close_all(rt, seats))
 }
 
 // Opens a pool of this ledger, serves, and closes it.
-fn over_pool<
-    S: Source,
-    L: Ledger + Send + Sync,
-    H: Threads + Wait + Clock + Net<Listener = net::TcpListener, Stream = net::TcpStream> + Sync,
->(
+fn over_pool<S: Source, L: Ledger + Send + Sync, H: Host>(
     rt: &H,
     alloc: Global,
     source: S,
-    listener: net::TcpListener,
+    listener: TcpListener,
     orders: Orders<'_>,
     blank: Blank,
 ) -> Result<Report, ServerFault>
     requires name { blank.name ≡ L.name }
     requires parts { (blank.parts ≡ L.parts) × (blank.parts ≡ 16) }
     requires allows { IfSome orders.plan (Allows (S.answers source)) }
-    ensures workers { IsErrOf result (ServerFault.Open OpenFault.Workers) ↔ IsOutside 16 (fill_seats orders.entry.settings.now) }
-    ensures loops { IsErrOf result (ServerFault.Open OpenFault.Conns)
-        ↔ (IsWithin 16 (fill_seats orders.entry.settings.now) × IsOutside 16 orders.entry.settings.now.loops) }
-    ensures groups { IsErrOf result (ServerFault.Open OpenFault.Groups)
-        ↔ (IsWithin 16 (fill_seats orders.entry.settings.now) × IsWithin 16 orders.entry.settings.now.loops
-        × IsOutside 64 (S.count source)) }
-    ensures each_ask { IfOk result (λ report. report.asked ≡ report.hits + report.led + report.joined) }
-    ensures each_flight { IfOk result (λ report. report.led ≡ report.calls + report.rehits + report.left) }
+    ensures { ServesWith (fill_seats orders.entry.settings.now) orders.entry.settings.now.loops (S.count source) result }
 {
     let settings = orders.settings;
     let opened = match Pool::<S, L>::open(
@@ -173,23 +143,15 @@ fn over_pool<
 /// was told to stop, and gives the pool's report.
 pub fn serve_loops<
     S: Source,
-    H: Threads + Wait + Clock + Net<Listener = net::TcpListener, Stream = net::TcpStream> + Sync,
+    H: Net<Listener = TcpListener, Stream = TcpStream> + Threads + Wait + Clock + Sync,
 >(
     rt: &H,
     alloc: Global,
     source: S,
-    listener: net::TcpListener,
+    listener: TcpListener,
     settings: &Settings<'_>,
 ) -> Result<Report, ServerFault>
-    ensures workers { IsErrOf result (ServerFault.Open OpenFault.Workers)
-        ↔ IsOutside 16 (seats_of settings.now.fillers settings.now.loops) }
-    ensures loops { IsErrOf result (ServerFault.Open OpenFault.Conns)
-        ↔ (IsWithin 16 (seats_of settings.now.fillers settings.now.loops) × IsOutside 16 settings.now.loops) }
-    ensures groups { IsErrOf result (ServerFault.Open OpenFault.Groups)
-        ↔ (IsWithin 16 (seats_of settings.now.fillers settings.now.loops) × IsWithin 16 settings.now.loops
-        × IsOutside 64 (S.count source)) }
-    ensures each_ask { IfOk result (λ report. report.asked ≡ report.hits + report.led + report.joined) }
-    ensures each_flight { IfOk result (λ report. report.led ≡ report.calls + report.rehits + report.left) }
+    ensures { ServesWith (fill_seats settings.now) settings.now.loops (S.count source) result }
 {
     let orders = Orders {
         settings,
@@ -202,25 +164,17 @@ pub fn serve_loops<
 /// for all others, and so do loops that fill, for all groups.
 pub fn serve_fetching<
     S: Source,
-    H: Threads + Wait + Clock + Net<Listener = net::TcpListener, Stream = net::TcpStream> + Sync,
+    H: Net<Listener = TcpListener, Stream = TcpStream> + Threads + Wait + Clock + Sync,
 >(
     rt: &H,
     alloc: Global,
     source: S,
-    listener: net::TcpListener,
+    listener: TcpListener,
     settings: &Settings<'_>,
     plan: FetchPlan<'_>,
 ) -> Result<Report, ServerFault>
     requires allows { Allows (S.answers source) plan }
-    ensures workers { IsErrOf result (ServerFault.Open OpenFault.Workers)
-        ↔ IsOutside 16 (seats_of settings.now.fillers settings.now.loops) }
-    ensures loops { IsErrOf result (ServerFault.Open OpenFault.Conns)
-        ↔ (IsWithin 16 (seats_of settings.now.fillers settings.now.loops) × IsOutside 16 settings.now.loops) }
-    ensures groups { IsErrOf result (ServerFault.Open OpenFault.Groups)
-        ↔ (IsWithin 16 (seats_of settings.now.fillers settings.now.loops) × IsWithin 16 settings.now.loops
-        × IsOutside 64 (S.count source)) }
-    ensures each_ask { IfOk result (λ report. report.asked ≡ report.hits + report.led + report.joined) }
-    ensures each_flight { IfOk result (λ report. report.led ≡ report.calls + report.rehits + report.left) }
+    ensures { ServesWith (fill_seats settings.now) settings.now.loops (S.count source) result }
 {
     let orders = Orders {
         settings,

@@ -15,14 +15,12 @@ use crate::loop_seats::{KeepsLoop, LoopSeats};
 use crate::seat::LoopSeat;
 use crate::site::LoopSite;
 use peer_fill::{FillSeat, Keeps, Pool};
+use peer_host::Host;
 use peer_source::Source;
 use std::alloc::Global;
 use std::marker::{Brand, PhantomData};
-use std::net::{Net, TcpListener, TcpStream};
-use std::sync::Wait;
 use std::sync::ledger::Ledger;
-use std::thread::{PromisedHandle, Scope, Threads};
-use std::time::Clock;
+use std::thread::{PromisedHandle, Scope};
 
 /// The thread of a loop.
 pub type LoopHandle<'a, S, L> = PromisedHandle<LoopSeats<S, L>, KeepsLoop<'a, S, L>>;
@@ -38,7 +36,7 @@ pub struct Started<'a, S: Source, L: Ledger> {
 }
 
 // Runs a loop whose contracts know its source.
-fn run_known<S: Source, L: Ledger, F: Facts<S>, H: Threads + Wait + Clock>(
+fn run_known<S: Source, L: Ledger, F: Facts<S>, H: Host>(
     rt: &H,
     alloc: Global,
     pool: &Pool<S, L>,
@@ -65,7 +63,7 @@ fn run_known<S: Source, L: Ledger, F: Facts<S>, H: Threads + Wait + Clock>(
 }
 
 // Runs a loop until no more streams are given and its clients are gone.
-fn run_loop<S: Source, L: Ledger, H: Threads + Wait + Clock>(
+fn run_loop<S: Source, L: Ledger, H: Host>(
     rt: &H,
     alloc: Global,
     pool: &Pool<S, L>,
@@ -81,7 +79,7 @@ fn run_loop<S: Source, L: Ledger, H: Threads + Wait + Clock>(
 }
 
 // Starts the thread of a loop. None where it was refused.
-fn start_loop<'s, E, S: Source, L: Ledger + Send + Sync, H: Threads + Wait + Clock + Sync>(
+fn start_loop<'s, E, S: Source, L: Ledger + Send + Sync, H: Host>(
     scope: &Scope<'s, E>,
     rt: &'s H,
     alloc: Global,
@@ -106,7 +104,7 @@ fn start_loop<'s, E, S: Source, L: Ledger + Send + Sync, H: Threads + Wait + Clo
 }
 
 // Starts the threads of all loops. None where memory or a thread was refused.
-fn start_loops<'s, E, S: Source, L: Ledger + Send + Sync, H: Threads + Wait + Clock + Sync>(
+fn start_loops<'s, E, S: Source, L: Ledger + Send + Sync, H: Host>(
     scope: &Scope<'s, E>,
     rt: &'s H,
     alloc: Global,
@@ -125,13 +123,7 @@ fn start_loops<'s, E, S: Source, L: Ledger + Send + Sync, H: Threads + Wait + Cl
 }
 
 // Starts a thread that fills. None where it was refused.
-fn start_filler<
-    's,
-    E,
-    S: Source,
-    L: Ledger + Send + Sync,
-    H: Net<Listener = TcpListener, Stream = TcpStream> + Threads + Wait + Clock + Sync,
->(
+fn start_filler<'s, E, S: Source, L: Ledger + Send + Sync, H: Host>(
     scope: &Scope<'s, E>,
     rt: &'s H,
     alloc: Global,
@@ -161,13 +153,7 @@ fn start_filler<
 }
 
 // Starts all threads that fill. None where memory or a thread was refused.
-fn start_fillers<
-    's,
-    E,
-    S: Source,
-    L: Ledger + Send + Sync,
-    H: Net<Listener = TcpListener, Stream = TcpStream> + Threads + Wait + Clock + Sync,
->(
+fn start_fillers<'s, E, S: Source, L: Ledger + Send + Sync, H: Host>(
     scope: &Scope<'s, E>,
     rt: &'s H,
     alloc: Global,
@@ -186,13 +172,7 @@ fn start_fillers<
 }
 
 /// Starts the threads that fill, and then the loops. None where memory or a thread was refused.
-pub fn start<
-    's,
-    E,
-    S: Source,
-    L: Ledger + Send + Sync,
-    H: Net<Listener = TcpListener, Stream = TcpStream> + Threads + Wait + Clock + Sync,
->(
+pub fn start<'s, E, S: Source, L: Ledger + Send + Sync, H: Host>(
     scope: &Scope<'s, E>,
     rt: &'s H,
     alloc: Global,

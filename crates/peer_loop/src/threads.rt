@@ -2,32 +2,24 @@
 ghost use Rattle.std.specs.Prelude.{◌≡◌, IfSome};
 ghost use Rattle.peer_fill.specs.Pools.{source_of};
 ghost use Rattle.peer_fetch.specs.Threads.{Allows};
-ghost use Rattle.peer_loop.specs.Parts.{AreSeatsOf, ComeBack, HaveParts};
+ghost use Rattle.peer_fill.specs.Lists.{AreSeatsOf, ComeBack, HaveParts};
 ghost use Rattle.peer_loop.specs.Dealings.{AreDealt, dealt_conns, dealt_fills};
 
 use crate::acceptor::Acceptor;
 use crate::dealing::{Dealt, ThreadParts, deal};
-use crate::loop_seats::{Seats, join_loops};
+use crate::loop_seats::join_loops;
 use crate::starting::{Started, start};
-use peer_fill::{Pool, join_seats};
+use peer_fill::{Pool, Seats, join_seats};
+use peer_host::Host;
 use peer_source::Source;
 use std::alloc::Global;
-use std::net::{Net, TcpListener, TcpStream};
-use std::sync::Wait;
 use std::sync::ledger::Ledger;
 use std::thread;
-use std::thread::{Scope, Threads};
-use std::time::Clock;
+use std::thread::Scope;
 
 // Starts the threads, accepts clients once all of them run, and joins all. None where a thread or memory was refused: then no
 // client was accepted, and those that were started end.
-fn serve_dealt<
-    's,
-    E,
-    S: Source,
-    L: Ledger + Send + Sync,
-    H: Threads + Net<Listener = TcpListener, Stream = TcpStream> + Wait + Clock + Sync,
->(
+fn serve_dealt<'s, E, S: Source, L: Ledger + Send + Sync, H: Host>(
     scope: &Scope<'s, E>,
     rt: &'s H,
     alloc: Global,
@@ -57,11 +49,7 @@ fn serve_dealt<
 }
 
 // The same, in a scope of its own.
-fn run_threads<
-    S: Source,
-    L: Ledger + Send + Sync,
-    H: Threads + Net<Listener = TcpListener, Stream = TcpStream> + Wait + Clock + Sync,
->(
+fn run_threads<S: Source, L: Ledger + Send + Sync, H: Host>(
     rt: &H,
     alloc: Global,
     pool: &Pool<S, L>,
@@ -83,11 +71,7 @@ fn run_threads<
 
 /// Each loop serves clients in a thread of its own, and each seat that fills does so in another, unless the loops fill. This
 /// thread accepts clients. None where a thread or memory was refused: then no client was accepted.
-pub fn use_threads<
-    S: Source,
-    L: Ledger + Send + Sync,
-    H: Threads + Net<Listener = TcpListener, Stream = TcpStream> + Wait + Clock + Sync,
->(
+pub fn use_threads<S: Source, L: Ledger + Send + Sync, H: Host>(
     rt: &H,
     alloc: Global,
     pool: &Pool<S, L>,

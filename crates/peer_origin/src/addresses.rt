@@ -1,6 +1,7 @@
 //! The addresses of an origin's host. Those of a name are looked up again while others connect to what was found last.
 
 use crate::place::PlaceFault;
+use peer_host::Network;
 use peer_wait::lock;
 use std::alloc::Global;
 use std::net::{IpAddr, Net, SocketAddr, TcpListener, TcpStream, ToSocketAddrs};
@@ -102,11 +103,7 @@ impl Addresses {
     }
 
     /// Looks the name up again. Where nothing is found, or memory is refused, the addresses stay.
-    pub fn look_up_again<H: Net<Listener = TcpListener, Stream = TcpStream> + Wait>(
-        &self,
-        rt: &H,
-        alloc: Global,
-    ) {
+    pub fn look_up_again<H: Network>(&self, rt: &H, alloc: Global) {
         let Some(name) = &self.name else {
             return;
         };

@@ -9,11 +9,12 @@ use crate::fault::FetchFault;
 use crate::origin::Origin;
 use crate::settings::FetchSettings;
 use crate::stream::{StreamReader, StreamWriter};
+use peer_host::Network;
 use std::alloc::Global;
 use std::io::ErrorKind;
-use std::net::{Net, TcpListener, TcpStream};
-use std::sync::{Arc, Wait};
-use std::time::{Clock, Duration};
+use std::net::TcpStream;
+use std::sync::Arc;
+use std::time::Duration;
 
 /// Whether nothing came on a kept connection, not even its end. What an origin sent unasked would else be read as the
 /// reply to the next request.
@@ -30,7 +31,7 @@ pub fn is_quiet(stream: &TcpStream) -> bool {
 }
 
 // A connection to the first address that answers, each within its time and all by the deadline.
-fn connect<H: Net<Listener = TcpListener, Stream = TcpStream> + Clock + Wait>(
+fn connect<H: Network>(
     rt: &H,
     addresses: &Addresses,
     within: Duration,
@@ -63,7 +64,7 @@ pub struct Sockets<'a, H> {
     returned: u64,
 }
 
-impl<'a, H: Net<Listener = TcpListener, Stream = TcpStream> + Clock + Wait> Sockets<'a, H> {
+impl<'a, H: Network> Sockets<'a, H> {
     /// The connections of a fetch that has to be done by the deadline.
     pub fn new(
         rt: &'a H,
@@ -100,10 +101,7 @@ impl<'a, H: Net<Listener = TcpListener, Stream = TcpStream> + Clock + Wait> Sock
     }
 }
 
-impl<'a, H: Net<Listener = TcpListener, Stream = TcpStream> + Clock + Wait> Connections<
-    StreamReader<'a, H>,
-    StreamWriter<'a, H>,
-> for Sockets<'a, H> {
+impl<'a, H: Network> Connections<StreamReader<'a, H>, StreamWriter<'a, H>> for Sockets<'a, H> {
     ghost blank = { None };
 
     ghost reused = { λ s. 0 };

@@ -13,13 +13,11 @@ use crate::place::Place;
 use crate::settings::FetchSettings;
 use crate::sockets::Sockets;
 use bytes::Bytes;
+use peer_host::Network;
 use peer_source::{GetFault, GetResult, GroupId, Source};
 use peer_stats::FailureSlots;
 use peer_view::{AllocSink, ByteView, SinkFault};
 use std::alloc::{AllocError, Global};
-use std::net::{Net, TcpListener, TcpStream};
-use std::sync::Wait;
-use std::time::Clock;
 
 /// A source of what origins answer, one for each group. It holds the runtime, by which it connects and tells the time, and
 /// counts there why an origin gave no value.
@@ -98,8 +96,7 @@ fn find(origins: &[Origin], name: &[u8]) -> Option<GroupId>
     None
 }
 
-impl<'a, H: Net<Listener = TcpListener, Stream = TcpStream> + Clock + Wait + Sync> Source
-    for OriginSource<'a, H> {
+impl<'a, H: Network + Sync> Source for OriginSource<'a, H> {
     ghost answers = { λ s g k a. IsOriginAnswer a };
 
     ghost allowed = { λ g k a. IsOriginAnswer a };

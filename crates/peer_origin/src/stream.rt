@@ -1,7 +1,5 @@
 //! The bytes to and from an origin over a socket, by a deadline.
-ghost use Rattle.std.specs.Prelude.{◌≡◌, ℕ, ◌+◌, ◌-◌, ◌^◌, ◌<◌, ◌≤◌, length, None, IfSome, IfOk};
-ghost use Rattle.std.specs.Io.KnownBytes.{Appends};
-ghost use Rattle.peer_view.specs.Moves.{moved, failure_count, end_count};
+ghost use Rattle.std.specs.Prelude.{◌≡◌, ◌<◌, ◌≤◌, length, None, IfSome};
 
 use crate::deadline::Deadline;
 use peer_view::{PeerRead, PeerWrite, ReadFailed, WriteFailed};
@@ -88,14 +86,7 @@ impl<'a, H: Clock> PeerRead for StreamReader<'a, H> {
     ghost failures = { λ r. r.failures };
 
     /// Waits for bytes by the deadline.
-    fn read(&mut self, room: &mut [u8]) -> Result<usize, ReadFailed>
-        requires { self.old.calls < 2 ^ 64 - 1 }
-        ensures bound { IfOk result (λ n. n ≤ length room.new) }
-        ensures bytes { Appends None None (moved result room.new) }
-        ensures called { self.new.calls ≡ self.old.calls + 1 }
-        ensures end_told { self.new.ends ≡ self.old.ends + end_count result room.new }
-        ensures failed { self.new.failures ≡ self.old.failures + failure_count result }
-    {
+    fn read(&mut self, room: &mut [u8]) -> Result<usize, ReadFailed> {
         self.calls += 1;
         match self.receive(room) {
             Some(n) => {
@@ -168,13 +159,7 @@ impl<'a, H: Clock> PeerWrite for StreamWriter<'a, H> {
     ghost failures = { λ w. w.failures };
 
     /// Waits for room by the deadline.
-    fn write(&mut self, bytes: &[u8]) -> Result<usize, WriteFailed>
-        requires { self.old.failures < 2 ^ 64 - 1 }
-        ensures bound { IfOk result (λ n. n ≤ length bytes.now) }
-        ensures some { IfOk result (λ n. 0 < length bytes.now → 0 < n) }
-        ensures bytes { Appends None None (moved result bytes.now) }
-        ensures failed { self.new.failures ≡ self.old.failures + failure_count result }
-    {
+    fn write(&mut self, bytes: &[u8]) -> Result<usize, WriteFailed> {
         match self.send(bytes) {
             Some(n) => Ok(n),
             None => {

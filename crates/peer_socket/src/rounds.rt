@@ -2,10 +2,9 @@
 ghost use Rattle.std.specs.Prelude.{◌≡◌, ◌+◌, ◌<◌};
 
 use crate::acceptor::Acceptor;
+use peer_host::Host;
 use std::net::TcpStream;
 use std::thread;
-use std::thread::Threads;
-use std::time::Clock;
 
 /// The rounds that are left.
 #[derive(Drop)]
@@ -33,7 +32,7 @@ impl<'a> Rounds<'a> {
     }
 
     /// The next client. None where the accept failed, which uses up a round too, and is over after a pause.
-    pub fn accept<H: Threads + Clock>(&mut self, rt: &H) -> Option<TcpStream>
+    pub fn accept<H: Host>(&mut self, rt: &H) -> Option<TcpStream>
         requires { 0 < self.old.left }
         ensures { self.new.left + 1 ≡ self.old.left }
     {

@@ -1,18 +1,20 @@
 //! The peer server on a socket.
-ghost use Rattle.std.specs.Prelude.{◌≡◌, ◌+◌, ◌↔◌, All, IfOk, IfSome, IsErrOf};
-ghost use Rattle.peer_fill.specs.Opens.{IsOutside, IsWithin};
+ghost use Rattle.std.specs.Prelude.{◌≡◌, All, IfSome};
 ghost use Rattle.peer_fill.specs.Pools.{IsConnSeatOf, IsFillSeatOf};
 ghost use Rattle.peer_fill.specs.Seats.{HaveAllConns, HaveAllFills};
+ghost use Rattle.peer_fill.specs.Lists.{Balances};
+ghost use Rattle.peer_socket.specs.Serving.{ServesWith};
 
 use crate::acceptor::Acceptor;
 use crate::limits::Limits;
-use crate::threads::{Seats, use_seats};
-use peer_fill::{OpenFault, Opened, Pool, Report};
+use crate::threads::use_seats;
+use peer_fill::{OpenFault, Opened, Pool, Report, Seats};
+use peer_host::Host;
 use peer_source::Source;
 use std::alloc::Global;
 use std::hash::RandomState;
 use std::marker::Brand;
-use std::net::TcpListener;
+use std::net::{Net, TcpListener, TcpStream};
 use std::sync::Wait;
 use std::sync::ledger::{Blank, Ledger};
 use std::thread::Threads;
@@ -48,7 +50,7 @@ pub struct Settings {
 }
 
 // Serves over a pool that was opened, and closes it. None where memory or a thread was refused.
-fn serve_opened<S: Source, L: Ledger + Send + Sync, H: Threads + Wait + Clock + Sync>(
+fn serve_opened<S: Source, L: Ledger + Send + Sync, H: Host>(
     rt: &H,
     alloc: Global,
     opened: Opened<S, L>,
@@ -59,8 +61,7 @@ fn serve_opened<S: Source, L: Ledger + Send + Sync, H: Threads + Wait + Clock + 
     requires conns { All (IsConnSeatOf opened.pool) opened.conns.items }
     requires all_fills { HaveAllFills opened.fills.items }
     requires all_conns { HaveAllConns opened.conns.items }
-    ensures each_ask { IfSome result (λ report. report.asked ≡ report.hits + report.led + report.joined) }
-    ensures each_flight { IfSome result (λ report. report.led ≡ report.calls + report.rehits + report.left) }
+    ensures { IfSome result Balances }
 {
     let Opened { pool, fills, conns } = opened;
     let acceptor = Acceptor::new(
@@ -70,15 +71,12 @@ fn serve_opened<S: Source, L: Ledger + Send + Sync, H: Threads + Wait + Clock + 
         settings.rounds,
     );
     let seats = Seats { fills, conns };
-    let Seats { fills, conns } = use_seats(rt, alloc, &pool, seats, &acceptor)?;
-    match pool.close(rt, fills, conns) {
-        Ok(report) => Some(report),
-        Err(_) => unreachable!(),
-    }
+    let seats = use_seats(rt, alloc, &pool, seats, &acceptor)?;
+    Some(pool.close_all(rt, seats))
 }
 
 // Opens a pool, serves, and closes it.
-fn over_pool<S: Source, L: Ledger + Send + Sync, H: Threads + Wait + Clock + Sync>(
+fn over_pool<S: Source, L: Ledger + Send + Sync, H: Host>(
     rt: &H,
     alloc: Global,
     source: S,
@@ -88,13 +86,7 @@ fn over_pool<S: Source, L: Ledger + Send + Sync, H: Threads + Wait + Clock + Syn
 ) -> Result<Report, ServerFault>
     requires name { blank.name ≡ L.name }
     requires parts { (blank.parts ≡ L.parts) × (blank.parts ≡ 16) }
-    ensures workers { IsErrOf result (ServerFault.Open OpenFault.Workers) ↔ IsOutside 16 settings.now.workers }
-    ensures conns { IsErrOf result (ServerFault.Open OpenFault.Conns)
-        ↔ (IsWithin 16 settings.now.workers × IsOutside 16 settings.now.conns) }
-    ensures groups { IsErrOf result (ServerFault.Open OpenFault.Groups)
-        ↔ (IsWithin 16 settings.now.workers × IsWithin 16 settings.now.conns × IsOutside 64 (S.count source)) }
-    ensures each_ask { IfOk result (λ report. report.asked ≡ report.hits + report.led + report.joined) }
-    ensures each_flight { IfOk result (λ report. report.led ≡ report.calls + report.rehits + report.left) }
+    ensures { ServesWith settings.now.workers settings.now.conns (S.count source) result }
 {
     let opened = match Pool::<S, L>::open(
         alloc,
@@ -115,20 +107,17 @@ fn over_pool<S: Source, L: Ledger + Send + Sync, H: Threads + Wait + Clock + Syn
 }
 
 /// `peer_server` with settings of one's own.
-pub fn serve_within<S: Source, H: Threads + Wait + Clock + Sync>(
+pub fn serve_within<
+    S: Source,
+    H: Net<Listener = TcpListener, Stream = TcpStream> + Threads + Wait + Clock + Sync,
+>(
     rt: &H,
     alloc: Global,
     source: S,
     listener: TcpListener,
     settings: &Settings,
 ) -> Result<Report, ServerFault>
-    ensures workers { IsErrOf result (ServerFault.Open OpenFault.Workers) ↔ IsOutside 16 settings.now.workers }
-    ensures conns { IsErrOf result (ServerFault.Open OpenFault.Conns)
-        ↔ (IsWithin 16 settings.now.workers × IsOutside 16 settings.now.conns) }
-    ensures groups { IsErrOf result (ServerFault.Open OpenFault.Groups)
-        ↔ (IsWithin 16 settings.now.workers × IsWithin 16 settings.now.conns × IsOutside 64 (S.count source)) }
-    ensures each_ask { IfOk result (λ report. report.asked ≡ report.hits + report.led + report.joined) }
-    ensures each_flight { IfOk result (λ report. report.led ≡ report.calls + report.rehits + report.left) }
+    ensures { ServesWith settings.now.workers settings.now.conns (S.count source) result }
 {
     over_pool::<S, Brand, H>(rt, alloc, source, &listener, settings, Blank::new(16))
 }
@@ -136,7 +125,10 @@ pub fn serve_within<S: Source, H: Threads + Wait + Clock + Sync>(
 /// Serves `rounds` connections on each of `conns` threads, with so many workers that call the source, and gives the
 /// pool's report once all have ended. The cache of each group keeps at most `cache_bytes` bytes. An accept that fails, or
 /// a stream that refuses its options, uses up a round.
-pub fn peer_server<S: Source, H: Threads + Wait + Clock + Sync>(
+pub fn peer_server<
+    S: Source,
+    H: Net<Listener = TcpListener, Stream = TcpStream> + Threads + Wait + Clock + Sync,
+>(
     rt: &H,
     alloc: Global,
     source: S,
@@ -147,13 +139,7 @@ pub fn peer_server<S: Source, H: Threads + Wait + Clock + Sync>(
     cache_bytes: u64,
     seed: RandomState,
 ) -> Result<Report, ServerFault>
-    ensures workers { IsErrOf result (ServerFault.Open OpenFault.Workers) ↔ IsOutside 16 workers }
-    ensures conns { IsErrOf result (ServerFault.Open OpenFault.Conns)
-        ↔ (IsWithin 16 workers × IsOutside 16 conns) }
-    ensures groups { IsErrOf result (ServerFault.Open OpenFault.Groups)
-        ↔ (IsWithin 16 workers × IsWithin 16 conns × IsOutside 64 (S.count source)) }
-    ensures each_ask { IfOk result (λ report. report.asked ≡ report.hits + report.led + report.joined) }
-    ensures each_flight { IfOk result (λ report. report.led ≡ report.calls + report.rehits + report.left) }
+    ensures { ServesWith workers conns (S.count source) result }
 {
     let settings = Settings {
         workers,

@@ -1,7 +1,6 @@
 //! The serving of one stream.
-ghost use Rattle.std.specs.Prelude.{◌≡◌};
+ghost use Rattle.peer_fill.specs.Claiming.{KeepsSeat};
 ghost use Rattle.peer_fill.specs.Pools.{IsConnSeatOf};
-ghost use Rattle.peer_fill.specs.Seats.{conn_parts};
 
 use crate::client::Client;
 use crate::client_reader::ClientReader;
@@ -10,11 +9,10 @@ use crate::closing::linger;
 use crate::limits::READS;
 use peer_conn::{End, Served, serve_connection};
 use peer_fill::{ConnSeat, Pool};
+use peer_host::Host;
 use peer_source::Source;
 use std::alloc::Global;
-use std::sync::Wait;
 use std::sync::ledger::Ledger;
-use std::thread::Threads;
 use std::time::Clock;
 
 // Whether a closing reply was written: it is what ended the connection, and not the client.
@@ -23,7 +21,7 @@ fn is_closed_by_reply<H: Clock>(served: &Served<ClientReader<'_, H>, ClientWrite
 }
 
 /// Serves a client until its connection ends. The stream can be closed then.
-pub fn serve_client<S: Source, L: Ledger + Send + Sync, H: Threads + Wait + Clock + Sync>(
+pub fn serve_client<S: Source, L: Ledger + Send + Sync, H: Host>(
     rt: &H,
     alloc: Global,
     pool: &Pool<S, L>,
@@ -31,8 +29,7 @@ pub fn serve_client<S: Source, L: Ledger + Send + Sync, H: Threads + Wait + Cloc
     client: &Client<'_, H>,
 ) -> ConnSeat<S, L>
     requires { IsConnSeatOf pool.now seat }
-    ensures seat { IsConnSeatOf pool.now result }
-    ensures parts { conn_parts result ≡ conn_parts seat }
+    ensures { KeepsSeat pool.now seat result }
 {
     let reader = ClientReader::new(client);
     let writer = ClientWriter::new(client);

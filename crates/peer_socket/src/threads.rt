@@ -2,24 +2,18 @@
 ghost use Rattle.std.specs.Prelude.{◌≡◌, All, IfSome};
 ghost use Rattle.peer_fill.specs.Pools.{IsConnSeatOf, IsFillSeatOf};
 ghost use Rattle.peer_fill.specs.Seats.{conn_parts, fill_parts};
-ghost use Rattle.peer_socket.specs.Threads.{AreSeatsOf, ComeBack, ServeWith, WorkWith};
+ghost use Rattle.peer_fill.specs.Lists.{AreSeatsOf, ComeBack};
+ghost use Rattle.peer_socket.specs.Threads.{HandsOut};
 
 use crate::acceptor::{Acceptor, serve_accepted};
-use peer_fill::{ConnSeat, FillSeat, Keeps, NoGate, Pool, join_seats, pop_seat};
+use peer_fill::{ConnSeat, FillSeat, Keeps, NoGate, Pool, Seats, join_seats, pop_seat};
+use peer_host::Host;
 use peer_source::Source;
 use std::alloc::Global;
 use std::sync::Wait;
 use std::sync::ledger::Ledger;
 use std::thread;
 use std::thread::{PromisedHandle, Scope, Threads};
-use std::time::Clock;
-
-/// The seats of a server.
-#[derive(Drop)]
-pub struct Seats<S: Source, L: Ledger> {
-    pub fills: Vec<FillSeat<S, L>>,
-    pub conns: Vec<ConnSeat<S, L>>,
-}
 
 type WorkerHandle<'a, S, L> = PromisedHandle<FillSeat<S, L>, Keeps<'a, S, L, FillSeat<S, L>>>;
 
@@ -59,7 +53,7 @@ fn start_workers<'s, E, S: Source, L: Ledger + Send + Sync, H: Threads + Wait + 
 ) -> Option<Vec<WorkerHandle<'s, S, L>>>
     requires { All (IsFillSeatOf pool.now) seats.old.items }
     ensures left { All (IsFillSeatOf pool.now) seats.new.items }
-    ensures work { IfSome result (WorkWith pool.now seats.old seats.new) }
+    ensures work { IfSome result (HandsOut fill_parts pool.now seats.old seats.new) }
 {
     let mut working = Vec::with_capacity(alloc, seats.len()).ok()?;
     while let Some(seat) = pop_seat(pool, seats) {
@@ -70,7 +64,7 @@ fn start_workers<'s, E, S: Source, L: Ledger + Send + Sync, H: Threads + Wait + 
 }
 
 // Starts the thread of a connection seat, which waits until it may serve. None where it was refused.
-fn start_conn<'s, E, S: Source, L: Ledger + Send + Sync, H: Threads + Wait + Clock + Sync>(
+fn start_conn<'s, E, S: Source, L: Ledger + Send + Sync, H: Host>(
     scope: &Scope<'s, E>,
     rt: &'s H,
     alloc: Global,
@@ -95,7 +89,7 @@ fn start_conn<'s, E, S: Source, L: Ledger + Send + Sync, H: Threads + Wait + Clo
 }
 
 // Starts the threads of all connection seats. None where memory or a thread was refused.
-fn start_conns<'s, E, S: Source, L: Ledger + Send + Sync, H: Threads + Wait + Clock + Sync>(
+fn start_conns<'s, E, S: Source, L: Ledger + Send + Sync, H: Host>(
     scope: &Scope<'s, E>,
     rt: &'s H,
     alloc: Global,
@@ -105,7 +99,7 @@ fn start_conns<'s, E, S: Source, L: Ledger + Send + Sync, H: Threads + Wait + Cl
 ) -> Option<Vec<ConnHandle<'s, S, L>>>
     requires { All (IsConnSeatOf pool.now) seats.old.items }
     ensures left { All (IsConnSeatOf pool.now) seats.new.items }
-    ensures serve { IfSome result (ServeWith pool.now seats.old seats.new) }
+    ensures serve { IfSome result (HandsOut conn_parts pool.now seats.old seats.new) }
 {
     let mut serving = Vec::with_capacity(alloc, seats.len()).ok()?;
     while let Some(seat) = pop_seat(pool, seats) {
@@ -117,7 +111,7 @@ fn start_conns<'s, E, S: Source, L: Ledger + Send + Sync, H: Threads + Wait + Cl
 
 // Starts all threads, lets them serve, and joins them. None where a thread or memory was refused: then no connection was
 // accepted, and the threads that were started end.
-fn run_threads<'s, E, S: Source, L: Ledger + Send + Sync, H: Threads + Wait + Clock + Sync>(
+fn run_threads<'s, E, S: Source, L: Ledger + Send + Sync, H: Host>(
     scope: &Scope<'s, E>,
     rt: &'s H,
     alloc: Global,
@@ -144,7 +138,7 @@ fn run_threads<'s, E, S: Source, L: Ledger + Send + Sync, H: Threads + Wait + Cl
 
 /// Each worker works, and each connection seat serves, in a thread of its own. No connection is accepted before all threads
 /// have been started. None where a thread or memory was refused: then none was accepted.
-pub fn use_seats<S: Source, L: Ledger + Send + Sync, H: Threads + Wait + Clock + Sync>(
+pub fn use_seats<S: Source, L: Ledger + Send + Sync, H: Host>(
     rt: &H,
     alloc: Global,
     pool: &Pool<S, L>,

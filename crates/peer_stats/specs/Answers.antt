@@ -9,7 +9,8 @@ is_reading method = bytes_eq method (codes "GET") || bytes_eq method (codes "HEA
 
 -- the page at a path
 abbrev pub page_at : List ℕ → Answer
-page_at path = cond (bytes_eq path (codes "/metrics")) answer.Metrics (cond (bytes_eq path (codes "/healthz")) answer.Health answer.NotFound)
+page_at path = cond (bytes_eq path (codes "/metrics")) answer.Metrics
+    (cond (bytes_eq path (codes "/healthz")) answer.Health answer.NotFound)
 
 -- by its method and its path
 abbrev pub answer_to : List ℕ → List ℕ → Answer

@@ -6,14 +6,13 @@ use crate::end::StatsEnd;
 use crate::service::StatsService;
 use mio::net::{TcpListener, TcpStream};
 use mio::{Events, Interest, Poll, Token};
+use peer_host::Host;
 use slab::Slab;
 use std::alloc::Global;
 use std::hash::RandomState;
 use std::io::ErrorKind;
 use std::net::Net;
-use std::sync::Wait;
-use std::thread::Threads;
-use std::time::{Clock, Duration, Instant};
+use std::time::{Duration, Instant};
 use std::{net, thread};
 
 // The token of the listener.
@@ -143,12 +142,7 @@ impl<'a> Running<'a> {
     }
 
     // Waits for events, and serves those whom they concern.
-    fn serve_once<H: Threads + Wait + Clock>(
-        &mut self,
-        rt: &H,
-        waits: &mut Waits,
-        begun: Option<Instant>,
-    ) {
+    fn serve_once<H: Host>(&mut self, rt: &H, waits: &mut Waits, begun: Option<Instant>) {
         if waits
             .poll
             .poll(&mut waits.events, self.time_to_wait())
@@ -169,7 +163,7 @@ impl<'a> Running<'a> {
 
 impl StatsServer {
     /// Serves until it is ended.
-    pub fn run<H: Threads + Wait + Clock>(self, rt: &H, counters: &Counters, end: &StatsEnd) {
+    pub fn run<H: Host>(self, rt: &H, counters: &Counters, end: &StatsEnd) {
         let StatsServer {
             alloc,
             listener,

@@ -8,14 +8,4 @@
 #![tactic(auto)]
 
 #[cfg(test)]
-mod events;
-#[cfg(test)]
-mod flights;
-#[cfg(test)]
-mod lanes;
-#[cfg(test)]
-mod pools;
-#[cfg(test)]
-mod values;
-#[cfg(test)]
-mod waits;
+mod tests;

@@ -1,19 +1,21 @@
 //! Connections in one thread, and over a pool whose worker is a thread.
-ghost use Rattle.std.specs.Prelude.{◌≡◌, All, IfSome};
-ghost use Rattle.peer_fill.specs.Pools.{IsConnSeatOf, IsFillSeatOf};
+ghost use Rattle.std.specs.Prelude.{◌≡◌, IfSome};
+ghost use Rattle.peer_fill.specs.Pools.{IsConnSeatOf};
+ghost use Rattle.refused.specs.Lent.{AreOf};
 
 use crate::heads::reader_of;
+use crate::lent::{Demo, DemoSeats, Lent, Seats};
 use crate::seen::Seen;
 use crate::window;
 use peer_conn::{End, Served, serve_connection, serve_functional, serve_serial};
-use peer_fill::{ConnSeat, FillSeat, Pool, pop_seat};
+use peer_fill::ConnSeat;
 use peer_source::{DemoSource, Source};
 use peer_view::{MemReader, MemWriter};
 use std::alloc::Global;
 use std::sync::Wait;
 use std::sync::ledger::Ledger;
 use std::thread::Threads;
-use test_support::{beside_worker, push_fill};
+use test_support::beside_worker;
 
 /// Three requests of 45 bytes.
 pub const THREE: &[u8] =
@@ -55,14 +57,6 @@ fn ended(served: &Served<MemReader, MemWriter>) -> Seen {
     }
 }
 
-// The same where one was served.
-fn ended_if_served(served: &Option<Served<MemReader, MemWriter>>) -> Option<Seen> {
-    match served {
-        Some(served) => Some(ended(served)),
-        None => None,
-    }
-}
-
 /// A call that serves in one thread.
 #[derive(Clone, Copy)]
 pub enum Alone {
@@ -84,62 +78,51 @@ pub fn in_one_thread(alloc: Global, call: Alone) -> Option<Seen> {
     Some(ended(&served))
 }
 
-// Serves the three requests over a pool, with growths counted. None was served where memory was refused before.
-fn serve_three<S: Source, L: Ledger + Send + Sync, H: Threads + Wait + Sync>(
-    rt: &H,
-    alloc: Global,
-    pool: &Pool<S, L>,
+// Serves what a reader gives over a pool, with growths counted.
+fn serve_counted<S: Source, L: Ledger + Send + Sync, H: Threads + Wait + Sync>(
+    lent: &Lent<'_, S, L, H>,
     conn: ConnSeat<S, L>,
-) -> (ConnSeat<S, L>, Option<Served<MemReader, MemWriter>>)
-    requires { IsConnSeatOf pool.now conn }
-    ensures { IsConnSeatOf pool.now result.0 }
+    reader: MemReader,
+) -> (ConnSeat<S, L>, Served<MemReader, MemWriter>)
+    requires conn { IsConnSeatOf lent.now.pool.now conn }
+    requires reader { reader.calls ≡ 0 }
+    ensures { IsConnSeatOf lent.now.pool.now result.0 }
 {
-    let Some(reader) = reader_of(alloc, THREE) else {
-        return (conn, None);
-    };
+    let (rt, alloc) = (lent.rt, lent.alloc);
     let writer = MemWriter::new(alloc, 65_536, None);
     window::begin(alloc);
-    let (served, conn) = serve_connection(rt, alloc, pool, conn, reader, writer, READS);
+    let (served, conn) = serve_connection(rt, alloc, lent.pool, conn, reader, writer, READS);
     window::end(alloc);
-    (conn, Some(served))
+    (conn, served)
 }
 
-/// Serves the three requests over a pool, beside a worker of this list.
+/// Serves the three requests over a pool, beside its worker.
 pub fn serve_beside<S: Source, L: Ledger + Send + Sync, H: Threads + Wait + Sync>(
-    rt: &H,
-    alloc: Global,
-    pool: &Pool<S, L>,
-    fills: &mut Vec<FillSeat<S, L>>,
-    conn: ConnSeat<S, L>,
-) -> Option<(ConnSeat<S, L>, Option<Served<MemReader, MemWriter>>)>
-    requires fills { All (IsFillSeatOf pool.now) fills.old.items }
-    requires conn { IsConnSeatOf pool.now conn }
-    ensures fills { All (IsFillSeatOf pool.now) fills.new.items }
-    ensures conn { IfSome result (λ used. IsConnSeatOf pool.now used.0) }
+    lent: &Lent<'_, S, L, H>,
+    seats: Seats<S, L>,
+) -> Option<(Seats<S, L>, Served<MemReader, MemWriter>)>
+    requires { AreOf lent.now.pool.now seats }
+    ensures { IfSome result (λ done. AreOf lent.now.pool.now done.0) }
 {
-    let fill = pop_seat(pool, fills)?;
-    let serve = move || -> (ConnSeat<S, L>, Option<Served<MemReader, MemWriter>>)
-        requires { IsConnSeatOf pool.now conn }
-        ensures { IsConnSeatOf pool.entry.now result.0 }
-    { serve_three(rt, alloc, pool, conn) };
-    let (fill, used) = beside_worker(rt, alloc, pool, fill, serve)?;
-    push_fill(pool, fills, fill);
-    Some(used)
+    let reader = reader_of(lent.alloc, THREE)?;
+    let Seats { fill, conn } = seats;
+    let serve = move || -> (ConnSeat<S, L>, Served<MemReader, MemWriter>)
+        requires conn { IsConnSeatOf lent.now.pool.now conn }
+        requires reader { reader.calls ≡ 0 }
+        ensures { IsConnSeatOf lent.entry.now.pool.now result.0 }
+    { serve_counted(lent, conn, reader) };
+    let (fill, (conn, served)) = beside_worker(lent.rt, lent.alloc, lent.pool, fill, serve)?;
+    Some((Seats { fill, conn }, served))
 }
 
 /// `serve_connection`, beside a worker.
 pub fn connection<L: Ledger + Send + Sync, H: Threads + Wait + Sync>(
-    rt: &H,
-    alloc: Global,
-    pool: &Pool<DemoSource, L>,
-    fills: &mut Vec<FillSeat<DemoSource, L>>,
-    conn: ConnSeat<DemoSource, L>,
-) -> Option<(ConnSeat<DemoSource, L>, Option<Seen>)>
-    requires fills { All (IsFillSeatOf pool.now) fills.old.items }
-    requires conn { IsConnSeatOf pool.now conn }
-    ensures fills { All (IsFillSeatOf pool.now) fills.new.items }
-    ensures conn { IfSome result (λ used. IsConnSeatOf pool.now used.0) }
+    lent: &Demo<'_, L, H>,
+    seats: DemoSeats<L>,
+) -> Option<(DemoSeats<L>, Seen)>
+    requires { AreOf lent.now.pool.now seats }
+    ensures { IfSome result (λ done. AreOf lent.now.pool.now done.0) }
 {
-    let (conn, served) = serve_beside(rt, alloc, pool, fills, conn)?;
-    Some((conn, ended_if_served(&served)))
+    let (seats, served) = serve_beside(lent, seats)?;
+    Some((seats, ended(&served)))
 }

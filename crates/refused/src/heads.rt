@@ -51,19 +51,25 @@ pub fn locate_escaped(alloc: Global) -> Option<Seen> {
     Some(place_seen(&located).only_if(is_bad_escape(&bad), "a bad escape was not told"))
 }
 
+/// A text as one piece.
+pub fn pieces_of(alloc: Global, text: &[u8]) -> Option<Vec<Vec<u8>>> {
+    let mut pieces = Vec::new(alloc);
+    pieces.push(text.to_vec(alloc).ok()?).ok()?;
+    Some(pieces)
+}
+
 /// A reader of one piece.
 pub fn reader_of(alloc: Global, text: &[u8]) -> Option<MemReader>
     ensures { IfSome result (λ reader. reader.calls ≡ 0) }
 {
-    let mut pieces = Vec::new(alloc);
-    pieces.push(text.to_vec(alloc).ok()?).ok()?;
+    let pieces = pieces_of(alloc, text)?;
     Some(MemReader::new(pieces, false))
 }
 
 // A buffer that holds what a reader gives at once.
 fn held_of(alloc: Global, text: &[u8]) -> Option<HeadBuf> {
-    let mut held = HeadBuf::new(alloc).ok()?;
     let mut reader = reader_of(alloc, text)?;
+    let mut held = HeadBuf::new(alloc).ok()?;
     let n = reader.read(held.room()).ok()?;
     held.filled(n);
     Some(held)

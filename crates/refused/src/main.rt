@@ -8,6 +8,7 @@
 mod connections;
 mod flights;
 mod heads;
+mod lent;
 mod pools;
 mod refusing;
 mod seen;
@@ -31,16 +32,19 @@ use crate::uses::{Call, over_pool};
 use crate::views::Set;
 use std::alloc::Global;
 use std::env;
-use std::net::{Net, TcpListener, TcpStream};
 use std::process::ExitCode;
 use std::sync::Wait;
 use std::thread::Threads;
-use std::time::Clock;
 
 fn main(rt: HostRuntime) -> ExitCode {
+    let alloc = rt.alloc();
     let seen = match name_of(&rt) {
         None => None,
-        Some(name) => see(&rt, name.as_str()),
+        Some(name) => match name.as_str() {
+            "peer_server" => servers::server(&rt, alloc, Which::Any),
+            "peer_server_first" => servers::server(&rt, alloc, Which::First),
+            name => see(&rt, alloc, name),
+        },
     };
     let printed = match seen.unwrap_or(Seen::Prepared) {
         Seen::Refused => println!(rt; "refused"),
@@ -58,54 +62,51 @@ fn name_of(rt: &HostRuntime) -> Option<String> {
     args.next()
 }
 
+/// The calls over a pool with one worker and one connection.
+const OVER_POOL: [(&str, Call); 14] = [
+    ("ask_led", Call::Ask(Before::Nothing)),
+    ("ask_joined", Call::Ask(Before::Ask)),
+    ("ask_hit", Call::Ask(Before::Fill)),
+    ("run_worker", Call::Work),
+    ("refill", Call::Refill),
+    ("serve_connection", Call::Connection),
+    ("talk_whole", Call::Talk(Talk::Whole)),
+    ("talk_pieces", Call::Talk(Talk::Pieces)),
+    ("talk_many", Call::Talk(Talk::Many)),
+    ("talk_kept", Call::Talk(Talk::Kept)),
+    ("talk_faults", Call::Talk(Talk::Faults)),
+    ("talk_escaped", Call::Talk(Talk::Escaped)),
+    ("talk_long", Call::Talk(Talk::Long)),
+    ("talk_closing", Call::Talk(Talk::Closing)),
+];
+
+// The call over a pool that has this name.
+fn call_of(name: &str) -> Option<Call> {
+    for (known, call) in &OVER_POOL {
+        if *known == name {
+            return Some(*call);
+        }
+    }
+    None
+}
+
 // What the call of this name does, or none where memory is refused before it.
-fn see<
-    H: AllocGlobal
-        + Net<Listener = TcpListener, Stream = TcpStream>
-        + Threads
-        + Wait
-        + Clock
-        + Sync,
->(rt: &H, name: &str) -> Option<Seen> {
-    let alloc = rt.alloc();
-    match name {
-        "pool_open" => pools::open_one(rt, alloc),
-        "ask_led" => over_pool(rt, alloc, Call::Ask(Before::Nothing)),
-        "ask_joined" => over_pool(rt, alloc, Call::Ask(Before::Ask)),
-        "ask_hit" => over_pool(rt, alloc, Call::Ask(Before::Fill)),
-        "run_worker" => over_pool(rt, alloc, Call::Work),
-        "refill" => over_pool(rt, alloc, Call::Refill),
-        "serve_serial" => connections::in_one_thread(alloc, Alone::Serial),
-        "serve_functional" => connections::in_one_thread(alloc, Alone::Functional),
-        "serve_connection" => over_pool(rt, alloc, Call::Connection),
-        "refused_once" => refusing::refused_once(rt, alloc),
-        "peer_server" => servers::server(rt, alloc, Which::Any),
-        "peer_server_first" => servers::server(rt, alloc, Which::First),
-        "without_pool" => without::pool(rt, alloc),
-        _ => match talk_of(name) {
-            Some(what) => over_pool(rt, alloc, Call::Talk(what)),
-            None => see_view(alloc, name),
+fn see<H: Threads + Wait + Sync>(rt: &H, alloc: Global, name: &str) -> Option<Seen> {
+    match call_of(name) {
+        Some(call) => over_pool(rt, alloc, call),
+        None => match name {
+            "pool_open" => pools::open_one(rt, alloc),
+            "refused_once" => refusing::refused_once(rt, alloc),
+            "without_pool" => without::pool(rt, alloc),
+            "serve_serial" => connections::in_one_thread(alloc, Alone::Serial),
+            "serve_functional" => connections::in_one_thread(alloc, Alone::Functional),
+            _ => see_alone(alloc, name),
         },
     }
 }
 
-// The talk of this name.
-fn talk_of(name: &str) -> Option<Talk> {
-    match name {
-        "talk_whole" => Some(Talk::Whole),
-        "talk_pieces" => Some(Talk::Pieces),
-        "talk_many" => Some(Talk::Many),
-        "talk_kept" => Some(Talk::Kept),
-        "talk_faults" => Some(Talk::Faults),
-        "talk_escaped" => Some(Talk::Escaped),
-        "talk_long" => Some(Talk::Long),
-        "talk_closing" => Some(Talk::Closing),
-        _ => None,
-    }
-}
-
-// The same for calls of views.
-fn see_view(alloc: Global, name: &str) -> Option<Seen> {
+// The same for the calls of one value.
+fn see_alone(alloc: Global, name: &str) -> Option<Seen> {
     match name {
         "copy_of" => views::copy_of(alloc),
         "share" => views::share(alloc),
@@ -119,13 +120,6 @@ fn see_view(alloc: Global, name: &str) -> Option<Seen> {
         "view_sink_bytes" => views::view_sink(alloc, Set::Bytes),
         "view_sink_str" => views::view_sink(alloc, Set::Text),
         "view_sink_view" => views::view_sink(alloc, Set::View),
-        _ => see_source(alloc, name),
-    }
-}
-
-// The same for calls of sources, caches and flights.
-fn see_source(alloc: Global, name: &str) -> Option<Seen> {
-    match name {
         "fill_found" => sources::run(alloc, ECHO, b"k", b"k"),
         "fill_failed" => sources::run(alloc, SQUARE, b"x", b"not a number"),
         "fill_letters" => sources::run(alloc, FILL, b"3", b"xxx"),
@@ -140,13 +134,6 @@ fn see_source(alloc: Global, name: &str) -> Option<Seen> {
         "flight_share" => flights::flight_share(alloc),
         "place_of" => flights::place_of(alloc),
         "place_share" => flights::place_share(alloc),
-        _ => see_head(alloc, name),
-    }
-}
-
-// The same for calls that take their memory at once.
-fn see_head(alloc: Global, name: &str) -> Option<Seen> {
-    match name {
         "head_buf" => heads::head_buf(alloc),
         "locate" => heads::locate_escaped(alloc),
         "wish_of" => heads::wish_escaped(alloc),
@@ -159,7 +146,7 @@ fn see_head(alloc: Global, name: &str) -> Option<Seen> {
     }
 }
 
-// The same for calls that take no memory.
+// The same for the calls that take no memory.
 fn see_without(alloc: Global, name: &str) -> Option<Seen> {
     match name {
         "without_views" => without::views(alloc),

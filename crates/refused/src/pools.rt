@@ -1,11 +1,12 @@
 //! Pools in one thread: how one is opened, asked and worked for.
-ghost use Rattle.std.specs.Prelude.{◌≡◌, All};
-ghost use Rattle.peer_fill.specs.Pools.{IsConnSeatOf, IsFillSeatOf};
+ghost use Rattle.std.specs.Prelude.{◌≡◌, IfSome};
+ghost use Rattle.refused.specs.Lent.{AreOf};
 
+use crate::lent::{Demo, DemoSeats};
 use crate::seen::Seen;
 use crate::sources::{ECHO, fill_of, finds};
 use crate::window;
-use peer_fill::{ConnSeat, FillSeat, OpenFault, Opened, Pool, Report};
+use peer_fill::{OpenFault, Opened, Pool, Report};
 use peer_flight::{AskFault, Claim};
 use peer_source::{DemoSource, Fill, Outcome};
 use peer_view::ByteView;
@@ -13,7 +14,7 @@ use std::alloc::{AllocError, Global};
 use std::marker::Brand;
 use std::sync::Wait;
 use std::sync::ledger::{Blank, Ledger};
-use test_support::{ask_for, do_jobs, seed};
+use test_support::seed;
 
 /// How many bytes the caches of a pool keep here.
 pub const CACHE_BYTES: u64 = 1000;
@@ -65,11 +66,6 @@ pub enum Before {
     Fill,
 }
 
-/// What a seat counted.
-pub fn counts<L: Ledger>(seat: &ConnSeat<DemoSource, L>) -> [u64; 4] {
-    [seat.asked(), seat.hits(), seat.led(), seat.joined()]
-}
-
 // What a seat has counted behind an ask that was not refused.
 fn usual_counts(before: Before) -> [u64; 4] {
     match before {
@@ -80,90 +76,83 @@ fn usual_counts(before: Before) -> [u64; 4] {
 }
 
 /// Asks for the key `k`, and lets go of the claim. None where memory was refused.
-pub fn ask_once<L: Ledger, R: Wait>(
-    rt: &R,
-    alloc: Global,
-    pool: &Pool<DemoSource, L>,
-    seat: &mut ConnSeat<DemoSource, L>,
-) -> Option<()>
-    requires { IsConnSeatOf pool.now seat.old }
-    ensures { IsConnSeatOf pool.now seat.new }
+pub fn ask_once<L: Ledger, R: Wait>(lent: &Demo<'_, L, R>, seats: &mut DemoSeats<L>) -> Option<()>
+    requires { AreOf lent.now.pool.now seats.old }
+    ensures { AreOf lent.now.pool.now seats.new }
 {
-    match ask_for(rt, alloc, pool, seat, b"k") {
-        Some(_claim) => Some(()),
-        None => None,
-    }
+    let _claim = lent.ask_for(seats, b"k")?;
+    Some(())
 }
 
 // Does what comes before the ask whose growths are counted.
 fn go_before<L: Ledger, R: Wait>(
-    rt: &R,
-    alloc: Global,
-    pool: &Pool<DemoSource, L>,
-    fills: &mut Vec<FillSeat<DemoSource, L>>,
-    seat: &mut ConnSeat<DemoSource, L>,
+    lent: &Demo<'_, L, R>,
+    seats: &mut DemoSeats<L>,
     before: Before,
 ) -> Option<()>
-    requires fills { All (IsFillSeatOf pool.now) fills.old.items }
-    requires seat { IsConnSeatOf pool.now seat.old }
-    ensures fills { All (IsFillSeatOf pool.now) fills.new.items }
-    ensures seat { IsConnSeatOf pool.now seat.new }
+    requires { AreOf lent.now.pool.now seats.old }
+    ensures { AreOf lent.now.pool.now seats.new }
 {
-    match before {
-        Before::Nothing => Some(()),
-        Before::Ask => ask_once(rt, alloc, pool, seat),
-        Before::Fill => {
-            ask_once(rt, alloc, pool, seat)?;
-            pool.stop();
-            do_jobs(rt, alloc, pool, fills)
-        }
+    if matches!(before, Before::Nothing) {
+        return Some(());
     }
+    ask_once(lent, seats)?;
+    if matches!(before, Before::Fill) {
+        lent.fill_jobs(seats);
+    }
+    Some(())
 }
 
-// Asks with growths counted. Where it is refused, the same ask is then what it would have been.
+// Asks for the key `k`, with growths counted.
 fn ask_counted<L: Ledger, R: Wait>(
-    rt: &R,
-    alloc: Global,
-    pool: &Pool<DemoSource, L>,
-    seat: &mut ConnSeat<DemoSource, L>,
-) -> Option<Seen>
-    requires { IsConnSeatOf pool.now seat.old }
-    ensures { IsConnSeatOf pool.now seat.new }
+    lent: &Demo<'_, L, R>,
+    seats: &mut DemoSeats<L>,
+) -> Option<Result<Claim<DemoSource>, AskFault>>
+    requires { AreOf lent.now.pool.now seats.old }
+    ensures { AreOf lent.now.pool.now seats.new }
 {
-    let key = ByteView::copy_of(alloc, b"k").ok()?;
-    let counted = counts(seat);
-    window::begin(alloc);
-    let asked = pool.ask(rt, alloc, seat, ECHO, key);
-    window::end(alloc);
+    let key = ByteView::copy_of(lent.alloc, b"k").ok()?;
+    window::begin(lent.alloc);
+    let asked = lent
+        .pool
+        .ask(lent.rt, lent.alloc, &mut seats.conn, ECHO, key);
+    window::end(lent.alloc);
+    Some(asked)
+}
+
+// What an ask for the key `k` was seen to do.
+fn asked_seen(asked: Result<Claim<DemoSource>, AskFault>) -> Seen {
     match asked {
-        Ok(claim) => Some(Seen::Answered.only_if(claim.key().eq_bytes(b"k"), "another key")),
-        Err(AskFault::Memory) => {
-            let same = counts(seat) == counted;
-            ask_once(rt, alloc, pool, seat)?;
-            Some(Seen::Refused.only_if(same, "the seat counted"))
-        }
-        Err(AskFault::Worn) => Some(Seen::Wrong("worn")),
+        Ok(claim) => Seen::Answered.only_if(claim.key().eq_bytes(b"k"), "another key"),
+        Err(AskFault::Memory) => Seen::Refused,
+        Err(AskFault::Worn) => Seen::Wrong("worn"),
     }
 }
 
-/// `Pool::ask` behind what comes before it.
+/// `Pool::ask` behind what comes before it. Where it is refused, the same ask is then what it would have been.
 pub fn ask<L: Ledger, R: Wait>(
-    rt: &R,
-    alloc: Global,
-    pool: &Pool<DemoSource, L>,
-    fills: &mut Vec<FillSeat<DemoSource, L>>,
-    seat: &mut ConnSeat<DemoSource, L>,
+    lent: &Demo<'_, L, R>,
+    seats: &mut DemoSeats<L>,
     before: Before,
 ) -> Option<Seen>
-    requires fills { All (IsFillSeatOf pool.now) fills.old.items }
-    requires seat { IsConnSeatOf pool.now seat.old }
-    ensures fills { All (IsFillSeatOf pool.now) fills.new.items }
-    ensures seat { IsConnSeatOf pool.now seat.new }
+    requires { AreOf lent.now.pool.now seats.old }
+    ensures { AreOf lent.now.pool.now seats.new }
 {
-    go_before(rt, alloc, pool, fills, seat, before)?;
-    let seen = ask_counted(rt, alloc, pool, seat)?;
-    let usual = counts(seat) == usual_counts(before);
-    Some(seen.only_if(usual, "the counts do not fit"))
+    go_before(lent, seats, before)?;
+    let counted = seats.counts();
+    let seen = asked_seen(ask_counted(lent, seats)?);
+    let seen = match seen {
+        Seen::Refused => {
+            let same = seats.counts() == counted;
+            ask_once(lent, seats)?;
+            seen.only_if(same, "the seat counted")
+        }
+        _ => seen,
+    };
+    Some(seen.only_if(
+        seats.counts() == usual_counts(before),
+        "the counts do not fit",
+    ))
 }
 
 // What a claim's fill is, where it is there.
@@ -186,23 +175,18 @@ fn made(fill: &Fill<DemoSource>) -> Seen {
 
 /// `Pool::run_worker` with one job.
 pub fn work<L: Ledger, R: Wait>(
-    rt: &R,
-    alloc: Global,
-    pool: &Pool<DemoSource, L>,
-    fills: &mut Vec<FillSeat<DemoSource, L>>,
-    seat: &mut ConnSeat<DemoSource, L>,
-) -> Option<Seen>
-    requires fills { All (IsFillSeatOf pool.now) fills.old.items }
-    requires seat { IsConnSeatOf pool.now seat.old }
-    ensures fills { All (IsFillSeatOf pool.now) fills.new.items }
-    ensures seat { IsConnSeatOf pool.now seat.new }
+    lent: &Demo<'_, L, R>,
+    mut seats: DemoSeats<L>,
+) -> Option<(DemoSeats<L>, Seen)>
+    requires { AreOf lent.now.pool.now seats }
+    ensures { IfSome result (λ done. AreOf lent.now.pool.now done.0) }
 {
-    let claim = ask_for(rt, alloc, pool, seat, b"k")?;
-    pool.stop();
-    window::begin(alloc);
-    let done = do_jobs(rt, alloc, pool, fills);
-    window::end(alloc);
-    done.map(|()| fill_seen(&claim))
+    let claim = lent.ask_for(&mut seats, b"k")?;
+    lent.pool.stop();
+    window::begin(lent.alloc);
+    let seats = lent.run_worker(seats);
+    window::end(lent.alloc);
+    Some((seats, fill_seen(&claim)))
 }
 
 // What a refill gave.
@@ -215,19 +199,14 @@ fn refill_seen(refilled: Result<Option<Fill<DemoSource>>, AllocError>) -> Seen {
 }
 
 /// `Pool::refill` of a fill of another key.
-pub fn refill<L: Ledger, R: Wait>(
-    rt: &R,
-    alloc: Global,
-    pool: &Pool<DemoSource, L>,
-    seat: &mut ConnSeat<DemoSource, L>,
-) -> Option<Seen>
-    requires { IsConnSeatOf pool.now seat.old }
-    ensures { IsConnSeatOf pool.now seat.new }
+pub fn refill<L: Ledger, R: Wait>(lent: &Demo<'_, L, R>, seats: &mut DemoSeats<L>) -> Option<Seen>
+    requires { AreOf lent.now.pool.now seats.old }
+    ensures { AreOf lent.now.pool.now seats.new }
 {
-    let claim = ask_for(rt, alloc, pool, seat, b"k")?;
-    let other = fill_of(alloc, ECHO, b"other")?;
-    window::begin(alloc);
-    let refilled = pool.refill(alloc, &claim, &other);
-    window::end(alloc);
+    let claim = lent.ask_for(seats, b"k")?;
+    let other = fill_of(lent.alloc, ECHO, b"other")?;
+    window::begin(lent.alloc);
+    let refilled = lent.pool.refill(lent.alloc, &claim, &other);
+    window::end(lent.alloc);
     Some(refill_seen(refilled).only_if(finds(&other, b"other"), "the other fill changed"))
 }

@@ -1,12 +1,14 @@
 //! A source that is refused memory once, beside requests that are not.
-ghost use Rattle.std.specs.Prelude.{◌≡◌, All};
+ghost use Rattle.std.specs.Prelude.{◌≡◌, All, IfSome};
 ghost use Rattle.peer_fill.specs.Pools.{IsConnSeatOf, IsFillSeatOf};
+ghost use Rattle.refused.specs.Lent.{AreOf};
 
 use crate::connections::{FIRST_REPLY, serve_beside};
+use crate::lent::{Lent, Seats};
 use crate::seen::Seen;
 use crate::sources::finds;
 use peer_conn::{End, Served};
-use peer_fill::{Pool, Report, pop_seat};
+use peer_fill::Report;
 use peer_flight::Claim;
 use peer_view::{MemReader, MemWriter};
 use std::alloc::Global;
@@ -14,9 +16,7 @@ use std::marker::Brand;
 use std::sync::Wait;
 use std::sync::ledger::{Blank, Ledger};
 use std::thread::Threads;
-use test_support::{
-    Hooked, Refusing, SeatLists, all_called, ask_for, close_pool, do_jobs, open_pool, push_conn,
-};
+use test_support::{Hooked, Refusing, SeatLists, all_called, close_pool, open_pool};
 
 // Whether the claim is there, and its fill found `b`.
 fn found_b(claim: &Option<Claim<Hooked<Refusing>>>) -> bool {
@@ -30,11 +30,8 @@ fn found_b(claim: &Option<Claim<Hooked<Refusing>>>) -> bool {
     }
 }
 
-// What is seen of the first reply, and then the end, where a connection was served.
-fn ended(served: &Option<Served<MemReader, MemWriter>>) -> Seen {
-    let Some(served) = served else {
-        return Seen::Prepared;
-    };
+// The first reply, and then the end.
+fn ended(served: &Served<MemReader, MemWriter>) -> Seen {
     Seen::Refused
         .only_if(served.end == End::Memory, "another end")
         .only_if(
@@ -45,25 +42,34 @@ fn ended(served: &Option<Served<MemReader, MemWriter>>) -> Seen {
 
 // The first reply, and then the end; afterwards the pool fills what it was refused.
 fn once<L: Ledger + Send + Sync, H: Threads + Wait + Sync>(
-    rt: &H,
-    alloc: Global,
-    pool: &Pool<Hooked<Refusing>, L>,
+    lent: &Lent<'_, Hooked<Refusing>, L, H>,
+    seats: Seats<Hooked<Refusing>, L>,
+) -> Option<(Seats<Hooked<Refusing>, L>, Seen)>
+    requires { AreOf lent.now.pool.now seats }
+    ensures { IfSome result (λ done. AreOf lent.now.pool.now done.0) }
+{
+    let (mut seats, served) = serve_beside(lent, seats)?;
+    let claim = lent.ask_for(&mut seats, b"b");
+    let seats = lent.run_worker(seats);
+    let filled = found_b(&claim);
+    let seen = ended(&served).only_if(filled, "the pool does not fill what it was refused");
+    Some((seats, seen))
+}
+
+// The same with seats from these lists.
+fn once_with<L: Ledger + Send + Sync, H: Threads + Wait + Sync>(
+    lent: &Lent<'_, Hooked<Refusing>, L, H>,
     lists: &mut SeatLists<Hooked<Refusing>, L>,
 ) -> Option<Seen>
-    requires fills { All (IsFillSeatOf pool.now) lists.old.fills.items }
-    requires conns { All (IsConnSeatOf pool.now) lists.old.conns.items }
-    ensures fills { All (IsFillSeatOf pool.now) lists.new.fills.items }
-    ensures conns { All (IsConnSeatOf pool.now) lists.new.conns.items }
+    requires fills { All (IsFillSeatOf lent.now.pool.now) lists.old.fills.items }
+    requires conns { All (IsConnSeatOf lent.now.pool.now) lists.old.conns.items }
+    ensures fills { All (IsFillSeatOf lent.now.pool.now) lists.new.fills.items }
+    ensures conns { All (IsConnSeatOf lent.now.pool.now) lists.new.conns.items }
 {
-    let conn = pop_seat(pool, &mut lists.conns)?;
-    let (mut conn, served) = serve_beside(rt, alloc, pool, &mut lists.fills, conn)?;
-    let claim = ask_for(rt, alloc, pool, &mut conn, b"b");
-    push_conn(pool, &mut lists.conns, conn);
-    do_jobs(rt, alloc, pool, &mut lists.fills);
-    Some(ended(&served).only_if(
-        found_b(&claim),
-        "the pool does not fill what it was refused",
-    ))
+    let seats = lent.take_seats(lists)?;
+    let (seats, seen) = once(lent, seats)?;
+    lent.put_seats(lists, seats);
+    Some(seen)
 }
 
 // What was seen, if the report fits to it.
@@ -85,7 +91,7 @@ fn over_ledger<L: Ledger + Send + Sync, H: Threads + Wait + Sync>(
     let Some((pool, mut lists)) = opened else {
         return None;
     };
-    let seen = once(rt, alloc, &pool, &mut lists);
+    let seen = once_with(&Lent::new(rt, alloc, &pool), &mut lists);
     judged(seen, close_pool(rt, pool, lists))
 }
 

@@ -77,8 +77,8 @@ pub fn server<
         + Clock
         + Sync,
 >(rt: &H, alloc: Global, which: Which) -> Option<Seen> {
-    let (listener, client) = meet(rt)?;
     let seed = seed()?;
+    let (listener, client) = meet(rt)?;
     window::begin(alloc);
     let answered = peer_server(rt, alloc, DemoSource, listener, 1, 1, 1, CACHE_BYTES, seed);
     window::end(alloc);

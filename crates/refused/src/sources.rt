@@ -75,64 +75,108 @@ pub fn cache_new(alloc: Global) -> Option<Seen> {
     })
 }
 
-/// A cache of `echo` with room for two keys of one letter, to which these were added.
-pub fn cache_with(alloc: Global, letters: &[u8]) -> Option<MainCache<DemoSource>> {
-    let mut cache = MainCache::new(alloc, ECHO, 4, seed()?).ok()?;
-    for letter in letters {
-        keep(alloc, &mut cache, *letter)?;
-    }
-    Some(cache)
+// `MainCache::add`, of which only the answer is told.
+fn add(
+    cache: &mut MainCache<DemoSource>,
+    fill: &Fill<DemoSource>,
+    evicted: &mut Evicted,
+) -> Result<(), AllocError> {
+    cache.add(fill, evicted)
 }
 
 // Adds a letter, where memory is there.
 fn keep(alloc: Global, cache: &mut MainCache<DemoSource>, letter: u8) -> Option<()> {
     let fill = fill_of(alloc, ECHO, &[letter])?;
-    cache.add(&fill, &mut Vec::new(alloc)).ok()
+    add(cache, &fill, &mut Vec::new(alloc)).ok()
+}
+
+// The same for these letters.
+fn keep_all(alloc: Global, cache: &mut MainCache<DemoSource>, letters: &[u8]) -> Option<()> {
+    for letter in letters {
+        keep(alloc, cache, *letter)?;
+    }
+    Some(())
+}
+
+/// A cache of `echo` with room for two keys of one letter, to which these were added.
+pub fn cache_with(alloc: Global, letters: &[u8]) -> Option<MainCache<DemoSource>> {
+    let mut cache = MainCache::new(alloc, ECHO, 4, seed()?).ok()?;
+    keep_all(alloc, &mut cache, letters)?;
+    Some(cache)
+}
+
+// Whether a cache gives this letter for itself, or none where it gives nothing.
+fn gives(cache: &mut MainCache<DemoSource>, letter: u8) -> Result<Option<bool>, AllocError> {
+    match cache.get(&[letter]) {
+        Ok(Some(fill)) => Ok(Some(finds(&fill, &[letter]))),
+        Ok(None) => Ok(None),
+        Err(AllocError) => Err(AllocError),
+    }
 }
 
 // Whether a cache keeps this letter and not the other.
 fn keeps(cache: &mut MainCache<DemoSource>, one: u8, other: u8) -> Option<bool> {
-    let found = match cache.get(&[one]).ok()? {
-        Some(fill) => finds(&fill, &[one]),
-        None => false,
-    };
-    Some(found && cache.get(&[other]).ok()?.is_none() && cache.len() == 2 && cache.bytes() == 4)
+    let kept = gives(cache, one).ok()?;
+    let gone = gives(cache, other).ok()?;
+    Some(kept == Some(true) && gone.is_none() && cache.len() == 2 && cache.bytes() == 4)
+}
+
+// `MainCache::get` of `a`, with growths counted.
+fn get_seen(alloc: Global, cache: &mut MainCache<DemoSource>) -> Seen {
+    window::begin(alloc);
+    let got = gives(cache, b'a');
+    window::end(alloc);
+    match got {
+        Ok(Some(found)) => Seen::Answered.only_if(found, "another value"),
+        Ok(None) => Seen::Wrong("the value was not there"),
+        Err(AllocError) => Seen::Refused,
+    }
+}
+
+// What was seen, if the cache keeps this letter and not the other.
+fn only_if_kept(
+    seen: Seen,
+    cache: &mut MainCache<DemoSource>,
+    [one, other]: [u8; 2],
+    wrong: &'static str,
+) -> Option<Seen> {
+    Some(seen.only_if(keeps(cache, one, other)?, wrong))
 }
 
 /// `MainCache::get`. The entry comes to the front only where its fill is given: else it is the next to go.
 pub fn cache_get(alloc: Global) -> Option<Seen> {
     let mut cache = cache_with(alloc, b"ab")?;
-    window::begin(alloc);
-    let got = cache.get(b"a");
-    window::end(alloc);
+    let seen = get_seen(alloc, &mut cache);
     keep(alloc, &mut cache, b'c')?;
-    Some(match got {
-        Ok(Some(fill)) => Seen::Answered
-            .only_if(finds(&fill, b"a"), "another value")
-            .only_if(keeps(&mut cache, b'a', b'b')?, "it is not in front"),
-        Ok(None) => Seen::Wrong("the value was not there"),
-        Err(AllocError) => Seen::Refused.only_if(
-            keeps(&mut cache, b'b', b'a')?,
-            "the order changed",
-        ),
+    match seen {
+        Seen::Answered => only_if_kept(seen, &mut cache, *b"ab", "it is not in front"),
+        Seen::Refused => only_if_kept(seen, &mut cache, *b"ba", "the order changed"),
+        Seen::Prepared | Seen::Wrong(_) => Some(seen),
+    }
+}
+
+// `MainCache::add` of `c`, with growths counted.
+fn add_seen(alloc: Global, cache: &mut MainCache<DemoSource>) -> Option<Seen> {
+    let fill = fill_of(alloc, ECHO, b"c")?;
+    let mut evicted = Vec::with_capacity(alloc, 4).ok()?;
+    window::begin(alloc);
+    let added = add(cache, &fill, &mut evicted);
+    window::end(alloc);
+    Some(match added {
+        Ok(()) => Seen::Answered,
+        Err(AllocError) => Seen::Refused,
     })
 }
 
 /// `MainCache::add`, where another entry has to go.
 pub fn cache_add(alloc: Global) -> Option<Seen> {
     let mut cache = cache_with(alloc, b"ab")?;
-    let fill = fill_of(alloc, ECHO, b"c")?;
-    let mut evicted = Vec::with_capacity(alloc, 4).ok()?;
-    window::begin(alloc);
-    let added = cache.add(&fill, &mut evicted);
-    window::end(alloc);
-    Some(match added {
-        Ok(()) => Seen::Answered.only_if(keeps(&mut cache, b'c', b'a')?, "not what was added"),
-        Err(AllocError) => Seen::Refused.only_if(
-            keeps(&mut cache, b'a', b'c')?,
-            "the cache changed",
-        ),
-    })
+    let seen = add_seen(alloc, &mut cache)?;
+    match seen {
+        Seen::Answered => only_if_kept(seen, &mut cache, *b"ca", "not what was added"),
+        Seen::Refused => only_if_kept(seen, &mut cache, *b"ac", "the cache changed"),
+        Seen::Prepared | Seen::Wrong(_) => Some(seen),
+    }
 }
 
 // How many entries are added to one cache.
@@ -148,7 +192,7 @@ fn add_many(
     let mut refused: u64 = 0;
     for fill in fills {
         let (count, bytes) = (cache.len(), cache.bytes());
-        let right = match cache.add(fill, evicted) {
+        let right = match add(cache, fill, evicted) {
             Ok(()) => (count.wrapping_add(1), bytes.wrapping_add(2)),
             Err(AllocError) => {
                 refused = refused.wrapping_add(1);
@@ -162,14 +206,20 @@ fn add_many(
     Some(refused)
 }
 
-/// `MainCache::add`, so often that the map of the keys grows.
-pub fn cache_grows(alloc: Global) -> Option<Seen> {
-    let mut cache = MainCache::new(alloc, ECHO, 1000, seed()?).ok()?;
+// Fills of many letters.
+fn many_fills(alloc: Global) -> Option<Vec<Fill<DemoSource>>> {
     let mut fills = Vec::new(alloc);
     for letter in 0..MANY {
         fills.push(fill_of(alloc, ECHO, &[letter])?).ok()?;
     }
+    Some(fills)
+}
+
+/// `MainCache::add`, so often that the map of the keys grows.
+pub fn cache_grows(alloc: Global) -> Option<Seen> {
+    let fills = many_fills(alloc)?;
     let mut evicted = Vec::with_capacity(alloc, 4).ok()?;
+    let mut cache = MainCache::new(alloc, ECHO, 1000, seed()?).ok()?;
     window::begin(alloc);
     let refused = add_many(&mut cache, &fills, &mut evicted);
     window::end(alloc);

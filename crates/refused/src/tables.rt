@@ -3,9 +3,9 @@
 use crate::heads::reader_of;
 use crate::seen::Seen;
 use crate::window;
-use peer_source::{GetFault, GroupId, Source};
+use peer_source::{GetFault, GetResult, GroupId, Source};
 use peer_table::{TableFault, TableSource};
-use peer_view::AllocSink;
+use peer_view::{AllocSink, ByteView};
 use std::alloc::Global;
 
 // The first group of a table.
@@ -44,14 +44,19 @@ fn table_of_one(alloc: Global) -> Option<TableSource> {
     TableSource::read_from(alloc, &mut reader, 10).ok()
 }
 
-/// `TableSource::get` of a key that a line has.
-pub fn found(alloc: Global) -> Option<Seen> {
+// What a table of one line gives for a key, and what the sink holds then.
+fn get(alloc: Global, key: &[u8]) -> Option<(GetResult, ByteView)> {
     let table = table_of_one(alloc)?;
     let mut sink = AllocSink::new();
     window::begin(alloc);
-    let got = table.get(alloc, FIRST, b"a", &mut sink);
+    let got = table.get(alloc, FIRST, key, &mut sink);
     window::end(alloc);
-    let held = sink.into_view();
+    Some((got, sink.into_view()))
+}
+
+/// `TableSource::get` of a key that a line has.
+pub fn found(alloc: Global) -> Option<Seen> {
+    let (got, held) = get(alloc, b"a")?;
     Some(match got {
         Ok(()) => Seen::Answered.only_if(held.eq_bytes(b"1"), "another value"),
         Err(GetFault::Memory) => Seen::Refused.only_if(held.is_empty(), "the sink was set"),
@@ -59,20 +64,20 @@ pub fn found(alloc: Global) -> Option<Seen> {
     })
 }
 
+// Whether a text is that of an error for a key of no line.
+fn is_no_key(text: &[u8]) -> bool {
+    text == b"no such key".as_slice()
+}
+
 /// `TableSource::get` of a key that no line has.
 pub fn missing(alloc: Global) -> Option<Seen> {
-    let table = table_of_one(alloc)?;
-    let mut sink = AllocSink::new();
-    window::begin(alloc);
-    let got = table.get(alloc, FIRST, b"b", &mut sink);
-    window::end(alloc);
+    let (got, held) = get(alloc, b"b")?;
     let seen = match got {
-        Err(GetFault::Text(text)) => Seen::Answered.only_if(
-            text.as_slice() == b"no such key".as_slice(),
-            "another error",
-        ),
+        Err(GetFault::Text(text)) => {
+            Seen::Answered.only_if(is_no_key(text.as_slice()), "another error")
+        }
         Err(GetFault::Memory) => Seen::Refused,
         Ok(()) | Err(GetFault::TooLong) => Seen::Wrong("a value of no line"),
     };
-    Some(seen.only_if(sink.into_view().is_empty(), "the sink was set"))
+    Some(seen.only_if(held.is_empty(), "the sink was set"))
 }

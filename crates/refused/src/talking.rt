@@ -1,26 +1,23 @@
 //! An exchange that is talked to, over a pool in one thread: bytes come, jobs are filled between the calls, and what goes is
 //! compared with the replies that are expected. It takes no memory of its own.
-ghost use Rattle.std.specs.Prelude.{◌≡◌, All};
-ghost use Rattle.peer_fill.specs.Pools.{source_of, IsConnSeatOf, IsFillSeatOf};
+ghost use Rattle.std.specs.Prelude.{◌≡◌};
+ghost use Rattle.peer_fill.specs.Pools.{source_of};
+ghost use Rattle.refused.specs.Lent.{AreOf};
 
-use crate::pools::{ask_once, counts};
+use crate::lent::{Demo, DemoSeats};
+use crate::pools::ask_once;
 use crate::seen::Seen;
 use crate::talks::{Script, Talk};
 use crate::window;
 use peer_exchange::{End, Exchange, GivenUp};
-use peer_fill::{ConnSeat, FillSeat, NoGate, Pool, pop_seat};
 use peer_source::DemoSource;
 use std::alloc::Global;
 use std::cmp::min;
 use std::sync::Wait;
 use std::sync::ledger::Ledger;
-use test_support::push_fill;
 
 // More turns than any talk needs.
 const TURNS: usize = 1000;
-
-// More jobs than any talk leads to.
-const JOBS: usize = 256;
 
 // A connection, and how far the talk went.
 #[derive(Drop)]
@@ -86,24 +83,19 @@ impl<'p, 't> Talking<'p, 't> {
     // Some of the text comes, what can be asked is, the jobs are filled, and what can be answered is, of which some goes.
     fn turn<L: Ledger, R: Wait>(
         &mut self,
-        rt: &R,
-        alloc: Global,
-        pool: &Pool<DemoSource, L>,
-        fill: &mut FillSeat<DemoSource, L>,
-        conn: &mut ConnSeat<DemoSource, L>,
+        lent: &Demo<'_, L, R>,
+        seats: &mut DemoSeats<L>,
     ) -> Result<(), GivenUp>
-        requires names { self.old.exchange.names ≡ source_of pool.now }
-        requires fill { IsFillSeatOf pool.now fill.old }
-        requires conn { IsConnSeatOf pool.now conn.old }
-        ensures names { self.new.exchange.names ≡ source_of pool.now }
-        ensures fill { IsFillSeatOf pool.now fill.new }
-        ensures conn { IsConnSeatOf pool.now conn.new }
+        requires names { self.old.exchange.names ≡ source_of lent.now.pool.now }
+        requires seats { AreOf lent.now.pool.now seats.old }
+        ensures names { self.new.exchange.names ≡ source_of lent.now.pool.now }
+        ensures seats { AreOf lent.now.pool.now seats.new }
     {
         self.feed()?;
-        let _rest = self.exchange.ask_held(rt, pool, conn)?;
-        let _filled = pool.work_some(rt, alloc, fill, JOBS, &NoGate);
-        let _none_left = pool.put_left(rt, conn);
-        self.exchange.answer_ready(pool, conn)?;
+        let _rest = self.exchange.ask_held(lent.rt, lent.pool, &mut seats.conn)?;
+        lent.fill_jobs(seats);
+        let _none_left = lent.pool.put_left(lent.rt, &mut seats.conn);
+        self.exchange.answer_ready(lent.pool, &mut seats.conn)?;
         self.take();
         Ok(())
     }
@@ -111,21 +103,16 @@ impl<'p, 't> Talking<'p, 't> {
     // Turns until it is over, or is given up, and why.
     fn go_on<L: Ledger, R: Wait>(
         &mut self,
-        rt: &R,
-        alloc: Global,
-        pool: &Pool<DemoSource, L>,
-        fill: &mut FillSeat<DemoSource, L>,
-        conn: &mut ConnSeat<DemoSource, L>,
+        lent: &Demo<'_, L, R>,
+        seats: &mut DemoSeats<L>,
     ) -> Option<GivenUp>
-        requires names { self.old.exchange.names ≡ source_of pool.now }
-        requires fill { IsFillSeatOf pool.now fill.old }
-        requires conn { IsConnSeatOf pool.now conn.old }
-        ensures names { self.new.exchange.names ≡ source_of pool.now }
-        ensures fill { IsFillSeatOf pool.now fill.new }
-        ensures conn { IsConnSeatOf pool.now conn.new }
+        requires names { self.old.exchange.names ≡ source_of lent.now.pool.now }
+        requires seats { AreOf lent.now.pool.now seats.old }
+        ensures names { self.new.exchange.names ≡ source_of lent.now.pool.now }
+        ensures seats { AreOf lent.now.pool.now seats.new }
     {
         for _ in 0..TURNS {
-            if let Err(why) = self.turn(rt, alloc, pool, fill, conn) {
+            if let Err(why) = self.turn(lent, seats) {
                 return Some(why);
             }
             if self.exchange.is_over() {
@@ -136,21 +123,21 @@ impl<'p, 't> Talking<'p, 't> {
     }
 
     // Whether it takes no more bytes, and asks and answers nothing more.
-    fn rests<L: Ledger, R: Wait>(
-        &mut self,
-        rt: &R,
-        pool: &Pool<DemoSource, L>,
-        conn: &mut ConnSeat<DemoSource, L>,
-    ) -> bool
-        requires names { self.old.exchange.names ≡ source_of pool.now }
-        requires conn { IsConnSeatOf pool.now conn.old }
-        ensures { IsConnSeatOf pool.now conn.new }
+    fn rests<L: Ledger, R: Wait>(&mut self, lent: &Demo<'_, L, R>, seats: &mut DemoSeats<L>) -> bool
+        requires names { self.old.exchange.names ≡ source_of lent.now.pool.now }
+        requires seats { AreOf lent.now.pool.now seats.old }
+        ensures { AreOf lent.now.pool.now seats.new }
     {
-        let counted = counts(conn);
-        let held = self.exchange.held();
-        let asked = self.exchange.ask_held(rt, pool, conn).is_ok();
-        let answered = self.exchange.answer_ready(pool, conn).is_ok();
-        let same = counts(conn) == counted && self.exchange.held() == held;
+        let before = (seats.counts(), self.exchange.held());
+        let asked = self
+            .exchange
+            .ask_held(lent.rt, lent.pool, &mut seats.conn)
+            .is_ok();
+        let answered = self
+            .exchange
+            .answer_ready(lent.pool, &mut seats.conn)
+            .is_ok();
+        let same = (seats.counts(), self.exchange.held()) == before;
         asked && answered && same && !self.exchange.takes_bytes()
     }
 
@@ -172,29 +159,24 @@ impl<'p, 't> Talking<'p, 't> {
 
 // One connection of these seats, from its first byte to its end.
 fn connect<L: Ledger, R: Wait>(
-    rt: &R,
-    alloc: Global,
-    pool: &Pool<DemoSource, L>,
-    fill: &mut FillSeat<DemoSource, L>,
-    conn: &mut ConnSeat<DemoSource, L>,
+    lent: &Demo<'_, L, R>,
+    seats: &mut DemoSeats<L>,
     script: &Script,
     step: usize,
 ) -> Seen
-    requires fill { IsFillSeatOf pool.now fill.old }
-    requires conn { IsConnSeatOf pool.now conn.old }
-    ensures fill { IsFillSeatOf pool.now fill.new }
-    ensures conn { IsConnSeatOf pool.now conn.new }
+    requires { AreOf lent.now.pool.now seats.old }
+    ensures { AreOf lent.now.pool.now seats.new }
 {
     let mut talking = Talking {
-        exchange: Exchange::new(alloc, pool.source()),
+        exchange: Exchange::new(lent.alloc, lent.pool.source()),
         rest: &script.text,
         replies: &script.replies,
         step,
         sent: 0,
         right: true,
     };
-    let given_up = talking.go_on(rt, alloc, pool, fill, conn);
-    let rests = talking.rests(rt, pool, conn);
+    let given_up = talking.go_on(lent, seats);
+    let rests = talking.rests(lent, seats);
     talking.take_all();
     talking
         .seen(script, given_up)
@@ -204,23 +186,18 @@ fn connect<L: Ledger, R: Wait>(
 // Fills the key `k` where its value is to be kept, and makes the room that a worker's seat has from its first job on. None
 // where memory was refused.
 fn prepare<L: Ledger, R: Wait>(
-    rt: &R,
-    alloc: Global,
-    pool: &Pool<DemoSource, L>,
-    fill: &mut FillSeat<DemoSource, L>,
-    conn: &mut ConnSeat<DemoSource, L>,
+    lent: &Demo<'_, L, R>,
+    seats: &mut DemoSeats<L>,
     what: Talk,
 ) -> Option<()>
-    requires fill { IsFillSeatOf pool.now fill.old }
-    requires conn { IsConnSeatOf pool.now conn.old }
-    ensures fill { IsFillSeatOf pool.now fill.new }
-    ensures conn { IsConnSeatOf pool.now conn.new }
+    requires { AreOf lent.now.pool.now seats.old }
+    ensures { AreOf lent.now.pool.now seats.new }
 {
     if what.is_kept() {
-        ask_once(rt, alloc, pool, conn)?;
+        ask_once(lent, seats)?;
     }
-    let _filled = pool.work_some(rt, alloc, fill, JOBS, &NoGate);
-    if what.is_kept() && pool.cached_bytes(rt) == 0 {
+    lent.fill_jobs(seats);
+    if what.is_kept() && lent.pool.cached_bytes(lent.rt) == 0 {
         return None;
     }
     Some(())
@@ -236,46 +213,34 @@ fn judged(seen: Seen, usual: bool) -> Seen {
 
 // Talks with growths counted. The next connection of the same seats is then answered whole.
 fn twice<L: Ledger, R: Wait>(
-    rt: &R,
-    alloc: Global,
-    pool: &Pool<DemoSource, L>,
-    fill: &mut FillSeat<DemoSource, L>,
-    conn: &mut ConnSeat<DemoSource, L>,
+    lent: &Demo<'_, L, R>,
+    seats: &mut DemoSeats<L>,
     what: Talk,
-) -> Option<Seen>
-    requires fill { IsFillSeatOf pool.now fill.old }
-    requires conn { IsConnSeatOf pool.now conn.old }
-    ensures fill { IsFillSeatOf pool.now fill.new }
-    ensures conn { IsConnSeatOf pool.now conn.new }
+    script: &Script,
+) -> Seen
+    requires { AreOf lent.now.pool.now seats.old }
+    ensures { AreOf lent.now.pool.now seats.new }
 {
-    let script = what.script(alloc)?;
-    prepare(rt, alloc, pool, fill, conn, what)?;
     let step = what.step();
-    window::begin(alloc);
-    let seen = connect(rt, alloc, pool, fill, conn, &script, step);
-    window::end(alloc);
-    let usual = counts(conn) == what.counts();
-    let again = connect(rt, alloc, pool, fill, conn, &script, step);
+    window::begin(lent.alloc);
+    let seen = connect(lent, seats, script, step);
+    window::end(lent.alloc);
+    let usual = seats.counts() == what.counts();
+    let again = connect(lent, seats, script, step);
     let whole = matches!(again, Seen::Answered);
-    Some(judged(seen, usual).only_if(whole, "the next connection is not answered"))
+    judged(seen, usual).only_if(whole, "the next connection is not answered")
 }
 
-/// A talk, with a worker's seat of this list.
+/// A talk.
 pub fn talk<L: Ledger, R: Wait>(
-    rt: &R,
-    alloc: Global,
-    pool: &Pool<DemoSource, L>,
-    fills: &mut Vec<FillSeat<DemoSource, L>>,
-    conn: &mut ConnSeat<DemoSource, L>,
+    lent: &Demo<'_, L, R>,
+    seats: &mut DemoSeats<L>,
     what: Talk,
 ) -> Option<Seen>
-    requires fills { All (IsFillSeatOf pool.now) fills.old.items }
-    requires conn { IsConnSeatOf pool.now conn.old }
-    ensures fills { All (IsFillSeatOf pool.now) fills.new.items }
-    ensures conn { IsConnSeatOf pool.now conn.new }
+    requires { AreOf lent.now.pool.now seats.old }
+    ensures { AreOf lent.now.pool.now seats.new }
 {
-    let mut fill = pop_seat(pool, fills)?;
-    let seen = twice(rt, alloc, pool, &mut fill, conn, what);
-    push_fill(pool, fills, fill)?;
-    seen
+    let script = what.script(lent.alloc)?;
+    prepare(lent, seats, what)?;
+    Some(twice(lent, seats, what, &script))
 }

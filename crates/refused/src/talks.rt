@@ -6,40 +6,49 @@ use crate::connections::FIRST_REPLY;
 use crate::pools::CACHE_BYTES;
 use std::alloc::Global;
 
-const ASK_A: &[u8] = b"GET /_groupcache/echo/a HTTP/1.1\r\nHost: h\r\n\r\n";
+/// A request, and the reply to it.
+#[derive(Clone, Copy)]
+struct Said(&'static [u8], &'static [u8]);
 
-const ASK_K: &[u8] = b"GET /_groupcache/echo/k HTTP/1.1\r\nHost: h\r\n\r\n";
+const A: Said = Said(ASK_A, FIRST_REPLY);
 
-const FOUND_K: &[u8] =
-    b"HTTP/1.1 200 OK\r\nContent-Type: application/x-protobuf\r\nContent-Length: 3\r\n\r\n\x0A\x01k";
+const K: Said = Said(
+    b"GET /_groupcache/echo/k HTTP/1.1\r\nHost: h\r\n\r\n",
+    b"HTTP/1.1 200 OK\r\nContent-Type: application/x-protobuf\r\nContent-Length: 3\r\n\r\n\x0A\x01k",
+);
 
-const ASK_LAST: &[u8] = b"GET /_groupcache/echo/k HTTP/1.1\r\nHost: h\r\nConnection: close\r\n\r\n";
+const LAST: Said = Said(
+    b"GET /_groupcache/echo/k HTTP/1.1\r\nHost: h\r\nConnection: close\r\n\r\n",
+    b"HTTP/1.1 200 OK\r\nContent-Type: application/x-protobuf\r\nContent-Length: 3\r\nConnection: close\r\n\r\n\x0A\x01k",
+);
 
-const FOUND_LAST: &[u8] =
-    b"HTTP/1.1 200 OK\r\nContent-Type: application/x-protobuf\r\nContent-Length: 3\r\nConnection: close\r\n\r\n\x0A\x01k";
+// One behind a request that closes.
+const UNANSWERED: Said = Said(ASK_A, b"");
 
-const ASK_NO_GROUP: &[u8] = b"GET /_groupcache/nope/a HTTP/1.1\r\nHost: h\r\n\r\n";
-
-const NO_GROUP: &[u8] =
+const NO_GROUP: Said = Said(
+    b"GET /_groupcache/nope/a HTTP/1.1\r\nHost: h\r\n\r\n",
     b"HTTP/1.1 404 Not Found\r\nContent-Type: text/plain; charset=utf-8\r\nX-Content-Type-Options: nosniff\r\n\
-    Content-Length: 20\r\n\r\nno such group: nope\n";
+    Content-Length: 20\r\n\r\nno such group: nope\n",
+);
 
-const ASK_OUTSIDE: &[u8] = b"GET /other HTTP/1.1\r\nHost: h\r\n\r\n";
-
-const OUTSIDE: &[u8] =
+const OUTSIDE: Said = Said(
+    b"GET /other HTTP/1.1\r\nHost: h\r\n\r\n",
     b"HTTP/1.1 404 Not Found\r\nContent-Type: text/plain; charset=utf-8\r\nX-Content-Type-Options: nosniff\r\n\
-    Content-Length: 19\r\n\r\n404 page not found\n";
+    Content-Length: 19\r\n\r\n404 page not found\n",
+);
 
-const ASK_NO_NUMBER: &[u8] = b"GET /_groupcache/square/x HTTP/1.1\r\nHost: h\r\n\r\n";
-
-const NO_NUMBER: &[u8] =
+const NO_NUMBER: Said = Said(
+    b"GET /_groupcache/square/x HTTP/1.1\r\nHost: h\r\n\r\n",
     b"HTTP/1.1 500 Internal Server Error\r\nContent-Type: text/plain; charset=utf-8\r\nX-Content-Type-Options: nosniff\r\n\
-    Content-Length: 13\r\n\r\nnot a number\n";
+    Content-Length: 13\r\n\r\nnot a number\n",
+);
 
-const ASK_ESCAPED: &[u8] = b"GET /_groupcache/echo/%61%2Fb HTTP/1.1\r\nHost: h\r\n\r\n";
+const ESCAPED: Said = Said(
+    b"GET /_groupcache/echo/%61%2Fb HTTP/1.1\r\nHost: h\r\n\r\n",
+    b"HTTP/1.1 200 OK\r\nContent-Type: application/x-protobuf\r\nContent-Length: 5\r\n\r\n\x0A\x03a/b",
+);
 
-const FOUND_ESCAPED: &[u8] =
-    b"HTTP/1.1 200 OK\r\nContent-Type: application/x-protobuf\r\nContent-Length: 5\r\n\r\n\x0A\x03a/b";
+const ASK_A: &[u8] = b"GET /_groupcache/echo/a HTTP/1.1\r\nHost: h\r\n\r\n";
 
 const ASK_LONG: &[u8] = b"GET /_groupcache/fill/10000 HTTP/1.1\r\nHost: h\r\n\r\n";
 
@@ -82,64 +91,57 @@ impl Script {
     pub fn is_whole(&self, sent: usize) -> bool {
         sent == 0 || self.whole.iter().any(|end| *end == sent)
     }
+
+    // Adds a request, and the reply to it.
+    fn say(&mut self, request: &[u8], reply: &[u8]) -> Option<()> {
+        self.text.extend_from_slice(request).ok()?;
+        self.replies.extend_from_slice(reply).ok()?;
+        self.whole.push(self.replies.len()).ok()
+    }
 }
 
-// The parts one behind the other.
-fn joined(alloc: Global, parts: &[&[u8]]) -> Option<Vec<u8>> {
-    let mut all = Vec::new(alloc);
-    for part in parts {
-        all.extend_from_slice(part).ok()?;
+// A script of these requests and replies.
+fn script_of(alloc: Global, all: &[Said]) -> Option<Script> {
+    let mut script = Script {
+        text: Vec::new(alloc),
+        replies: Vec::new(alloc),
+        whole: Vec::new(alloc),
+    };
+    for Said(request, reply) in all {
+        script.say(request, reply)?;
     }
-    Some(all)
+    Some(script)
 }
 
-// These requests, and these replies to them.
-fn script_of(alloc: Global, requests: &[&[u8]], replies: &[&[u8]]) -> Option<Script> {
-    let text = joined(alloc, requests)?;
-    let mut all = Vec::new(alloc);
-    let mut whole = Vec::new(alloc);
-    for reply in replies {
-        all.extend_from_slice(reply).ok()?;
-        whole.push(all.len()).ok()?;
-    }
-    Some(Script {
-        text,
-        replies: all,
-        whole,
-    })
+// The reply with the value of 10,000 bytes.
+fn long_reply(alloc: Global) -> Option<Vec<u8>> {
+    let mut letters = Vec::new(alloc);
+    letters.resize(10_000, b'x').ok()?;
+    let mut reply = BEFORE_LONG.to_vec(alloc).ok()?;
+    reply.extend_from_slice(&letters).ok()?;
+    Some(reply)
 }
 
 // A value that is lent, between two that are not.
 fn long_script(alloc: Global) -> Option<Script> {
-    let mut letters = Vec::new(alloc);
-    letters.resize(10_000, b'x').ok()?;
-    let long = joined(alloc, &[BEFORE_LONG, &letters])?;
-    script_of(
-        alloc,
-        &[ASK_A, ASK_LONG, ASK_K],
-        &[FIRST_REPLY, &long, FOUND_K],
-    )
+    let reply = long_reply(alloc)?;
+    let mut script = script_of(alloc, &[A])?;
+    script.say(ASK_LONG, &reply)?;
+    script.say(K.0, K.1)?;
+    Some(script)
 }
 
 impl Talk {
     /// Its text, and the replies to it. None where memory is refused.
     pub fn script(self, alloc: Global) -> Option<Script> {
         match self {
-            Talk::Whole | Talk::Pieces => script_of(
-                alloc,
-                &[ASK_A, ASK_K, ASK_K],
-                &[FIRST_REPLY, FOUND_K, FOUND_K],
-            ),
-            Talk::Many => script_of(alloc, &[ASK_K; 40], &[FOUND_K; 40]),
-            Talk::Kept => script_of(alloc, &[ASK_K, ASK_K], &[FOUND_K, FOUND_K]),
-            Talk::Faults => script_of(
-                alloc,
-                &[ASK_NO_GROUP, ASK_OUTSIDE, ASK_NO_NUMBER, ASK_K],
-                &[NO_GROUP, OUTSIDE, NO_NUMBER, FOUND_K],
-            ),
-            Talk::Escaped => script_of(alloc, &[ASK_ESCAPED, ASK_K], &[FOUND_ESCAPED, FOUND_K]),
+            Talk::Whole | Talk::Pieces => script_of(alloc, &[A, K, K]),
+            Talk::Many => script_of(alloc, &[K; 40]),
+            Talk::Kept => script_of(alloc, &[K, K]),
+            Talk::Faults => script_of(alloc, &[NO_GROUP, OUTSIDE, NO_NUMBER, K]),
+            Talk::Escaped => script_of(alloc, &[ESCAPED, K]),
             Talk::Long => long_script(alloc),
-            Talk::Closing => script_of(alloc, &[ASK_LAST, ASK_A], &[FOUND_LAST]),
+            Talk::Closing => script_of(alloc, &[LAST, UNANSWERED]),
         }
     }
 

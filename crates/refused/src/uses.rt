@@ -1,21 +1,23 @@
 //! One pool with one worker and one connection: opened, used by one of the calls, and closed.
 ghost use Rattle.std.specs.Prelude.{◌≡◌, All, IfSome};
 ghost use Rattle.peer_fill.specs.Pools.{IsConnSeatOf, IsFillSeatOf};
+ghost use Rattle.refused.specs.Lent.{AreOf};
 
 use crate::connections::connection;
+use crate::lent::{Demo, DemoSeats, Lent};
 use crate::pools::{Before, CACHE_BYTES, adds_up, ask, refill, work};
 use crate::seen::Seen;
 use crate::talking::talk;
 use crate::talks::Talk;
-use crate::{window, without};
-use peer_fill::{ConnSeat, FillSeat, Pool, Report, pop_seat};
+use crate::without;
+use peer_fill::Report;
 use peer_source::DemoSource;
 use std::alloc::Global;
 use std::marker::Brand;
 use std::sync::Wait;
 use std::sync::ledger::{Blank, Ledger};
 use std::thread::Threads;
-use test_support::{SeatLists, close_pool, open_pool, push_conn};
+use test_support::{SeatLists, close_pool, open_pool};
 
 /// The call that is made over a pool.
 #[derive(Clone, Copy)]
@@ -50,49 +52,42 @@ impl Call {
     }
 }
 
-// Makes the call with a connection's seat.
+// Makes the call with these seats.
 fn make<L: Ledger + Send + Sync, H: Threads + Wait + Sync>(
-    rt: &H,
-    alloc: Global,
-    pool: &Pool<DemoSource, L>,
-    fills: &mut Vec<FillSeat<DemoSource, L>>,
-    mut conn: ConnSeat<DemoSource, L>,
+    lent: &Demo<'_, L, H>,
+    mut seats: DemoSeats<L>,
     call: Call,
-) -> Option<(ConnSeat<DemoSource, L>, Option<Seen>)>
-    requires fills { All (IsFillSeatOf pool.now) fills.old.items }
-    requires conn { IsConnSeatOf pool.now conn }
-    ensures fills { All (IsFillSeatOf pool.now) fills.new.items }
-    ensures conn { IfSome result (λ made. IsConnSeatOf pool.now made.0) }
+) -> Option<(DemoSeats<L>, Seen)>
+    requires { AreOf lent.now.pool.now seats }
+    ensures { IfSome result (λ done. AreOf lent.now.pool.now done.0) }
 {
     let seen = match call {
-        Call::Ask(before) => ask(rt, alloc, pool, fills, &mut conn, before),
-        Call::Work => work(rt, alloc, pool, fills, &mut conn),
-        Call::Refill => refill(rt, alloc, pool, &mut conn),
-        Call::Talk(what) => talk(rt, alloc, pool, fills, &mut conn, what),
-        Call::Without => without::calls(rt, alloc, pool, &mut conn),
-        Call::Connection => return connection(rt, alloc, pool, fills, conn),
+        Call::Ask(before) => ask(lent, &mut seats, before),
+        Call::Refill => refill(lent, &mut seats),
+        Call::Without => without::calls(lent, &mut seats),
+        Call::Talk(what) => talk(lent, &mut seats, what),
+        Call::Work => return work(lent, seats),
+        Call::Connection => return connection(lent, seats),
     };
-    Some((conn, seen))
+    Some((seats, seen?))
 }
 
 // Makes the call with seats from these lists, and says what was seen and how often the connection asked.
 fn make_with<L: Ledger + Send + Sync, H: Threads + Wait + Sync>(
-    rt: &H,
-    alloc: Global,
-    pool: &Pool<DemoSource, L>,
+    lent: &Demo<'_, L, H>,
     lists: &mut SeatLists<DemoSource, L>,
     call: Call,
 ) -> Option<(Seen, u64)>
-    requires fills { All (IsFillSeatOf pool.now) lists.old.fills.items }
-    requires conns { All (IsConnSeatOf pool.now) lists.old.conns.items }
-    ensures fills { All (IsFillSeatOf pool.now) lists.new.fills.items }
-    ensures conns { All (IsConnSeatOf pool.now) lists.new.conns.items }
+    requires fills { All (IsFillSeatOf lent.now.pool.now) lists.old.fills.items }
+    requires conns { All (IsConnSeatOf lent.now.pool.now) lists.old.conns.items }
+    ensures fills { All (IsFillSeatOf lent.now.pool.now) lists.new.fills.items }
+    ensures conns { All (IsConnSeatOf lent.now.pool.now) lists.new.conns.items }
 {
-    let conn = pop_seat(pool, &mut lists.conns)?;
-    let (conn, seen) = make(rt, alloc, pool, &mut lists.fills, conn, call)?;
-    let asked = conn.asked();
-    push_conn(pool, &mut lists.conns, conn);
-    Some((seen?, asked))
+    let seats = lent.take_seats(lists)?;
+    let (seats, seen) = make(lent, seats, call)?;
+    let asked = seats.conn.asked();
+    lent.put_seats(lists, seats);
+    Some((seen, asked))
 }
 
 // What was seen, if the report fits to it.
@@ -113,12 +108,13 @@ fn over_ledger<L: Ledger + Send + Sync, H: Threads + Wait + Sync>(
     requires name { blank.name ≡ L.name }
     requires parts { (blank.parts ≡ L.parts) × (blank.parts ≡ 16) }
 {
-    let opened = open_pool::<DemoSource, L>(alloc, DemoSource, call.cache_bytes(), 1, 1, blank);
-    let Some((pool, mut lists)) = opened else {
-        return None;
-    };
-    let seen = make_with(rt, alloc, &pool, &mut lists, call);
-    judged(seen, close_pool(rt, pool, lists), call)
+    match open_pool::<DemoSource, L>(alloc, DemoSource, call.cache_bytes(), 1, 1, blank) {
+        Some((pool, mut lists)) => {
+            let seen = make_with(&Lent::new(rt, alloc, &pool), &mut lists, call);
+            judged(seen, close_pool(rt, pool, lists), call)
+        }
+        None => None,
+    }
 }
 
 /// A call over a pool, which is closed then.

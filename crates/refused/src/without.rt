@@ -1,17 +1,17 @@
 //! Calls that promise to take no memory. Each is made with all growths refused.
-ghost use Rattle.peer_fill.specs.Pools.{IsConnSeatOf};
 ghost use Rattle.peer_lane.specs.Lanes.{IsSameIn, IsSameOut};
+ghost use Rattle.refused.specs.Lent.{AreOf};
 
 use crate::connections::{FIRST_REPLY, THREE};
-use crate::heads::reader_of;
-use crate::pools::counts;
+use crate::flights::lead;
+use crate::heads::{pieces_of, reader_of};
+use crate::lent::{Demo, DemoSeats};
 use crate::seen::Seen;
 use crate::sources::{ECHO, cache_with, fill_of, finds};
 use crate::uses::{Call, over_pool};
 use crate::window;
 use bytes::Bytes;
-use peer_fill::{ConnSeat, Pool};
-use peer_flight::{Ask, Table};
+use peer_flight::{FillRight, Flight, Table};
 use peer_head::{FieldPlaces, HeadBuf, Look};
 use peer_lane::{Body, LaneIn, LaneOut, Ticket, beside, lane};
 use peer_path::locate;
@@ -22,7 +22,6 @@ use std::alloc::{AllocError, Global};
 use std::sync::Wait;
 use std::sync::ledger::Ledger;
 use std::thread::Threads;
-use test_support::ask_for;
 
 const TEXT: &[u8] = b"what was there";
 
@@ -31,10 +30,8 @@ fn all(held: &[bool]) -> Option<Seen> {
     Some(Seen::Answered.only_if(held.iter().all(|one| *one), "another answer"))
 }
 
-/// The calls of views.
-pub fn views(alloc: Global) -> Option<Seen> {
-    let view = ByteView::copy_of(alloc, TEXT).ok()?;
-    let same = ByteView::copy_of(alloc, TEXT).ok()?;
+// The calls of a view of the text, beside another of it.
+fn view_calls(alloc: Global, view: &ByteView, same: &ByteView) -> Option<Seen> {
     if view.len() < 14 {
         return None;
     }
@@ -57,29 +54,41 @@ pub fn views(alloc: Global) -> Option<Seen> {
     all(&held)
 }
 
-/// The calls of sinks.
-pub fn sinks(alloc: Global) -> Option<Seen> {
-    let mut lent = ByteView::copy_of(alloc, TEXT).ok()?;
+/// The calls of views.
+pub fn views(alloc: Global) -> Option<Seen> {
     let view = ByteView::copy_of(alloc, TEXT).ok()?;
+    let same = ByteView::copy_of(alloc, TEXT).ok()?;
+    view_calls(alloc, &view, &same)
+}
+
+// The calls of sinks: one that is lent a view, and one of four bytes that is given another.
+fn sink_calls(alloc: Global, lent: &mut ByteView, view: &ByteView) -> [bool; 4] {
     let mut destination = [0u8; 4];
     window::begin(alloc);
     let empty = AllocSink::new().into_view().is_empty();
-    let _lends = ViewSink::new(&mut lent);
+    let _lends = ViewSink::new(lent);
     let mut sink = TruncSink::new(&mut destination);
     sink.set_bytes(b"a");
     let one = sink.len() == 1;
     sink.set_str("abc");
     let three = sink.len() == 3;
-    sink.set_view(&view);
+    sink.set_view(view);
     let same = &*sink.filled() == b"what".as_slice();
     window::end(alloc);
+    [empty, one, three, same]
+}
+
+/// The calls of sinks.
+pub fn sinks(alloc: Global) -> Option<Seen> {
+    let mut lent = ByteView::copy_of(alloc, TEXT).ok()?;
+    let view = ByteView::copy_of(alloc, TEXT).ok()?;
+    let [empty, one, three, same] = sink_calls(alloc, &mut lent, &view);
     all(&[empty, one, three, same, lent.eq_bytes(TEXT)])
 }
 
 /// The calls of readers and writers in memory.
 pub fn devices(alloc: Global) -> Option<Seen> {
-    let mut pieces = Vec::new(alloc);
-    pieces.push(TEXT.to_vec(alloc).ok()?).ok()?;
+    let pieces = pieces_of(alloc, TEXT)?;
     let mut room = [0u8; 4];
     window::begin(alloc);
     let mut reader = MemReader::new(pieces, false);
@@ -207,14 +216,14 @@ pub fn replies(alloc: Global) -> Option<Seen> {
     all(&held)
 }
 
-/// The calls of a flight and of its table.
-pub fn flights(alloc: Global) -> Option<Seen> {
-    let key = ByteView::copy_of(alloc, b"k").ok()?;
-    let fill = fill_of(alloc, ECHO, b"k")?;
-    let mut table = Table::<DemoSource>::new(alloc);
-    let Ok(Ask::Led(flight, right)) = table.want(alloc, ECHO, &key) else {
-        return None;
-    };
+// The calls of a flight that was led, until it has landed.
+fn land(
+    alloc: Global,
+    table: &mut Table<DemoSource>,
+    flight: &Flight<DemoSource>,
+    right: FillRight<DemoSource>,
+    fill: Fill<DemoSource>,
+) -> [bool; 8] {
     window::begin(alloc);
     let empty = Table::<DemoSource>::new(alloc).counts() == (0, 0);
     let mut note = flight.note();
@@ -227,10 +236,18 @@ pub fn flights(alloc: Global) -> Option<Seen> {
     };
     let named = flight.group() == ECHO && flight.key().eq_bytes(b"k");
     let open = table.counts() == (1, 1);
-    table.land(&flight);
+    table.land(flight);
     let landed = table.counts() == (1, 0);
     window::end(alloc);
-    all(&[empty, none, own, put.kept, found, named, open, landed])
+    [empty, none, own, put.kept, found, named, open, landed]
+}
+
+/// The calls of a flight and of its table.
+pub fn flights(alloc: Global) -> Option<Seen> {
+    let fill = fill_of(alloc, ECHO, b"k")?;
+    let mut table = Table::<DemoSource>::new(alloc);
+    let (flight, right) = lead(alloc, &mut table)?;
+    all(&land(alloc, &mut table, &flight, right, fill))
 }
 
 // Whether no other fill was needed.
@@ -242,23 +259,18 @@ fn is_enough(refilled: Result<Option<Fill<DemoSource>>, AllocError>) -> bool {
 }
 
 /// The calls of a pool that was asked once. Growths are counted on behind them.
-pub fn calls<L: Ledger, R: Wait>(
-    rt: &R,
-    alloc: Global,
-    pool: &Pool<DemoSource, L>,
-    seat: &mut ConnSeat<DemoSource, L>,
-) -> Option<Seen>
-    requires { IsConnSeatOf pool.now seat.old }
-    ensures { IsConnSeatOf pool.now seat.new }
+pub fn calls<L: Ledger, R: Wait>(lent: &Demo<'_, L, R>, seats: &mut DemoSeats<L>) -> Option<Seen>
+    requires { AreOf lent.now.pool.now seats.old }
+    ensures { AreOf lent.now.pool.now seats.new }
 {
-    let claim = ask_for(rt, alloc, pool, seat, b"k")?;
-    let own = fill_of(alloc, ECHO, b"k")?;
-    window::begin(alloc);
-    pool.stop();
-    let named = pool.source().group(b"echo") == Some(ECHO);
-    let refilled = is_enough(pool.refill(alloc, &claim, &own));
-    seat.add_strangers(1);
-    let counted = counts(seat) == [1, 0, 1, 0] && seat.strangers() == 1;
+    let own = fill_of(lent.alloc, ECHO, b"k")?;
+    let claim = lent.ask_for(seats, b"k")?;
+    window::begin(lent.alloc);
+    lent.pool.stop();
+    let named = lent.pool.source().group(b"echo") == Some(ECHO);
+    let refilled = is_enough(lent.pool.refill(lent.alloc, &claim, &own));
+    seats.conn.add_strangers(1);
+    let counted = seats.counts() == [1, 0, 1, 0] && seats.conn.strangers() == 1;
     all(&[named, refilled, counted])
 }
 

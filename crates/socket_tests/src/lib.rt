@@ -5,30 +5,4 @@
 #![tactic(auto)]
 
 #[cfg(test)]
-mod asking;
-#[cfg(test)]
-mod clients;
-#[cfg(test)]
-mod crowds;
-#[cfg(test)]
-mod grouped;
-#[cfg(test)]
-mod limited;
-#[cfg(test)]
-mod lingering;
-#[cfg(test)]
-mod loop_servers;
-#[cfg(test)]
-mod loops;
-#[cfg(test)]
-mod meeting;
-#[cfg(test)]
-mod plans;
-#[cfg(test)]
-mod servers;
-#[cfg(test)]
-mod serving;
-#[cfg(test)]
-mod stopping;
-#[cfg(test)]
-mod working;
+mod tests;

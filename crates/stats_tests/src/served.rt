@@ -13,7 +13,7 @@ use std::thread::Threads;
 use std::time::Clock;
 
 // What a client receives that sends these bytes, until the server closes.
-fn exchange<H: Net<Listener = TcpListener, Stream = TcpStream>>(
+fn exchange<H: Net<Listener = TcpListener, Stream = TcpStream> + Wait + Clock>(
     rt: &H,
     alloc: Global,
     address: SocketAddr,
@@ -27,7 +27,7 @@ fn exchange<H: Net<Listener = TcpListener, Stream = TcpStream>>(
 }
 
 // Whether the reply to these bytes begins and ends so.
-fn gets<H: AllocGlobal + Net<Listener = TcpListener, Stream = TcpStream>>(
+fn gets<H: AllocGlobal + Net<Listener = TcpListener, Stream = TcpStream> + Wait + Clock>(
     rt: &H,
     address: SocketAddr,
     bytes: &[u8],
@@ -41,7 +41,7 @@ fn gets<H: AllocGlobal + Net<Listener = TcpListener, Stream = TcpStream>>(
 }
 
 // What clients see: the page, health, another path, another method, and health beside a client that is silent.
-fn see<H: AllocGlobal + Net<Listener = TcpListener, Stream = TcpStream>>(
+fn see<H: AllocGlobal + Net<Listener = TcpListener, Stream = TcpStream> + Wait + Clock>(
     rt: &H,
     address: SocketAddr,
 ) -> [bool; 5] {
@@ -82,8 +82,8 @@ fn see<H: AllocGlobal + Net<Listener = TcpListener, Stream = TcpStream>>(
 // Serves while the clients are there, and gives what they saw.
 fn serve<
     H: AllocGlobal
-        + Net<Listener = TcpListener, Stream = TcpStream>
         + RandomSource
+        + Net<Listener = TcpListener, Stream = TcpStream>
         + Threads
         + Wait
         + Clock

@@ -2,14 +2,13 @@
 
 use crate::demos::demo;
 use crate::ends::{TWO, TWO_REPLIES};
-use crate::pooled::{Devices, Pooled, serve_pooled};
+use crate::pooled::{Devices, serve_pooled};
 use crate::runs::{READS, halves};
-use crate::tellers::{ActingReader, ActingWriter, BeforeCall};
+use crate::tellers::{Acting, BeforeCall};
 use peer_conn::End;
 use peer_view::{MemReader, MemWriter};
 use std::sync::atomic::AtomicU64;
 use std::sync::atomic::Ordering::SeqCst;
-use std::test::Fail;
 use test_support::Step;
 
 // The second read and the first write, which wait for one another.
@@ -48,22 +47,8 @@ impl<'a> BeforeCall for FirstWrite<'a> {
     }
 }
 
-// Whether the connection wrote these bytes, and ended between two heads.
-fn is_clean(
-    run: &Option<Pooled<ActingReader<SecondRead<'_>>, ActingWriter<FirstWrite<'_>>>>,
-    replies: &[u8],
-) -> [bool; 2] {
-    match run {
-        Some(run) => [
-            run.served.writer.writer.taken() == replies,
-            run.served.end == End::Clean,
-        ],
-        None => [false; 2],
-    }
-}
-
 #[test]
-fn a_read_and_a_write_wait_for_one_another(rt: HostRuntime) -> Result<(), Fail> {
+fn a_read_and_a_write_wait_for_one_another(rt: HostRuntime) {
     let meeting = Meeting {
         reads: AtomicU64::new(0),
         second_read: Step::new(),
@@ -71,22 +56,22 @@ fn a_read_and_a_write_wait_for_one_another(rt: HostRuntime) -> Result<(), Fail> 
     };
     let meeting = &meeting;
     let devices = Devices {
-        reader: ActingReader {
-            reader: MemReader::new(halves(rt.alloc(), TWO, 45)?, false),
+        reader: Acting {
+            device: MemReader::new(halves(&rt, TWO, 45), false),
             before: SecondRead { meeting },
         },
-        writer: ActingWriter {
-            writer: MemWriter::new(rt.alloc(), 65_536, None),
+        writer: Acting {
+            device: MemWriter::new(rt.alloc(), 65_536, None),
             before: FirstWrite { meeting },
         },
         reads: READS,
     };
-    let run = serve_pooled(&rt, rt.alloc(), demo(1, 0), devices);
-    assert_eq!(rt; is_clean(&run, TWO_REPLIES), [true; 2]);
+    let served = serve_pooled(&rt, demo(1, 0), devices).served;
+    assert_eq!(rt; served.end, End::Clean);
+    assert_eq!(rt; served.writer.device.taken(), TWO_REPLIES.as_slice());
     let expired = [
         meeting.second_read.has_expired(),
         meeting.first_write.has_expired(),
     ];
     assert_eq!(rt; expired, [false; 2]);
-    Ok(())
 }

@@ -1,21 +1,22 @@
 //! How often a source is called under a connection, and when.
 
+use crate::demos::{Failing, over_pieces};
 use crate::ends::{TWO, TWO_REPLIES};
 use crate::ordered::Holding;
-use crate::pooled::{Devices, Pooled, Setup, serve_pooled};
+use crate::pooled::{Devices, Setup, serve_pooled};
 use crate::runs::{READS, whole};
-use crate::sources::{Watch, watched_demo};
-use crate::tellers::{ActingReader, ActingWriter, Telling, TellingLater};
+use crate::sources::{Watch, Watched, watching};
+use crate::tellers::{Acting, Telling, TellingLater};
 use peer_conn::End;
 use peer_fill::{Gate, NoGate};
 use peer_view::{MemReader, MemWriter};
-use std::alloc::{AllocError, Global};
+use std::process::Abort;
 use std::sync::Wait;
 use std::sync::atomic::AtomicU64;
 use std::sync::atomic::Ordering::SeqCst;
-use std::test::Fail;
 use std::thread::Threads;
 use stream_model::{ASK_K, repeated};
+use test_support::Hooked;
 
 // How often the source was called, how often the report says so, and how often the pool was asked.
 #[derive(Clone, Copy, Debug, PartialEq, Eq)]
@@ -25,103 +26,75 @@ struct Counts {
     asked: u64,
 }
 
-// The counts of a connection that ended clean.
-fn counted(watch: &Watch, run: &Pooled<MemReader, MemWriter>) -> Option<Counts> {
-    match run.served.end {
-        End::Clean => Some(Counts {
-            called: watch.calls.load(SeqCst),
-            calls: run.report.calls,
-            asked: run.report.asked,
-        }),
-        _ => None,
+// The counts of a text in one piece over two workers, whose connection ends clean.
+fn counts_of(
+    rt: &(impl Abort + AllocGlobal + Threads + Wait + Sync),
+    gate: &impl Gate,
+    cache_bytes: u64,
+    text: &[u8],
+) -> Counts {
+    let watch = Watch::new();
+    let setup = watching(&watch, cache_bytes, gate);
+    let run = over_pieces(rt, setup, whole(rt, text), Failing::Nothing);
+    assert_eq!(rt; run.served.end, End::Clean);
+    Counts {
+        called: watch.calls.load(SeqCst),
+        calls: run.report.calls,
+        asked: run.report.asked,
     }
 }
 
-// The counts of a text in one piece over two workers.
-fn counts_of<G: Gate, H: Threads + Wait + Sync>(
-    rt: &H,
-    alloc: Global,
-    gate: &G,
-    cache_bytes: u64,
-    text: &[u8],
-) -> Result<Option<Counts>, AllocError> {
-    let devices = Devices {
-        reader: MemReader::new(whole(alloc, text)?, false),
-        writer: MemWriter::new(alloc, 65_536, None),
-        reads: READS,
-    };
-    let watch = Watch::new();
-    let setup = Setup {
-        source: watched_demo(&watch, false),
-        cache_bytes,
-        workers: 2,
-        gate,
-    };
-    Ok(match serve_pooled(rt, alloc, setup, devices) {
-        Some(run) => counted(&watch, &run),
-        None => None,
-    })
-}
-
 #[test]
-fn fills_in_the_other_order_are_each_called_for_once(rt: HostRuntime) -> Result<(), Fail> {
-    let gate = Holding::new();
-    let counts = counts_of(&rt, rt.alloc(), &gate, 0, TWO)?;
+fn fills_in_the_other_order_are_each_called_for_once(rt: HostRuntime) {
     let expected = Counts {
         called: 2,
         calls: 2,
         asked: 2,
     };
-    assert_eq!(rt; counts, Some(expected));
-    Ok(())
-}
-
-// Whether the source was called as often as the report says, and less often than the pool was asked.
-fn is_shared(counts: Option<Counts>) -> [bool; 2] {
-    match counts {
-        Some(counts) => [counts.called == counts.calls, counts.calls < counts.asked],
-        None => [false; 2],
-    }
+    assert_eq!(rt; counts_of(&rt, &Holding::new(), 0, TWO), expected);
 }
 
 #[test]
-fn a_hot_key_is_called_for_as_the_report_says(rt: HostRuntime) -> Result<(), Fail> {
-    let text = repeated(rt.alloc(), ASK_K, 500)?;
+fn a_hot_key_is_called_for_as_the_report_says(rt: HostRuntime) {
+    let text = repeated(rt.alloc(), ASK_K, 500).expect(&rt, "memory");
     for cache_bytes in [0, 1_048_576] {
-        let counts = counts_of(&rt, rt.alloc(), &NoGate, cache_bytes, &text)?;
-        assert_eq!(rt; is_shared(counts), [true; 2]);
+        let counts = counts_of(&rt, &NoGate, cache_bytes, &text);
+        assert_eq!(rt; counts.called, counts.calls);
+        assert!(rt; counts.calls < counts.asked);
     }
-    Ok(())
 }
 
 #[test]
-fn a_reply_is_written_before_a_later_fill_is_there(rt: HostRuntime) -> Result<(), Fail> {
+fn a_reply_is_written_before_a_later_fill_is_there(rt: HostRuntime) {
     let watch = Watch::new();
+    let hook = Watched {
+        watch: &watch,
+        patient: true,
+    };
     let setup = Setup {
-        source: watched_demo(&watch, true),
+        source: Hooked { hook },
         cache_bytes: 0,
         workers: 1,
         gate: &NoGate,
     };
     let devices = Devices {
-        reader: ActingReader {
-            reader: MemReader::new(whole(rt.alloc(), TWO)?, false),
+        reader: Acting {
+            device: MemReader::new(whole(&rt, TWO), false),
             before: TellingLater {
                 calls: AtomicU64::new(0),
                 step: &watch.all_read,
             },
         },
-        writer: ActingWriter {
-            writer: MemWriter::new(rt.alloc(), 65_536, None),
+        writer: Acting {
+            device: MemWriter::new(rt.alloc(), 65_536, None),
             before: Telling {
                 step: &watch.first_reply,
             },
         },
         reads: READS,
     };
-    let run = serve_pooled(&rt, rt.alloc(), setup, devices);
-    let same = run.map(|run| run.served.writer.writer.taken() == TWO_REPLIES.as_slice());
+    let served = serve_pooled(&rt, setup, devices).served;
+    assert_eq!(rt; served.writer.device.taken(), TWO_REPLIES.as_slice());
     let expired = watch.all_read.has_expired() || watch.first_reply.has_expired();
-    assert_eq!(rt; (same, expired), (Some(true), false));
-    Ok(())
+    assert!(rt; !expired);
 }

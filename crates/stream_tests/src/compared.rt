@@ -3,9 +3,8 @@
 use crate::demos::is_told;
 use crate::runs::{READS, served};
 use peer_conn::End;
-use std::alloc::{AllocError, Global};
+use std::alloc::Global;
 use std::process::Abort;
-use std::test::Fail;
 use stream_model::{Dice, Outcome, outcome_of};
 
 // The texts of each test.
@@ -19,35 +18,29 @@ fn is_as_modelled(alloc: Global, pieces: Vec<Vec<u8>>, outcome: &Outcome) -> boo
 }
 
 // Demands what the model says of a text.
-fn compare_one(
-    rt: &(impl Abort + AllocGlobal),
-    dice: &mut Dice,
-    text: &[u8],
-) -> Result<(), AllocError> {
-    let outcome = outcome_of(rt.alloc(), text)?;
-    let pieces = dice.pieces(rt.alloc(), text)?;
+fn compare_one(rt: &(impl Abort + AllocGlobal), dice: &mut Dice, text: &[u8]) {
+    let outcome = outcome_of(rt.alloc(), text).expect(rt, "memory");
+    let pieces = dice.pieces(rt.alloc(), text).expect(rt, "memory");
     let same = is_as_modelled(rt.alloc(), pieces, &outcome);
     let shown = text.escape_ascii();
     assert!(rt; same, "at {shown}");
-    Ok(())
 }
 
 // Demands what the model says of so many texts from a seed.
-fn compare(rt: &(impl Abort + AllocGlobal), seed: u64) -> Result<(), Fail> {
+fn compare(rt: &(impl Abort + AllocGlobal), seed: u64) {
     let mut dice = Dice::new(seed);
     for _ in 0..TEXTS {
-        let text = dice.text(rt.alloc())?;
-        compare_one(rt, &mut dice, &text)?;
+        let text = dice.text(rt.alloc()).expect(rt, "memory");
+        compare_one(rt, &mut dice, &text);
     }
-    Ok(())
 }
 
 #[test]
-fn streams_of_one_seed(rt: HostRuntime) -> Result<(), Fail> {
-    compare(&rt, 1)
+fn streams_of_one_seed(rt: HostRuntime) {
+    compare(&rt, 1);
 }
 
 #[test]
-fn streams_of_another_seed(rt: HostRuntime) -> Result<(), Fail> {
-    compare(&rt, 20_261_122)
+fn streams_of_another_seed(rt: HostRuntime) {
+    compare(&rt, 20_261_122);
 }

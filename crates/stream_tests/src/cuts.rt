@@ -1,5 +1,5 @@
 //! Three requests in three pieces, cut at each two places: connections one behind the other over one pool that is lent.
-ghost use Rattle.std.specs.Prelude.{◌≡◌, All, IfSome};
+ghost use Rattle.std.specs.Prelude.{◌≡◌, All};
 ghost use Rattle.peer_fill.specs.Pools.{IsConnSeatOf, IsFillSeatOf};
 
 use crate::demos::is_told;
@@ -9,74 +9,68 @@ use peer_conn::{End, serve_connection};
 use peer_fill::{ConnSeat, FillSeat, NoGate, Pool, pop_seat};
 use peer_source::{DemoSource, Source};
 use peer_view::{MemReader, MemWriter};
-use std::alloc::{AllocError, Global};
 use std::marker::Brand;
+use std::process::Abort;
 use std::sync::Wait;
 use std::sync::ledger::{Blank, Ledger};
-use std::test::Fail;
 use std::thread;
 use std::thread::Threads;
 use test_support::{SeatLists, open_pool, push_conn, work_all};
 
-// Whether a connection over a seat of this list gets the three replies. None where there is no seat.
-fn is_served_by_next<S: Source, L: Ledger + Send + Sync, H: Threads + Wait + Sync>(
-    rt: &H,
-    alloc: Global,
+// Whether a connection over a seat of this list gets the three replies.
+fn is_served_by_next<S: Source, L: Ledger + Send + Sync>(
+    rt: &(impl Abort + AllocGlobal + Threads + Wait + Sync),
     pool: &Pool<S, L>,
     conns: &mut Vec<ConnSeat<S, L>>,
     pieces: Vec<Vec<u8>>,
-) -> Option<bool>
+) -> bool
     requires { All (IsConnSeatOf pool.now) conns.old.items }
     ensures { All (IsConnSeatOf pool.now) conns.new.items }
 {
-    let conn = pop_seat(pool, conns)?;
+    let conn = pop_seat(pool, conns).expect(rt, "a seat");
     let reader = MemReader::new(pieces, false);
-    let writer = MemWriter::new(alloc, 65_536, None);
-    let (served, conn) = serve_connection(rt, alloc, pool, conn, reader, writer, READS);
-    push_conn(pool, conns, conn)?;
-    Some(is_told(&served, THREE_REPLIES, End::Clean))
+    let writer = MemWriter::new(rt.alloc(), 65_536, None);
+    let (served, conn) = serve_connection(rt, rt.alloc(), pool, conn, reader, writer, READS);
+    push_conn(pool, conns, conn).expect(rt, "memory");
+    is_told(&served, THREE_REPLIES, End::Clean)
 }
 
 // Whether each second cut behind this first one changes nothing.
-fn is_same_behind<S: Source, L: Ledger + Send + Sync, H: Threads + Wait + Sync>(
-    rt: &H,
-    alloc: Global,
+fn is_same_behind<S: Source, L: Ledger + Send + Sync>(
+    rt: &(impl Abort + AllocGlobal + Threads + Wait + Sync),
     pool: &Pool<S, L>,
     conns: &mut Vec<ConnSeat<S, L>>,
     first: usize,
-) -> Result<bool, AllocError>
+) -> bool
     requires { All (IsConnSeatOf pool.now) conns.old.items }
     ensures { All (IsConnSeatOf pool.now) conns.new.items }
 {
     let mut same = true;
     for second in 0..136usize.saturating_sub(first) {
-        let pieces = thirds(alloc, THREE, first, second)?;
-        same &= is_served_by_next(rt, alloc, pool, conns, pieces) == Some(true);
+        same &= is_served_by_next(rt, pool, conns, thirds(rt, THREE, first, second));
     }
-    Ok(same)
+    same
 }
 
 // The same behind each first cut.
-fn is_same_at_all<S: Source, L: Ledger + Send + Sync, H: Threads + Wait + Sync>(
-    rt: &H,
-    alloc: Global,
+fn is_same_at_all<S: Source, L: Ledger + Send + Sync>(
+    rt: &(impl Abort + AllocGlobal + Threads + Wait + Sync),
     pool: &Pool<S, L>,
     conns: &mut Vec<ConnSeat<S, L>>,
-) -> Result<bool, AllocError>
+) -> bool
     requires { All (IsConnSeatOf pool.now) conns.old.items }
     ensures { All (IsConnSeatOf pool.now) conns.new.items }
 {
     let mut same = true;
     for first in 0..136 {
-        same &= is_same_behind(rt, alloc, pool, conns, first)?;
+        same &= is_same_behind(rt, pool, conns, first);
     }
-    Ok(same)
+    same
 }
 
 // The same beside the workers, each of which has a thread of its own.
-fn is_same_beside<S: Source, L: Ledger + Send + Sync, H: Threads + Wait + Sync>(
-    rt: &H,
-    alloc: Global,
+fn is_same_beside<S: Source, L: Ledger + Send + Sync>(
+    rt: &(impl Abort + AllocGlobal + Threads + Wait + Sync),
     pool: &Pool<S, L>,
     lists: SeatLists<S, L>,
 ) -> bool
@@ -86,14 +80,13 @@ fn is_same_beside<S: Source, L: Ledger + Send + Sync, H: Threads + Wait + Sync>(
     let SeatLists { fills, mut conns } = lists;
     let (_fills, same) = thread::join(
         rt,
-        move || -> Option<Vec<FillSeat<S, L>>>
+        move || -> Vec<FillSeat<S, L>>
             requires { All (IsFillSeatOf pool.now) fills.items }
-            ensures { IfSome result (λ seats. All (IsFillSeatOf pool.entry.now) seats.items) }
-        { work_all(rt, alloc, pool, fills, &NoGate).ok() },
+        { work_all(rt, rt.alloc(), pool, fills, &NoGate).expect(rt, "memory") },
         move || -> bool
             requires { All (IsConnSeatOf pool.now) conns.items }
         {
-            let same = matches!(is_same_at_all(rt, alloc, pool, &mut conns), Ok(true));
+            let same = is_same_at_all(rt, pool, &mut conns);
             pool.stop();
             same
         },
@@ -102,27 +95,23 @@ fn is_same_beside<S: Source, L: Ledger + Send + Sync, H: Threads + Wait + Sync>(
 }
 
 // The same over a pool of so many workers.
-fn is_same_over<L: Ledger + Send + Sync, H: Threads + Wait + Sync>(
+fn is_same_over<L: Ledger + Send + Sync, H: Abort + AllocGlobal + Threads + Wait + Sync>(
     rt: &H,
-    alloc: Global,
     workers: usize,
     blank: Blank,
 ) -> bool
     requires name { blank.name ≡ L.name }
     requires parts { (blank.parts ≡ L.parts) × (blank.parts ≡ 16) }
 {
-    let opened = open_pool::<DemoSource, L>(alloc, DemoSource, 0, workers, 1, blank);
-    let Some((pool, lists)) = opened else {
-        return false;
-    };
-    is_same_beside(rt, alloc, &pool, lists)
+    let opened = open_pool::<DemoSource, L>(rt.alloc(), DemoSource, 0, workers, 1, blank);
+    let (pool, lists) = opened.expect(rt, "a pool");
+    is_same_beside(rt, &pool, lists)
 }
 
 #[test]
-fn cuts_change_nothing_over_each_pool(rt: HostRuntime) -> Result<(), Fail> {
+fn cuts_change_nothing_over_each_pool(rt: HostRuntime) {
     for workers in [1, 2, 16] {
-        let same = is_same_over::<Brand, HostRuntime>(&rt, rt.alloc(), workers, Blank::new(16));
+        let same = is_same_over::<Brand, HostRuntime>(&rt, workers, Blank::new(16));
         assert!(rt; same, "over {workers} workers");
     }
-    Ok(())
 }

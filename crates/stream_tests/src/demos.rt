@@ -1,12 +1,13 @@
-//! Runs of a connection over pools with the source for demonstrations.
+//! Runs of a connection over pools with the source for demonstrations, and over any pool with a reader and a writer in
+//! memory.
 
 use crate::pooled::{Devices, Pooled, Setup, serve_pooled};
 use crate::runs::READS;
 use peer_conn::{End, Served};
 use peer_fill::{Gate, NoGate};
-use peer_source::DemoSource;
+use peer_source::{DemoSource, Source};
 use peer_view::{MemReader, MemWriter};
-use std::alloc::Global;
+use std::process::Abort;
 use std::sync::Wait;
 use std::thread::Threads;
 
@@ -20,16 +21,6 @@ pub fn demo(workers: usize, cache_bytes: u64) -> Setup<'static, DemoSource, NoGa
     }
 }
 
-/// A pool of two workers without a cache, behind a gate.
-pub fn gated<G: Gate>(gate: &G) -> Setup<'_, DemoSource, G> {
-    Setup {
-        source: DemoSource,
-        cache_bytes: 0,
-        workers: 2,
-        gate,
-    }
-}
-
 /// The device of a connection that fails: none, the reader behind its pieces, or the writer at a limit.
 #[derive(Clone, Copy)]
 pub enum Failing {
@@ -38,14 +29,14 @@ pub enum Failing {
     Writer(usize),
 }
 
-/// A connection whose reader gives these pieces.
-pub fn over_pieces<H: Threads + Wait + Sync>(
-    rt: &H,
-    alloc: Global,
-    setup: Setup<'_, DemoSource, NoGate>,
+/// A connection whose reader gives these pieces, with so many reads.
+pub fn within<S: Source, G: Gate>(
+    rt: &(impl Abort + AllocGlobal + Threads + Wait + Sync),
+    setup: Setup<'_, S, G>,
     pieces: Vec<Vec<u8>>,
     failing: Failing,
-) -> Option<Pooled<MemReader, MemWriter>> {
+    reads: u64,
+) -> Pooled<MemReader, MemWriter> {
     let (fails, limit) = match failing {
         Failing::Nothing => (false, None),
         Failing::Reader => (true, None),
@@ -53,10 +44,20 @@ pub fn over_pieces<H: Threads + Wait + Sync>(
     };
     let devices = Devices {
         reader: MemReader::new(pieces, fails),
-        writer: MemWriter::new(alloc, 65_536, limit),
-        reads: READS,
+        writer: MemWriter::new(rt.alloc(), 65_536, limit),
+        reads,
     };
-    serve_pooled(rt, alloc, setup, devices)
+    serve_pooled(rt, setup, devices)
+}
+
+/// The same with more reads than are needed.
+pub fn over_pieces<S: Source, G: Gate>(
+    rt: &(impl Abort + AllocGlobal + Threads + Wait + Sync),
+    setup: Setup<'_, S, G>,
+    pieces: Vec<Vec<u8>>,
+    failing: Failing,
+) -> Pooled<MemReader, MemWriter> {
+    within(rt, setup, pieces, failing, READS)
 }
 
 /// Whether a connection wrote these bytes, and ended so.
@@ -64,24 +65,15 @@ pub fn is_told(served: &Served<MemReader, MemWriter>, replies: &[u8], end: End) 
     served.end == end && served.writer.taken() == replies
 }
 
-/// The same of one over a pool.
-pub fn is_served(run: &Option<Pooled<MemReader, MemWriter>>, replies: &[u8], end: End) -> bool {
-    match run {
-        Some(run) => is_told(&run.served, replies, end),
-        None => false,
-    }
-}
-
 /// Whether a connection over a pool, whose reader gives these pieces, writes these bytes and ends so.
-pub fn is_served_over<H: Threads + Wait + Sync>(
-    rt: &H,
-    alloc: Global,
+pub fn is_served_over(
+    rt: &(impl Abort + AllocGlobal + Threads + Wait + Sync),
     setup: Setup<'_, DemoSource, NoGate>,
     pieces: Vec<Vec<u8>>,
     failing: Failing,
     told: (&[u8], End),
 ) -> bool {
-    let run = over_pieces(rt, alloc, setup, pieces, failing);
+    let run = over_pieces(rt, setup, pieces, failing);
     let (replies, end) = told;
-    is_served(&run, replies, end)
+    is_told(&run.served, replies, end)
 }

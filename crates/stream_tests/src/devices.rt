@@ -6,7 +6,6 @@ use crate::runs::{READS, by_bytes, served, served_into, whole};
 use crate::values::GO_REQUEST;
 use peer_conn::End;
 use std::alloc::Global;
-use std::test::Fail;
 
 // Whether a reader that fails behind these pieces gets these replies.
 fn is_read_fault(alloc: Global, pieces: Vec<Vec<u8>>, replies: &[u8]) -> bool {
@@ -15,15 +14,14 @@ fn is_read_fault(alloc: Global, pieces: Vec<Vec<u8>>, replies: &[u8]) -> bool {
 }
 
 #[test]
-fn a_reader_fails_behind_each_beginning(rt: HostRuntime) -> Result<(), Fail> {
+fn a_reader_fails_behind_each_beginning(rt: HostRuntime) {
     for count in 0..=135 {
         let (text, _) = THREE.as_slice().split_at(count);
         let (replies, _) = THREE_REPLIES.as_slice().split_at(count / 45 * 79);
-        let right = is_read_fault(rt.alloc(), whole(rt.alloc(), text)?, replies)
-            && is_read_fault(rt.alloc(), by_bytes(rt.alloc(), text)?, replies);
+        let right = is_read_fault(rt.alloc(), whole(&rt, text), replies)
+            && is_read_fault(rt.alloc(), by_bytes(&rt, text), replies);
         assert!(rt; right, "at {count}");
     }
-    Ok(())
 }
 
 // Whether a writer of seven bytes a call that fails at this limit took so many bytes of the three replies.
@@ -39,19 +37,17 @@ fn is_cut_at(alloc: Global, pieces: Vec<Vec<u8>>, limit: usize) -> bool {
 }
 
 #[test]
-fn a_writer_fails_at_each_limit(rt: HostRuntime) -> Result<(), Fail> {
+fn a_writer_fails_at_each_limit(rt: HostRuntime) {
     for limit in 0..=237 {
-        let right = is_cut_at(rt.alloc(), whole(rt.alloc(), THREE)?, limit)
-            && is_cut_at(rt.alloc(), by_bytes(rt.alloc(), THREE)?, limit);
+        let right = is_cut_at(rt.alloc(), whole(&rt, THREE), limit)
+            && is_cut_at(rt.alloc(), by_bytes(&rt, THREE), limit);
         assert!(rt; right, "at {limit}");
     }
-    Ok(())
 }
 
 #[test]
-fn a_writer_fails_inside_the_status_line(rt: HostRuntime) -> Result<(), Fail> {
-    let served = served_into(rt.alloc(), whole(rt.alloc(), GO_REQUEST)?, 4096, 10);
+fn a_writer_fails_inside_the_status_line(rt: HostRuntime) {
+    let served = served_into(rt.alloc(), whole(&rt, GO_REQUEST), 4096, 10);
     assert_eq!(rt; served.end, End::WriteFault);
     assert_eq!(rt; served.writer.taken(), b"HTTP/1.1 2".as_slice());
-    Ok(())
 }

@@ -1,9 +1,8 @@
 //! Ends of connections: cuts at every place, and reads that are used up.
 
-use crate::runs::{add_piece, by_bytes, demand, demand_all_ways, demand_within, whole};
+use crate::runs::{add_piece, by_bytes, cut, demand, demand_all_ways, demand_within, whole};
 use peer_conn::End;
-use std::alloc::{AllocError, Global};
-use std::test::Fail;
+use std::process::Abort;
 use stream_model::{ASK_K, FOUND_K, TOO_LONG, repeated};
 
 /// Two requests of 45 bytes.
@@ -28,30 +27,33 @@ pub const THREE_REPLIES: &[u8; 237] =
 
 /// A text in three pieces, or in its shorter parts where the places are past its end.
 pub fn thirds(
-    alloc: Global,
+    rt: &(impl Abort + AllocGlobal),
     text: &[u8],
     first: usize,
     second: usize,
-) -> Result<Vec<Vec<u8>>, AllocError> {
-    let mut pieces = Vec::new(alloc);
+) -> Vec<Vec<u8>> {
+    let mut pieces = Vec::new(rt.alloc());
     let (head, rest) = text.split_at(first.min(text.len()));
     let (middle, tail) = rest.split_at(second.min(rest.len()));
-    add_piece(alloc, &mut pieces, head)?;
-    add_piece(alloc, &mut pieces, middle)?;
-    add_piece(alloc, &mut pieces, tail)?;
-    Ok(pieces)
+    add_piece(rt, &mut pieces, head);
+    add_piece(rt, &mut pieces, middle);
+    add_piece(rt, &mut pieces, tail);
+    pieces
 }
 
 #[test]
-fn cuts_change_nothing(rt: HostRuntime) -> Result<(), Fail> {
+fn cuts_change_nothing(rt: HostRuntime) {
     for first in 0..=135 {
         for second in 0..=135 - first {
-            let pieces = thirds(rt.alloc(), THREE, first, second)?;
-            demand(&rt, pieces, THREE_REPLIES, End::Clean);
+            demand(
+                &rt,
+                thirds(&rt, THREE, first, second),
+                THREE_REPLIES,
+                End::Clean,
+            );
         }
     }
-    demand(&rt, by_bytes(rt.alloc(), THREE)?, THREE_REPLIES, End::Clean);
-    Ok(())
+    demand(&rt, by_bytes(&rt, THREE), THREE_REPLIES, End::Clean);
 }
 
 // How a text ends that was cut behind so many bytes of the three requests.
@@ -64,45 +66,32 @@ fn end_at(count: usize) -> End {
 }
 
 #[test]
-fn each_beginning_gets_its_whole_replies(rt: HostRuntime) -> Result<(), Fail> {
+fn each_beginning_gets_its_whole_replies(rt: HostRuntime) {
     for count in 0..=135 {
         let (text, _) = THREE.as_slice().split_at(count);
         let (replies, _) = THREE_REPLIES.as_slice().split_at(count / 45 * 79);
-        demand_all_ways(&rt, text, replies, end_at(count))?;
+        demand_all_ways(&rt, text, replies, end_at(count));
     }
-    Ok(())
 }
 
 #[test]
-fn reads_are_used_up(rt: HostRuntime) -> Result<(), Fail> {
+fn reads_are_used_up(rt: HostRuntime) {
+    let text = repeated(rt.alloc(), ASK_K, 3).expect(&rt, "memory");
     for (reads, count) in [(100, 2), (90, 2), (89, 1), (0, 0)] {
-        let text = repeated(rt.alloc(), ASK_K, 3)?;
-        let replies = repeated(rt.alloc(), FOUND_K, count)?;
-        let pieces = by_bytes(rt.alloc(), &text)?;
-        demand_within(&rt, pieces, reads, &replies, End::Spent);
+        let replies = repeated(rt.alloc(), FOUND_K, count).expect(&rt, "memory");
+        demand_within(&rt, by_bytes(&rt, &text), reads, &replies, End::Spent);
     }
-    Ok(())
-}
-
-/// So many pairs, one a read.
-pub fn pairs(alloc: Global, count: usize) -> Result<Vec<Vec<u8>>, AllocError> {
-    let mut pieces = Vec::new(alloc);
-    for _ in 0..count {
-        add_piece(alloc, &mut pieces, b"\r\n")?;
-    }
-    Ok(pieces)
 }
 
 #[test]
-fn pairs_use_up_reads_and_the_limit(rt: HostRuntime) -> Result<(), Fail> {
-    demand_within(&rt, pairs(rt.alloc(), 8200)?, 8191, b"", End::Spent);
-    demand_within(&rt, pairs(rt.alloc(), 8200)?, 8192, TOO_LONG, End::Clean);
-    Ok(())
+fn pairs_use_up_reads_and_the_limit(rt: HostRuntime) {
+    let pairs = repeated(rt.alloc(), b"\r\n", 8200).expect(&rt, "memory");
+    demand_within(&rt, cut(&rt, &pairs, 2), 8191, b"", End::Spent);
+    demand_within(&rt, cut(&rt, &pairs, 2), 8192, TOO_LONG, End::Clean);
 }
 
 #[test]
-fn the_last_read_may_tell_the_end(rt: HostRuntime) -> Result<(), Fail> {
-    demand_within(&rt, whole(rt.alloc(), THREE)?, 1, THREE_REPLIES, End::Spent);
-    demand_within(&rt, whole(rt.alloc(), THREE)?, 2, THREE_REPLIES, End::Clean);
-    Ok(())
+fn the_last_read_may_tell_the_end(rt: HostRuntime) {
+    demand_within(&rt, whole(&rt, THREE), 1, THREE_REPLIES, End::Spent);
+    demand_within(&rt, whole(&rt, THREE), 2, THREE_REPLIES, End::Clean);
 }

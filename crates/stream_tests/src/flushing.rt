@@ -2,13 +2,12 @@
 
 use crate::ends::{TWO, TWO_REPLIES};
 use crate::runs::{READS, halves};
-use crate::tellers::{ActingReader, ActingWriter, BeforeCall};
+use crate::tellers::{Acting, BeforeCall};
 use peer_conn::{End, serve_serial};
 use peer_source::DemoSource;
 use peer_view::{MemReader, MemWriter};
 use std::sync::atomic::AtomicU64;
 use std::sync::atomic::Ordering::SeqCst;
-use std::test::Fail;
 
 // How often a connection wrote and read, and how many of the reads came before all replies to what was read.
 #[derive(Drop)]
@@ -45,28 +44,27 @@ impl<'a> BeforeCall for NextWrite<'a> {
 }
 
 #[test]
-fn each_reply_is_written_before_the_next_read(rt: HostRuntime) -> Result<(), Fail> {
+fn each_reply_is_written_before_the_next_read(rt: HostRuntime) {
     let calls = Calls {
         writes: AtomicU64::new(0),
         reads: AtomicU64::new(0),
         early: AtomicU64::new(0),
     };
-    let reader = ActingReader {
-        reader: MemReader::new(halves(rt.alloc(), TWO, 45)?, false),
+    let reader = Acting {
+        device: MemReader::new(halves(&rt, TWO, 45), false),
         before: NextRead { calls: &calls },
     };
-    let writer = ActingWriter {
-        writer: MemWriter::new(rt.alloc(), 65_536, None),
+    let writer = Acting {
+        device: MemWriter::new(rt.alloc(), 65_536, None),
         before: NextWrite { calls: &calls },
     };
     let served = serve_serial(rt.alloc(), &DemoSource, reader, writer, READS);
     assert_eq!(rt; served.end, End::Clean);
-    assert_eq!(rt; served.writer.writer.taken(), TWO_REPLIES.as_slice());
+    assert_eq!(rt; served.writer.device.taken(), TWO_REPLIES.as_slice());
     let counts = [
         calls.reads.load(SeqCst),
         calls.writes.load(SeqCst),
         calls.early.load(SeqCst),
     ];
     assert_eq!(rt; counts, [3, 2, 0]);
-    Ok(())
 }

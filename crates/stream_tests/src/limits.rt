@@ -1,11 +1,10 @@
 //! The limit of a head, skipped pairs included, and the limit of its fields.
 
-use crate::runs::demand_all_ways;
+use crate::runs::{demand_all_ways, demand_each};
 use peer_conn::End;
 use std::alloc::{AllocError, Global};
 use std::process::Abort;
 use std::sync::Wait;
-use std::test::Fail;
 use std::thread::Threads;
 use stream_model::{FOUND_K, TOO_LONG, Then, Told, joined, repeated, reply};
 
@@ -40,55 +39,46 @@ fn demand_padded(
     letters: usize,
     length: usize,
     replies: &[u8],
-) -> Result<(), AllocError> {
-    let text = padded(rt.alloc(), pairs, letters)?;
+) {
+    let text = padded(rt.alloc(), pairs, letters).expect(rt, "memory");
     assert_eq!(rt; text.len(), length);
-    demand_all_ways(rt, &text, replies, End::Clean)
+    demand_each(rt, &[(&text, replies)]);
 }
 
 #[test]
-fn pairs_alone_are_no_request(rt: HostRuntime) -> Result<(), Fail> {
-    demand_all_ways(&rt, b"", b"", End::Clean)?;
-    demand_all_ways(&rt, b"\r\n\r\n\r\n", b"", End::Clean)?;
-    demand_all_ways(&rt, b"\r", b"", End::Cut)?;
-    Ok(())
+fn pairs_alone_are_no_request(rt: HostRuntime) {
+    demand_each(&rt, &[(b"", b""), (b"\r\n\r\n\r\n", b"")]);
+    demand_all_ways(&rt, b"\r", b"", End::Cut);
 }
 
 #[test]
-fn pairs_count_for_the_limit(rt: HostRuntime) -> Result<(), Fail> {
-    demand_all_ways(&rt, &repeated(rt.alloc(), b"\r\n", 8191)?, b"", End::Clean)?;
-    demand_all_ways(
-        &rt,
-        &repeated(rt.alloc(), b"\r\n", 8192)?,
-        TOO_LONG,
-        End::Clean,
-    )?;
-    Ok(())
+fn pairs_count_for_the_limit(rt: HostRuntime) {
+    let most = repeated(rt.alloc(), b"\r\n", 8191).expect(&rt, "memory");
+    let more = repeated(rt.alloc(), b"\r\n", 8192).expect(&rt, "memory");
+    demand_each(&rt, &[(&most, b""), (&more, TOO_LONG)]);
 }
 
 #[test]
-fn a_head_has_16384_bytes_at_most(rt: HostRuntime) -> Result<(), Fail> {
-    demand_padded(&rt, 0, 16_332, 16_384, FOUND_K)?;
-    demand_padded(&rt, 1, 16_330, 16_384, FOUND_K)?;
-    demand_padded(&rt, 0, 16_333, 16_385, TOO_LONG)?;
-    demand_padded(&rt, 1, 16_331, 16_385, TOO_LONG)?;
-    Ok(())
+fn a_head_has_16384_bytes_at_most(rt: HostRuntime) {
+    demand_padded(&rt, 0, 16_332, 16_384, FOUND_K);
+    demand_padded(&rt, 1, 16_330, 16_384, FOUND_K);
+    demand_padded(&rt, 0, 16_333, 16_385, TOO_LONG);
+    demand_padded(&rt, 1, 16_331, 16_385, TOO_LONG);
 }
 
 #[test]
-fn the_limit_counts_anew_behind_a_head(rt: HostRuntime) -> Result<(), Fail> {
-    let long = padded(rt.alloc(), 0, 16_332)?;
-    let text = repeated(rt.alloc(), &long, 2)?;
-    let replies = repeated(rt.alloc(), FOUND_K, 2)?;
-    demand_all_ways(&rt, &text, &replies, End::Clean)?;
-    Ok(())
+fn the_limit_counts_anew_behind_a_head(rt: HostRuntime) {
+    let long = padded(rt.alloc(), 0, 16_332).expect(&rt, "memory");
+    let text = repeated(rt.alloc(), &long, 2).expect(&rt, "memory");
+    let replies = repeated(rt.alloc(), FOUND_K, 2).expect(&rt, "memory");
+    demand_each(&rt, &[(&text, &replies)]);
 }
 
 #[test]
-fn a_head_has_64_fields_at_most(rt: HostRuntime) -> Result<(), Fail> {
-    demand_all_ways(&rt, &with_fields(rt.alloc(), 63)?, FOUND_K, End::Clean)?;
+fn a_head_has_64_fields_at_most(rt: HostRuntime) {
+    let most = with_fields(rt.alloc(), 63).expect(&rt, "memory");
+    let more = with_fields(rt.alloc(), 64).expect(&rt, "memory");
     let told = Told::Text("400 Bad Request", b"bad head");
-    let refused = reply(rt.alloc(), Then::Closes, told)?;
-    demand_all_ways(&rt, &with_fields(rt.alloc(), 64)?, &refused, End::Clean)?;
-    Ok(())
+    let refused = reply(rt.alloc(), Then::Closes, told).expect(&rt, "memory");
+    demand_each(&rt, &[(&most, FOUND_K), (&more, &refused)]);
 }

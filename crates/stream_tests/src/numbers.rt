@@ -11,11 +11,11 @@ use peer_source::{Fill, GetFault, GetResult, GroupId, Outcome, Source};
 use peer_view::AllocSink;
 use std::alloc::Global;
 use std::marker::Brand;
+use std::process::Abort;
 use std::sync::Wait;
 use std::sync::atomic::AtomicU64;
 use std::sync::atomic::Ordering::SeqCst;
 use std::sync::ledger::{Blank, Ledger};
-use std::test::Fail;
 use test_support::{SeatLists, ask_for, do_jobs, open_pool};
 
 // Finds the number of its call, from 1.
@@ -89,47 +89,44 @@ pub fn shows<S: Source>(claim: &Option<Claim<S>>, value: &[u8]) -> bool {
 }
 
 // Both seats ask, the worker runs, the first seat asks again, and the worker runs: whether the claims show 1, 1 and 2.
-fn show_numbers<S: Source, L: Ledger, R: Wait>(
-    rt: &R,
-    alloc: Global,
+fn show_numbers<S: Source, L: Ledger>(
+    rt: &(impl Abort + AllocGlobal + Wait),
     pool: &Pool<S, L>,
     lists: &mut SeatLists<S, L>,
-) -> Option<[bool; 3]>
+) -> [bool; 3]
     requires fills { All (IsFillSeatOf pool.now) lists.old.fills.items }
     requires conns { All (IsConnSeatOf pool.now) lists.old.conns.items }
 {
-    let mut one = pop_seat(pool, &mut lists.conns)?;
-    let mut two = pop_seat(pool, &mut lists.conns)?;
+    let alloc = rt.alloc();
+    let mut one = pop_seat(pool, &mut lists.conns).expect(rt, "a seat");
+    let mut two = pop_seat(pool, &mut lists.conns).expect(rt, "a seat");
     let first = ask_for(rt, alloc, pool, &mut one, b"k");
     let second = ask_for(rt, alloc, pool, &mut two, b"k");
     do_jobs(rt, alloc, pool, &mut lists.fills);
     let third = ask_for(rt, alloc, pool, &mut one, b"k");
     do_jobs(rt, alloc, pool, &mut lists.fills);
-    Some([
+    [
         shows(&first, b"1"),
         shows(&second, b"1"),
         shows(&third, b"2"),
-    ])
+    ]
 }
 
 // The same with a pool of its own, which was stopped and keeps nothing.
-fn shown<L: Ledger, R: Wait>(rt: &R, alloc: Global, blank: Blank) -> Option<[bool; 3]>
+fn shown<L: Ledger, R: Abort + AllocGlobal + Wait>(rt: &R, blank: Blank) -> [bool; 3]
     requires name { blank.name ≡ L.name }
     requires parts { (blank.parts ≡ L.parts) × (blank.parts ≡ 16) }
 {
     let source = Numbering {
         calls: AtomicU64::new(0),
     };
-    let Some((pool, mut lists)) = open_pool::<Numbering, L>(alloc, source, 0, 1, 2, blank) else {
-        return None;
-    };
+    let opened = open_pool::<Numbering, L>(rt.alloc(), source, 0, 1, 2, blank);
+    let (pool, mut lists) = opened.expect(rt, "a pool");
     pool.stop();
-    show_numbers(rt, alloc, &pool, &mut lists)
+    show_numbers(rt, &pool, &mut lists)
 }
 
 #[test]
-fn two_seats_wait_for_one_call(rt: HostRuntime) -> Result<(), Fail> {
-    let shown = shown::<Brand, HostRuntime>(&rt, rt.alloc(), Blank::new(16));
-    assert_eq!(rt; shown, Some([true; 3]));
-    Ok(())
+fn two_seats_wait_for_one_call(rt: HostRuntime) {
+    assert_eq!(rt; shown::<Brand, HostRuntime>(&rt, Blank::new(16)), [true; 3]);
 }

@@ -1,19 +1,16 @@
 //! Replies come in the order of their requests, whatever the order of their fills.
 
-use crate::demos::is_told;
+use crate::demos::{Failing, is_told, over_pieces};
 use crate::ends::{TWO, TWO_REPLIES};
-use crate::pooled::{Devices, Pooled, Setup, serve_pooled};
-use crate::runs::{READS, halves, whole};
-use crate::sources::{Watch, watched_demo};
+use crate::runs::{halves, whole};
+use crate::sources::{Watch, watching};
 use peer_conn::End;
 use peer_fill::{Gate, Report};
 use peer_source::GroupId;
-use peer_view::{MemReader, MemWriter};
-use std::alloc::Global;
+use std::process::Abort;
 use std::sync::Wait;
 use std::sync::atomic::AtomicU64;
 use std::sync::atomic::Ordering::SeqCst;
-use std::test::Fail;
 use std::thread::Threads;
 use test_support::{Step, all_called};
 
@@ -66,8 +63,14 @@ struct Seen {
     expired: bool,
 }
 
-// What was seen of this run.
-fn seen_of(gate: &Holding, watch: &Watch, run: &Pooled<MemReader, MemWriter>) -> Seen {
+// What is seen of these pieces over two workers.
+fn serve_held(
+    rt: &(impl Abort + AllocGlobal + Threads + Wait + Sync),
+    pieces: Vec<Vec<u8>>,
+) -> Seen {
+    let gate = Holding::new();
+    let watch = Watch::new();
+    let run = over_pieces(rt, watching(&watch, 0, &gate), pieces, Failing::Nothing);
     Seen {
         told: is_told(&run.served, TWO_REPLIES, End::Clean),
         report: run.report,
@@ -77,33 +80,8 @@ fn seen_of(gate: &Holding, watch: &Watch, run: &Pooled<MemReader, MemWriter>) ->
     }
 }
 
-// The same of these pieces over two workers.
-fn serve_held<H: Threads + Wait + Sync>(
-    rt: &H,
-    alloc: Global,
-    pieces: Vec<Vec<u8>>,
-) -> Option<Seen> {
-    let devices = Devices {
-        reader: MemReader::new(pieces, false),
-        writer: MemWriter::new(alloc, 65_536, None),
-        reads: READS,
-    };
-    let gate = Holding::new();
-    let watch = Watch::new();
-    let setup = Setup {
-        source: watched_demo(&watch, false),
-        cache_bytes: 0,
-        workers: 2,
-        gate: &gate,
-    };
-    match serve_pooled(rt, alloc, setup, devices) {
-        Some(run) => Some(seen_of(&gate, &watch, &run)),
-        None => None,
-    }
-}
-
 #[test]
-fn a_later_fill_waits_for_an_earlier_one(rt: HostRuntime) -> Result<(), Fail> {
+fn a_later_fill_waits_for_an_earlier_one(rt: HostRuntime) {
     let expected = Seen {
         told: true,
         report: all_called(2),
@@ -111,8 +89,6 @@ fn a_later_fill_waits_for_an_earlier_one(rt: HostRuntime) -> Result<(), Fail> {
         called: 2,
         expired: false,
     };
-    let one = serve_held(&rt, rt.alloc(), whole(rt.alloc(), TWO)?);
-    let two = serve_held(&rt, rt.alloc(), halves(rt.alloc(), TWO, 45)?);
-    assert_eq!(rt; [one, two], [Some(expected); 2]);
-    Ok(())
+    assert_eq!(rt; serve_held(&rt, whole(&rt, TWO)), expected);
+    assert_eq!(rt; serve_held(&rt, halves(&rt, TWO, 45)), expected);
 }

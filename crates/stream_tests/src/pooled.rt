@@ -1,19 +1,18 @@
-//! Runs of a connection over a pool, whose workers are threads.
-ghost use Rattle.std.specs.Prelude.{◌≡◌, ◌+◌, ◌-◌, ◌^◌, ◌<◌, All, IfSome};
-ghost use Rattle.peer_fill.specs.Seats.{fill_parts};
+//! Runs of a connection over a pool, whose workers are threads. They end the test where memory or a thread is refused.
+ghost use Rattle.std.specs.Prelude.{◌≡◌, ◌+◌, ◌-◌, ◌^◌, ◌<◌, All};
 ghost use Rattle.peer_fill.specs.Pools.{IsConnSeatOf, IsFillSeatOf};
 
 use peer_conn::{Served, serve_connection};
-use peer_fill::{ConnSeat, FillSeat, Gate, Keeps, Pool, Report, join_seats, pop_seat};
+use peer_fill::{ConnSeat, FillSeat, Gate, Pool, Report, pop_seat};
 use peer_source::Source;
 use peer_view::{PeerRead, PeerWrite};
-use std::alloc::Global;
 use std::marker::Brand;
+use std::process::Abort;
 use std::sync::Wait;
 use std::sync::ledger::{Blank, Ledger};
 use std::thread;
 use std::thread::Threads;
-use test_support::{SeatLists, close_pool, open_pool, push_conn};
+use test_support::{SeatLists, close_pool, open_pool, push_conn, work_all};
 
 /// What a pool is opened with: its source, the limit of each cache in bytes, the number of its workers, and the gate
 /// round their calls.
@@ -41,107 +40,67 @@ pub struct Pooled<R, W> {
     pub report: Report,
 }
 
-// The seats of a pool with one connection, off its list.
-#[derive(Drop)]
-struct OneConn<S: Source, L: Ledger> {
-    fills: Vec<FillSeat<S, L>>,
-    conn: ConnSeat<S, L>,
-}
-
-// Each worker works in a thread of its own while the connection is served.
-fn use_pool<
+// Serves a connection with this seat, and has the workers of its pool end.
+fn serve_and_stop<
     S: Source,
     L: Ledger + Send + Sync,
     R: PeerRead + Send + Drop,
     W: PeerWrite + Drop,
-    G: Gate,
-    H: Threads + Wait + Sync,
 >(
-    rt: &H,
-    alloc: Global,
+    rt: &(impl AllocGlobal + Threads + Wait + Sync),
     pool: &Pool<S, L>,
-    seats: OneConn<S, L>,
-    gate: &G,
+    conn: ConnSeat<S, L>,
     devices: Devices<R, W>,
-) -> Option<(OneConn<S, L>, Served<R, W>)>
-    requires fills { All (IsFillSeatOf pool.now) seats.fills.items }
-    requires conn { IsConnSeatOf pool.now seats.conn }
+) -> (Served<R, W>, ConnSeat<S, L>)
+    requires conn { IsConnSeatOf pool.now conn }
     requires calls { R.calls devices.reader + devices.reads < 2 ^ 64 }
     requires failures { W.failures devices.writer < 2 ^ 64 - 1 }
-    ensures fills { IfSome result (λ run. All (IsFillSeatOf pool.now) run.0.fills.items) }
-    ensures conn { IfSome result (λ run. IsConnSeatOf pool.now run.0.conn) }
+    ensures { IsConnSeatOf pool.now result.1 }
 {
     let Devices {
         reader,
         writer,
         reads,
     } = devices;
-    let OneConn { mut fills, conn } = seats;
-    thread::scope(
-        thread::scope_env(),
-        rt,
-        move |scope| -> Option<(OneConn<S, L>, Served<R, W>)>
-            requires fills { All (IsFillSeatOf pool.now) fills.items }
-            requires conn { IsConnSeatOf pool.now conn }
-            requires calls { R.calls reader + reads < 2 ^ 64 }
-            requires failures { W.failures writer < 2 ^ 64 - 1 }
-            ensures fills { IfSome result (λ run. All (IsFillSeatOf pool.entry.now) run.0.fills.items) }
-            ensures conn { IfSome result (λ run. IsConnSeatOf pool.entry.now run.0.conn) }
-        {
-            let mut working = Vec::new(alloc);
-            while let Some(seat) = pop_seat(pool, &mut fills) {
-                let keeps = Keeps::new(pool, &seat);
-                let work = move ||
-                    requires { IsFillSeatOf pool.now seat }
-                    ensures { IsFillSeatOf pool.entry.now result × (fill_parts result ≡ fill_parts seat) }
-                { pool.run_worker(rt, alloc, seat, gate) };
-                let Ok(handle) = scope.spawn_with(keeps, work) else {
-                    pool.stop();
-                    return None;
-                };
-                let Ok(()) = working.push(handle) else {
-                    pool.stop();
-                    return None;
-                };
-            }
-            let (served, conn) = serve_connection(rt, alloc, pool, conn, reader, writer, reads);
-            pool.stop();
-            join_seats(rt, pool, working, &mut fills);
-            Some((OneConn { fills, conn }, served))
-        },
-    )
+    let served = serve_connection(rt, rt.alloc(), pool, conn, reader, writer, reads);
+    pool.stop();
+    served
 }
 
-// The same with the seats of these lists: what was served, and how often the connection asked.
-fn use_lists<
-    S: Source,
-    L: Ledger + Send + Sync,
-    R: PeerRead + Send + Drop,
-    W: PeerWrite + Drop,
-    G: Gate,
-    H: Threads + Wait + Sync,
->(
-    rt: &H,
-    alloc: Global,
+// The same with the seats of these lists, while each worker works in a thread of its own. The number is how often the
+// connection asked.
+fn use_lists<S: Source, L: Ledger + Send + Sync, R: PeerRead + Send + Drop, W: PeerWrite + Drop>(
+    rt: &(impl Abort + AllocGlobal + Threads + Wait + Sync),
     pool: &Pool<S, L>,
     lists: SeatLists<S, L>,
-    gate: &G,
+    gate: &impl Gate,
     devices: Devices<R, W>,
-) -> Option<(SeatLists<S, L>, Served<R, W>, u64)>
+) -> (SeatLists<S, L>, Served<R, W>, u64)
     requires fills { All (IsFillSeatOf pool.now) lists.fills.items }
     requires conns { All (IsConnSeatOf pool.now) lists.conns.items }
     requires calls { R.calls devices.reader + devices.reads < 2 ^ 64 }
     requires failures { W.failures devices.writer < 2 ^ 64 - 1 }
-    ensures fills { IfSome result (λ used. All (IsFillSeatOf pool.now) used.0.fills.items) }
-    ensures conns { IfSome result (λ used. All (IsConnSeatOf pool.now) used.0.conns.items) }
+    ensures fills { All (IsFillSeatOf pool.now) result.0.fills.items }
+    ensures conns { All (IsConnSeatOf pool.now) result.0.conns.items }
 {
     let SeatLists { fills, mut conns } = lists;
-    let conn = pop_seat(pool, &mut conns)?;
-    let (seats, served) = use_pool(rt, alloc, pool, OneConn { fills, conn }, gate, devices)?;
-    let OneConn { fills, conn } = seats;
+    let conn = pop_seat(pool, &mut conns).expect(rt, "a seat");
+    let (fills, (served, conn)) = thread::join(
+        rt,
+        move || -> Vec<FillSeat<S, L>>
+            requires { All (IsFillSeatOf pool.now) fills.items }
+            ensures { All (IsFillSeatOf pool.entry.now) result.items }
+        { work_all(rt, rt.alloc(), pool, fills, gate).expect(rt, "memory") },
+        move || -> (Served<R, W>, ConnSeat<S, L>)
+            requires conn { IsConnSeatOf pool.now conn }
+            requires calls { R.calls devices.reader + devices.reads < 2 ^ 64 }
+            requires failures { W.failures devices.writer < 2 ^ 64 - 1 }
+            ensures { IsConnSeatOf pool.entry.now result.1 }
+        { serve_and_stop(rt, pool, conn, devices) },
+    );
     let asked = conn.asked();
-    push_conn(pool, &mut conns, conn)?;
-    Some((SeatLists { fills, conns }, served, asked))
+    push_conn(pool, &mut conns, conn).expect(rt, "memory");
+    (SeatLists { fills, conns }, served, asked)
 }
 
 // Opens a pool with one connection, serves it and closes the pool.
@@ -151,14 +110,8 @@ fn serve_over<
     R: PeerRead + Send + Drop,
     W: PeerWrite + Drop,
     G: Gate,
-    H: Threads + Wait + Sync,
->(
-    rt: &H,
-    alloc: Global,
-    setup: Setup<'_, S, G>,
-    devices: Devices<R, W>,
-    blank: Blank,
-) -> Option<Pooled<R, W>>
+    H: Abort + AllocGlobal + Threads + Wait + Sync,
+>(rt: &H, setup: Setup<'_, S, G>, devices: Devices<R, W>, blank: Blank) -> Pooled<R, W>
     requires name { blank.name ≡ L.name }
     requires parts { (blank.parts ≡ L.parts) × (blank.parts ≡ 16) }
     requires calls { R.calls devices.reader + devices.reads < 2 ^ 64 }
@@ -170,29 +123,27 @@ fn serve_over<
         workers,
         gate,
     } = setup;
-    let Some((pool, lists)) = open_pool::<S, L>(alloc, source, cache_bytes, workers, 1, blank)
-    else {
-        return None;
-    };
-    let (lists, served, asked) = use_lists(rt, alloc, &pool, lists, gate, devices)?;
-    let report = close_pool(rt, pool, lists)?;
-    Some(Pooled {
+    let opened = open_pool::<S, L>(rt.alloc(), source, cache_bytes, workers, 1, blank);
+    let (pool, lists) = opened.expect(rt, "a pool");
+    let (lists, served, asked) = use_lists(rt, &pool, lists, gate, devices);
+    let report = close_pool(rt, pool, lists).expect(rt, "a report");
+    Pooled {
         served,
         asked,
         report,
-    })
+    }
 }
 
-/// A connection over a pool of its own. None where memory or a thread was refused.
+/// A connection over a pool of its own.
 pub fn serve_pooled<
     S: Source,
     R: PeerRead + Send + Drop,
     W: PeerWrite + Drop,
     G: Gate,
-    H: Threads + Wait + Sync,
->(rt: &H, alloc: Global, setup: Setup<'_, S, G>, devices: Devices<R, W>) -> Option<Pooled<R, W>>
+    H: Abort + AllocGlobal + Threads + Wait + Sync,
+>(rt: &H, setup: Setup<'_, S, G>, devices: Devices<R, W>) -> Pooled<R, W>
     requires calls { R.calls devices.reader + devices.reads < 2 ^ 64 }
     requires failures { W.failures devices.writer < 2 ^ 64 - 1 }
 {
-    serve_over::<S, Brand, R, W, G, H>(rt, alloc, setup, devices, Blank::new(16))
+    serve_over::<S, Brand, R, W, G, H>(rt, setup, devices, Blank::new(16))
 }

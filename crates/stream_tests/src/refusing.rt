@@ -5,17 +5,17 @@ ghost use Rattle.peer_fill.specs.Pools.{IsConnSeatOf, IsFillSeatOf};
 use crate::ends::{THREE, THREE_REPLIES};
 use crate::numbers::shows;
 use crate::runs::{READS, whole};
-use crate::tellers::{ActingReader, TellingLater};
+use crate::tellers::{Acting, TellingLater};
 use peer_conn::{End, serve_connection};
 use peer_fill::{ConnSeat, Pool, Report, pop_seat};
 use peer_source::Source;
 use peer_view::{MemReader, MemWriter};
 use std::alloc::Global;
 use std::marker::Brand;
+use std::process::Abort;
 use std::sync::Wait;
 use std::sync::atomic::AtomicU64;
 use std::sync::ledger::{Blank, Ledger};
-use std::test::Fail;
 use std::thread::Threads;
 use test_support::{
     Hook, Hooked, Refusing, SeatLists, Step, all_called, ask_for, beside_worker, close_pool,
@@ -38,9 +38,8 @@ impl<'a> Hook for Held<'a> {
 
 // One connection of `a`, `b` and `c` in one piece, of which `b` is refused memory: whether it wrote the first reply, and
 // whether it ended so. It tells once it has asked for all, and reads again.
-fn serve_one<S: Source, L: Ledger + Send + Sync, H: Threads + Wait + Sync>(
-    rt: &H,
-    alloc: Global,
+fn serve_one<S: Source, L: Ledger + Send + Sync>(
+    rt: &(impl Abort + AllocGlobal + Threads + Wait + Sync),
     pool: &Pool<S, L>,
     conn: ConnSeat<S, L>,
     asked: &Step,
@@ -48,74 +47,54 @@ fn serve_one<S: Source, L: Ledger + Send + Sync, H: Threads + Wait + Sync>(
     requires { IsConnSeatOf pool.now conn }
     ensures { IsConnSeatOf pool.now result.0 }
 {
-    let Ok(pieces) = whole(alloc, THREE) else {
-        return (conn, [false; 2]);
-    };
-    let reader = ActingReader {
-        reader: MemReader::new(pieces, false),
+    let reader = Acting {
+        device: MemReader::new(whole(rt, THREE), false),
         before: TellingLater {
             calls: AtomicU64::new(0),
             step: asked,
         },
     };
-    let writer = MemWriter::new(alloc, 4096, None);
-    let (served, conn) = serve_connection(rt, alloc, pool, conn, reader, writer, READS);
+    let writer = MemWriter::new(rt.alloc(), 4096, None);
+    let (served, conn) = serve_connection(rt, rt.alloc(), pool, conn, reader, writer, READS);
     let (reply, _) = THREE_REPLIES.as_slice().split_at(79);
     let told = [served.writer.taken() == reply, served.end == End::Memory];
     (conn, told)
 }
 
-// The same beside one worker, with seats from these lists.
-fn serve_beside<S: Source, L: Ledger + Send + Sync, H: Threads + Wait + Sync>(
-    rt: &H,
-    alloc: Global,
+// The same beside one worker, with seats from these lists. Then the seat asks for `b` and the worker runs again: whether
+// the claim shows the key.
+fn serve_and_ask<S: Source, L: Ledger + Send + Sync>(
+    rt: &(impl Abort + AllocGlobal + Threads + Wait + Sync),
     pool: &Pool<S, L>,
     lists: &mut SeatLists<S, L>,
     asked: &Step,
-) -> Option<[bool; 2]>
+) -> ([bool; 2], bool)
     requires fills { All (IsFillSeatOf pool.now) lists.old.fills.items }
     requires conns { All (IsConnSeatOf pool.now) lists.old.conns.items }
     ensures fills { All (IsFillSeatOf pool.now) lists.new.fills.items }
     ensures conns { All (IsConnSeatOf pool.now) lists.new.conns.items }
 {
-    let fill = pop_seat(pool, &mut lists.fills)?;
-    let conn = pop_seat(pool, &mut lists.conns)?;
+    let alloc = rt.alloc();
+    let fill = pop_seat(pool, &mut lists.fills).expect(rt, "a worker");
+    let conn = pop_seat(pool, &mut lists.conns).expect(rt, "a seat");
     let serve = move || -> (ConnSeat<S, L>, [bool; 2])
         requires { IsConnSeatOf pool.now conn }
         ensures { IsConnSeatOf pool.entry.now result.0 }
-    { serve_one(rt, alloc, pool, conn, asked) };
-    let (fill, served) = beside_worker(rt, alloc, pool, fill, serve)?;
-    let (conn, served) = served;
-    push_fill(pool, &mut lists.fills, fill)?;
-    push_conn(pool, &mut lists.conns, conn)?;
-    Some(served)
-}
-
-// Asks for `b` and has the worker run: whether the claim shows the key.
-fn ask_again<S: Source, L: Ledger, R: Wait>(
-    rt: &R,
-    alloc: Global,
-    pool: &Pool<S, L>,
-    lists: &mut SeatLists<S, L>,
-) -> Option<bool>
-    requires fills { All (IsFillSeatOf pool.now) lists.old.fills.items }
-    requires conns { All (IsConnSeatOf pool.now) lists.old.conns.items }
-    ensures fills { All (IsFillSeatOf pool.now) lists.new.fills.items }
-    ensures conns { All (IsConnSeatOf pool.now) lists.new.conns.items }
-{
-    let mut conn = pop_seat(pool, &mut lists.conns)?;
+    { serve_one(rt, pool, conn, asked) };
+    let (fill, served) = beside_worker(rt, alloc, pool, fill, serve).expect(rt, "a thread");
+    let (mut conn, told) = served;
+    push_fill(pool, &mut lists.fills, fill).expect(rt, "memory");
     let claim = ask_for(rt, alloc, pool, &mut conn, b"b");
-    do_jobs(rt, alloc, pool, &mut lists.fills)?;
-    push_conn(pool, &mut lists.conns, conn)?;
-    Some(shows(&claim, b"b"))
+    do_jobs(rt, alloc, pool, &mut lists.fills).expect(rt, "a worker");
+    push_conn(pool, &mut lists.conns, conn).expect(rt, "memory");
+    (told, shows(&claim, b"b"))
 }
 
 // What became of the connection and of the ask behind it, over a pool of its own, with its report.
-fn run<L: Ledger + Send + Sync, H: Threads + Wait + Sync>(
+fn run<L: Ledger + Send + Sync, H: Abort + AllocGlobal + Threads + Wait + Sync>(
     rt: &H,
-    alloc: Global,
     blank: Blank,
-) -> Option<(Option<[bool; 2]>, Option<bool>, Option<Report>)>
+) -> (([bool; 2], bool), Option<Report>)
     requires name { blank.name ≡ L.name }
     requires parts { (blank.parts ≡ L.parts) × (blank.parts ≡ 16) }
 {
@@ -124,21 +103,14 @@ fn run<L: Ledger + Send + Sync, H: Threads + Wait + Sync>(
         asked: &asked,
         refusing: Refusing::new(),
     };
-    let opened = open_pool::<Hooked<Held<'_>>, L>(alloc, Hooked { hook }, 0, 1, 1, blank);
-    let Some((pool, mut lists)) = opened else {
-        return None;
-    };
-    let served = serve_beside(rt, alloc, &pool, &mut lists, &asked);
-    let shown = ask_again(rt, alloc, &pool, &mut lists);
-    Some((served, shown, close_pool(rt, pool, lists)))
+    let opened = open_pool::<Hooked<Held<'_>>, L>(rt.alloc(), Hooked { hook }, 0, 1, 1, blank);
+    let (pool, mut lists) = opened.expect(rt, "a pool");
+    let seen = serve_and_ask(rt, &pool, &mut lists, &asked);
+    (seen, close_pool(rt, pool, lists))
 }
 
 #[test]
-fn a_refused_key_is_filled_behind_its_worker(rt: HostRuntime) -> Result<(), Fail> {
-    let seen = run::<Brand, HostRuntime>(&rt, rt.alloc(), Blank::new(16));
-    assert_eq!(rt;
-        seen,
-        Some((Some([true; 2]), Some(true), Some(all_called(4))))
-    );
-    Ok(())
+fn a_refused_key_is_filled_behind_its_worker(rt: HostRuntime) {
+    let seen = run::<Brand, HostRuntime>(&rt, Blank::new(16));
+    assert_eq!(rt; seen, (([true; 2], true), Some(all_called(4))));
 }

@@ -1,11 +1,11 @@
-//! Runs of a connection over texts cut into pieces.
+//! Runs of a connection over texts cut into pieces. They end the test where memory or a thread is refused.
 ghost use Rattle.std.specs.Prelude.{◌≤◌, ◌<◌, length};
 
 use crate::demos::{Failing, demo, is_served_over};
 use peer_conn::{End, Served, serve_serial, serve_told};
 use peer_source::DemoSource;
 use peer_view::{MemReader, MemWriter};
-use std::alloc::{AllocError, Global};
+use std::alloc::Global;
 use std::process::Abort;
 use std::sync::Wait;
 use std::thread::Threads;
@@ -18,36 +18,40 @@ pub const READS: u64 = 1_000_000;
 const SHORT: usize = 400;
 
 /// Adds a piece with these bytes.
-pub fn add_piece(alloc: Global, pieces: &mut Vec<Vec<u8>>, bytes: &[u8]) -> Result<(), AllocError> {
-    let piece = bytes.to_vec(alloc)?;
-    pieces.push(piece)?;
-    Ok(())
+pub fn add_piece(rt: &(impl Abort + AllocGlobal), pieces: &mut Vec<Vec<u8>>, bytes: &[u8]) {
+    let piece = bytes.to_vec(rt.alloc()).expect(rt, "memory");
+    pieces.push(piece).expect(rt, "memory");
 }
 
 /// A text in one piece.
-pub fn whole(alloc: Global, text: &[u8]) -> Result<Vec<Vec<u8>>, AllocError> {
-    let mut pieces = Vec::new(alloc);
-    add_piece(alloc, &mut pieces, text)?;
-    Ok(pieces)
+pub fn whole(rt: &(impl Abort + AllocGlobal), text: &[u8]) -> Vec<Vec<u8>> {
+    let mut pieces = Vec::new(rt.alloc());
+    add_piece(rt, &mut pieces, text);
+    pieces
 }
 
 /// A text in two pieces.
-pub fn halves(alloc: Global, text: &[u8], at: usize) -> Result<Vec<Vec<u8>>, AllocError>
+pub fn halves(rt: &(impl Abort + AllocGlobal), text: &[u8], at: usize) -> Vec<Vec<u8>>
     requires { at ≤ length text.now }
 {
-    let mut pieces = Vec::new(alloc);
-    add_piece(alloc, &mut pieces, &text[..at])?;
-    add_piece(alloc, &mut pieces, &text[at..])?;
-    Ok(pieces)
+    let mut pieces = Vec::new(rt.alloc());
+    add_piece(rt, &mut pieces, &text[..at]);
+    add_piece(rt, &mut pieces, &text[at..]);
+    pieces
+}
+
+/// A text in pieces of so many bytes, or of one.
+pub fn cut(rt: &(impl Abort + AllocGlobal), text: &[u8], size: usize) -> Vec<Vec<u8>> {
+    let mut pieces = Vec::new(rt.alloc());
+    for piece in text.chunks(size.max(1)) {
+        add_piece(rt, &mut pieces, piece);
+    }
+    pieces
 }
 
 /// A text byte by byte.
-pub fn by_bytes(alloc: Global, text: &[u8]) -> Result<Vec<Vec<u8>>, AllocError> {
-    let mut pieces = Vec::new(alloc);
-    for byte in text {
-        add_piece(alloc, &mut pieces, &[*byte])?;
-    }
-    Ok(pieces)
+pub fn by_bytes(rt: &(impl Abort + AllocGlobal), text: &[u8]) -> Vec<Vec<u8>> {
+    cut(rt, text, 1)
 }
 
 /// A connection over the source for demonstrations, whose reader gives these pieces and then fails or tells its end.
@@ -102,35 +106,33 @@ pub fn demand(rt: &(impl Abort + AllocGlobal), pieces: Vec<Vec<u8>>, replies: &[
     demand_within(rt, pieces, READS, replies, end);
 }
 
-// Whether a text is answered so by pools of 1, 2 and 16 workers, each without a cache, with one of 4 bytes and with
-// one of 1 MiB: in one piece and byte by byte.
-fn is_served_by_pools<H: Threads + Wait + Sync>(
-    rt: &H,
-    alloc: Global,
+// The workers of pools, and the bytes of their caches.
+const POOLS: [(usize, u64); 9] = [
+    (1, 0),
+    (1, 4),
+    (1, 1_048_576),
+    (2, 0),
+    (2, 4),
+    (2, 1_048_576),
+    (16, 0),
+    (16, 4),
+    (16, 1_048_576),
+];
+
+// Whether each pool answers a text so, in one piece and byte by byte.
+fn is_served_by_pools(
+    rt: &(impl Abort + AllocGlobal + Threads + Wait + Sync),
     text: &[u8],
-    replies: &[u8],
-    end: End,
-) -> Result<bool, AllocError> {
+    told: (&[u8], End),
+) -> bool {
     let mut same = true;
-    for (workers, cache_bytes) in [
-        (1, 0),
-        (1, 4),
-        (1, 1_048_576),
-        (2, 0),
-        (2, 4),
-        (2, 1_048_576),
-        (16, 0),
-        (16, 4),
-        (16, 1_048_576),
-    ] {
-        let pieces = whole(alloc, text)?;
+    for (workers, cache_bytes) in POOLS {
         let setup = demo(workers, cache_bytes);
-        same &= is_served_over(rt, alloc, setup, pieces, Failing::Nothing, (replies, end));
-        let pieces = by_bytes(alloc, text)?;
+        same &= is_served_over(rt, setup, whole(rt, text), Failing::Nothing, told);
         let setup = demo(workers, cache_bytes);
-        same &= is_served_over(rt, alloc, setup, pieces, Failing::Nothing, (replies, end));
+        same &= is_served_over(rt, setup, by_bytes(rt, text), Failing::Nothing, told);
     }
-    Ok(same)
+    same
 }
 
 /// Demands these bytes and this end for a text in one thread: in one piece, byte by byte, and in two pieces at every
@@ -140,19 +142,25 @@ pub fn demand_all_ways(
     text: &[u8],
     replies: &[u8],
     end: End,
-) -> Result<(), AllocError> {
-    demand(rt, whole(rt.alloc(), text)?, replies, end);
-    demand(rt, by_bytes(rt.alloc(), text)?, replies, end);
+) {
+    demand(rt, whole(rt, text), replies, end);
+    demand(rt, by_bytes(rt, text), replies, end);
     if text.len() <= SHORT {
         for at in 0..text.len() {
-            demand(rt, halves(rt.alloc(), text, at)?, replies, end);
+            demand(rt, halves(rt, text, at), replies, end);
         }
     }
-    assert!(rt;
-        is_served_by_pools(rt, rt.alloc(), text, replies, end)?,
-        "over pools"
-    );
-    Ok(())
+    assert!(rt; is_served_by_pools(rt, text, (replies, end)), "over pools");
+}
+
+/// Demands for each text the replies beside it, and that its connection ends between two heads.
+pub fn demand_each(
+    rt: &(impl Abort + AllocGlobal + Threads + Wait + Sync),
+    rows: &[(&[u8], &[u8])],
+) {
+    for (text, replies) in rows {
+        demand_all_ways(rt, text, replies, End::Clean);
+    }
 }
 
 /// Demands one reply, which does not close, for GET of a target.
@@ -160,8 +168,8 @@ pub fn demand_told(
     rt: &(impl Abort + AllocGlobal + Threads + Wait + Sync),
     target: &str,
     told: Told<'_>,
-) -> Result<(), AllocError> {
-    let text = request(rt.alloc(), target)?;
-    let replies = reply(rt.alloc(), Then::Stays, told)?;
-    demand_all_ways(rt, &text, &replies, End::Clean)
+) {
+    let text = request(rt.alloc(), target).expect(rt, "memory");
+    let replies = reply(rt.alloc(), Then::Stays, told).expect(rt, "memory");
+    demand_all_ways(rt, &text, &replies, End::Clean);
 }

@@ -8,12 +8,11 @@ use peer_conn::{End, serve_connection_functional};
 use peer_fill::{ConnSeat, Gate, Pool, pop_seat};
 use peer_source::{DemoSource, FunctionalSource, GroupId};
 use peer_view::{MemReader, MemWriter};
-use std::alloc::Global;
 use std::hint::spin_loop;
 use std::marker::Brand;
+use std::process::Abort;
 use std::sync::Wait;
 use std::sync::ledger::{Blank, Ledger};
-use std::test::Fail;
 use std::thread::{Threads, join};
 use stream_model::{ASK_K, FOUND_K};
 use test_support::{SeatLists, open_pool};
@@ -32,41 +31,37 @@ impl Gate for Slow {
 }
 
 // Whether a connection gets the reply.
-fn is_answered<S: FunctionalSource, L: Ledger + Send + Sync, H: Threads + Wait + Sync>(
-    rt: &H,
-    alloc: Global,
+fn is_answered<S: FunctionalSource, L: Ledger + Send + Sync>(
+    rt: &(impl Abort + AllocGlobal + Threads + Wait + Sync),
     pool: &Pool<S, L>,
     seat: ConnSeat<S, L>,
 ) -> bool
     requires { IsConnSeatOf pool.now seat }
 {
-    let Ok(pieces) = whole(alloc, ASK_K) else {
-        return false;
-    };
-    let reader = MemReader::new(pieces, false);
+    let alloc = rt.alloc();
+    let reader = MemReader::new(whole(rt, ASK_K), false);
     let writer = MemWriter::new(alloc, 4096, None);
     let (served, _seat) = serve_connection_functional(rt, alloc, pool, seat, reader, writer, READS);
     is_told(&served, FOUND_K, End::Clean)
 }
 
 // Whether two connections get the reply from one worker.
-fn are_answered<S: FunctionalSource, L: Ledger + Send + Sync, H: Threads + Wait + Sync>(
-    rt: &H,
-    alloc: Global,
+fn are_answered<S: FunctionalSource, L: Ledger + Send + Sync>(
+    rt: &(impl Abort + AllocGlobal + Threads + Wait + Sync),
     pool: &Pool<S, L>,
     lists: &mut SeatLists<S, L>,
-) -> Option<(bool, bool)>
+) -> (bool, bool)
     requires fills { All (IsFillSeatOf pool.now) lists.old.fills.items }
     requires conns { All (IsConnSeatOf pool.now) lists.old.conns.items }
 {
-    let fill = pop_seat(pool, &mut lists.fills)?;
-    let one = pop_seat(pool, &mut lists.conns)?;
-    let two = pop_seat(pool, &mut lists.conns)?;
+    let fill = pop_seat(pool, &mut lists.fills).expect(rt, "a worker");
+    let one = pop_seat(pool, &mut lists.conns).expect(rt, "a seat");
+    let two = pop_seat(pool, &mut lists.conns).expect(rt, "a seat");
     let (_seat, answered) = join(
         rt,
         move ||
             requires { IsFillSeatOf pool.now fill }
-        { pool.run_worker(rt, alloc, fill, &Slow) },
+        { pool.run_worker(rt, rt.alloc(), fill, &Slow) },
         move || -> (bool, bool)
             requires one { IsConnSeatOf pool.now one }
             requires two { IsConnSeatOf pool.now two }
@@ -75,41 +70,36 @@ fn are_answered<S: FunctionalSource, L: Ledger + Send + Sync, H: Threads + Wait 
                 rt,
                 move || -> bool
                     requires { IsConnSeatOf pool.now one }
-                { is_answered(rt, alloc, pool, one) },
+                { is_answered(rt, pool, one) },
                 move || -> bool
                     requires { IsConnSeatOf pool.now two }
-                { is_answered(rt, alloc, pool, two) },
+                { is_answered(rt, pool, two) },
             );
             pool.stop();
             answered
         },
     );
-    Some(answered)
+    answered
 }
 
 // A pool of its own, and its two connections.
-fn round<L: Ledger + Send + Sync, H: Threads + Wait + Sync>(
+fn round<L: Ledger + Send + Sync, H: Abort + AllocGlobal + Threads + Wait + Sync>(
     rt: &H,
-    alloc: Global,
     blank: Blank,
-) -> Option<(bool, bool)>
+) -> (bool, bool)
     requires name { blank.name ≡ L.name }
     requires parts { (blank.parts ≡ L.parts) × (blank.parts ≡ 16) }
 {
-    let Some((pool, mut lists)) = open_pool::<DemoSource, L>(alloc, DemoSource, 0, 1, 2, blank)
-    else {
-        return None;
-    };
-    are_answered(rt, alloc, &pool, &mut lists)
+    let opened = open_pool::<DemoSource, L>(rt.alloc(), DemoSource, 0, 1, 2, blank);
+    let (pool, mut lists) = opened.expect(rt, "a pool");
+    are_answered(rt, &pool, &mut lists)
 }
 
 #[test]
-fn all_who_wait_for_a_slow_key_are_answered(rt: HostRuntime) -> Result<(), Fail> {
+fn all_who_wait_for_a_slow_key_are_answered(rt: HostRuntime) {
     let mut all = true;
     for _ in 0..20 {
-        let answered = round::<Brand, HostRuntime>(&rt, rt.alloc(), Blank::new(16));
-        all &= answered == Some((true, true));
+        all &= round::<Brand, HostRuntime>(&rt, Blank::new(16)) == (true, true);
     }
     assert!(rt; all);
-    Ok(())
 }

@@ -1,5 +1,7 @@
 //! What sources tell of their calls.
 
+use crate::pooled::Setup;
+use peer_fill::Gate;
 use std::alloc::Global;
 use std::sync::atomic::AtomicU64;
 use std::sync::atomic::Ordering::SeqCst;
@@ -44,9 +46,20 @@ impl<'a> Hook for Watched<'a> {
     }
 }
 
-/// The source for demonstrations, watched.
-pub fn watched_demo(watch: &Watch, patient: bool) -> Hooked<Watched<'_>> {
-    Hooked {
-        hook: Watched { watch, patient },
+/// A pool of two workers over the source for demonstrations, watched.
+pub fn watching<'a, G: Gate>(
+    watch: &'a Watch,
+    cache_bytes: u64,
+    gate: &'a G,
+) -> Setup<'a, Hooked<Watched<'a>>, G> {
+    let hook = Watched {
+        watch,
+        patient: false,
+    };
+    Setup {
+        source: Hooked { hook },
+        cache_bytes,
+        workers: 2,
+        gate,
     }
 }

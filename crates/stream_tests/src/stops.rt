@@ -2,15 +2,15 @@
 
 use crate::demos::demo;
 use crate::pooled::{Devices, serve_pooled};
-use crate::runs::{READS, whole};
-use crate::tellers::{ActingReader, ActingWriter, BeforeCall, Telling};
+use crate::runs::{READS, add_piece, whole};
+use crate::tellers::{Acting, BeforeCall, Telling};
 use peer_conn::End;
 use peer_view::{MemReader, MemWriter};
-use std::alloc::{AllocError, Global};
+use std::process::Abort;
 use std::sync::atomic::AtomicU64;
 use std::sync::atomic::Ordering::SeqCst;
-use std::test::Fail;
 use std::thread::yield_now;
+use stream_model::ASK_K;
 use test_support::Step;
 
 // The reads so far, and the first write, which fails.
@@ -38,40 +38,36 @@ impl<'a> BeforeCall for LateReads<'a> {
 }
 
 // A request, and then 2,000 bytes of a head without an end, one a piece.
-fn pieces(alloc: Global) -> Result<Vec<Vec<u8>>, AllocError> {
-    let mut pieces = whole(
-        alloc,
-        b"GET /_groupcache/echo/k HTTP/1.1\r\nHost: h\r\n\r\n",
-    )?;
+fn pieces(rt: &(impl Abort + AllocGlobal)) -> Vec<Vec<u8>> {
+    let mut pieces = whole(rt, ASK_K);
     for _ in 0..2000 {
-        pieces.push(b"G".to_vec(alloc)?)?;
+        add_piece(rt, &mut pieces, b"G");
     }
-    Ok(pieces)
+    pieces
 }
 
 #[test]
-fn a_failed_write_stops_a_reader_that_gets_no_request(rt: HostRuntime) -> Result<(), Fail> {
+fn a_failed_write_stops_a_reader_that_gets_no_request(rt: HostRuntime) {
     let watch = Watch {
         reads: AtomicU64::new(0),
         first_write: Step::new(),
     };
     let devices = Devices {
-        reader: ActingReader {
-            reader: MemReader::new(pieces(rt.alloc())?, false),
+        reader: Acting {
+            device: MemReader::new(pieces(&rt), false),
             before: LateReads { watch: &watch },
         },
-        writer: ActingWriter {
-            writer: MemWriter::new(rt.alloc(), 4096, Some(0)),
+        writer: Acting {
+            device: MemWriter::new(rt.alloc(), 4096, Some(0)),
             before: Telling {
                 step: &watch.first_write,
             },
         },
         reads: READS,
     };
-    let run = serve_pooled(&rt, rt.alloc(), demo(1, 0), devices);
-    assert_eq!(rt; run.map(|run| run.served.end), Some(End::WriteFault));
+    let end = serve_pooled(&rt, demo(1, 0), devices).served.end;
+    assert_eq!(rt; end, End::WriteFault);
     assert!(rt; !watch.first_write.has_expired());
     let reads = watch.reads.load(SeqCst);
     assert!(rt; reads < 2000, "{reads} reads");
-    Ok(())
 }

@@ -1,18 +1,16 @@
 //! Tables as sources: the same bytes by one thread and over a pool.
 ghost use Rattle.std.specs.Prelude.{◌≡◌};
 
-use crate::demos::{is_served, is_told};
-use crate::pooled::{Devices, Setup, serve_pooled};
+use crate::demos::{Failing, is_told, over_pieces};
+use crate::pooled::Setup;
 use crate::runs::{READS, whole};
 use peer_conn::{End, serve_functional, serve_serial};
 use peer_fill::NoGate;
 use peer_table::{NamedTable, TableSource, TableText};
 use peer_view::{MemReader, MemWriter};
-use std::alloc::{AllocError, Global};
+use std::alloc::Global;
 use std::marker::Brand;
-use std::sync::Wait;
-use std::test::Fail;
-use std::thread::Threads;
+use std::process::Abort;
 use stream_model::{Then, Told, add_reply, add_request};
 
 const LINES: &[u8] = b"a\tk\tone\na\tj\t\nb\tk\ttwo\n";
@@ -36,33 +34,28 @@ const TOLD: [Told<'static>; 5] = [
 ];
 
 // The table of the three lines.
-fn table(alloc: Global) -> Option<TableSource> {
-    let mut reader = MemReader::new(whole(alloc, LINES).ok()?, false);
-    TableSource::read_from(alloc, &mut reader, 10).ok()
-}
-
-// The requests.
-fn requests(alloc: Global) -> Result<Vec<u8>, AllocError> {
-    let mut text = Vec::new(alloc);
-    for target in TARGETS {
-        add_request(&mut text, target)?;
-    }
-    Ok(text)
-}
-
-// The replies.
-fn replies(alloc: Global) -> Result<Vec<u8>, AllocError> {
-    let mut text = Vec::new(alloc);
-    for told in TOLD {
-        add_reply(alloc, &mut text, Then::Stays, told)?;
-    }
-    Ok(text)
+fn table(rt: &(impl Abort + AllocGlobal)) -> TableSource {
+    let mut reader = MemReader::new(whole(rt, LINES), false);
+    let read = TableSource::read_from(rt.alloc(), &mut reader, 10);
+    read.ok().expect(rt, "a table")
 }
 
 // The requests in one piece.
-fn pieces(alloc: Global) -> Result<Vec<Vec<u8>>, AllocError> {
-    let text = requests(alloc)?;
-    whole(alloc, &text)
+fn pieces(rt: &(impl Abort + AllocGlobal)) -> Vec<Vec<u8>> {
+    let mut text = Vec::new(rt.alloc());
+    for target in TARGETS {
+        add_request(&mut text, target).expect(rt, "memory");
+    }
+    whole(rt, &text)
+}
+
+// The replies.
+fn replies(rt: &(impl Abort + AllocGlobal)) -> Vec<u8> {
+    let mut text = Vec::new(rt.alloc());
+    for told in TOLD {
+        add_reply(rt.alloc(), &mut text, Then::Stays, told).expect(rt, "memory");
+    }
+    text
 }
 
 // Whether one thread writes these bytes.
@@ -94,61 +87,25 @@ fn is_written_by_name<T: TableText + Send + Sync>(
     is_told(&served, replies, End::Clean)
 }
 
-// Whether they are written over a pool of two workers.
-fn is_written_over_a_pool<H: Threads + Wait + Sync>(
-    rt: &H,
-    alloc: Global,
-    table: TableSource,
-    pieces: Vec<Vec<u8>>,
-    replies: &[u8],
-) -> bool {
-    let devices = Devices {
-        reader: MemReader::new(pieces, false),
-        writer: MemWriter::new(alloc, 4096, None),
-        reads: READS,
-    };
+#[test]
+fn a_table_is_answered_by_its_lines(rt: HostRuntime) {
+    assert!(rt; is_written_by_one(rt.alloc(), &table(&rt), pieces(&rt), &replies(&rt)));
+}
+
+#[test]
+fn a_named_table_is_answered_by_its_lines(rt: HostRuntime) {
+    let table = table(&rt);
+    assert!(rt; is_written_by_name::<Brand>(rt.alloc(), table, pieces(&rt), &replies(&rt)));
+}
+
+#[test]
+fn a_table_is_answered_over_a_pool(rt: HostRuntime) {
     let setup = Setup {
-        source: table,
+        source: table(&rt),
         cache_bytes: 1_048_576,
         workers: 2,
         gate: &NoGate,
     };
-    let run = serve_pooled(rt, alloc, setup, devices);
-    is_served(&run, replies, End::Clean)
-}
-
-#[test]
-fn a_table_is_answered_by_its_lines(rt: HostRuntime) -> Result<(), Fail> {
-    let replies = replies(rt.alloc())?;
-    let pieces = pieces(rt.alloc())?;
-    let right = match table(rt.alloc()) {
-        Some(table) => is_written_by_one(rt.alloc(), &table, pieces, &replies),
-        None => false,
-    };
-    assert!(rt; right);
-    Ok(())
-}
-
-#[test]
-fn a_named_table_is_answered_by_its_lines(rt: HostRuntime) -> Result<(), Fail> {
-    let replies = replies(rt.alloc())?;
-    let pieces = pieces(rt.alloc())?;
-    let right = match table(rt.alloc()) {
-        Some(table) => is_written_by_name::<Brand>(rt.alloc(), table, pieces, &replies),
-        None => false,
-    };
-    assert!(rt; right);
-    Ok(())
-}
-
-#[test]
-fn a_table_is_answered_over_a_pool(rt: HostRuntime) -> Result<(), Fail> {
-    let replies = replies(rt.alloc())?;
-    let pieces = pieces(rt.alloc())?;
-    let right = match table(rt.alloc()) {
-        Some(table) => is_written_over_a_pool(&rt, rt.alloc(), table, pieces, &replies),
-        None => false,
-    };
-    assert!(rt; right);
-    Ok(())
+    let run = over_pieces(&rt, setup, pieces(&rt), Failing::Nothing);
+    assert!(rt; is_told(&run.served, &replies(&rt), End::Clean));
 }

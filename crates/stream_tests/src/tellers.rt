@@ -38,42 +38,35 @@ impl<'a> BeforeCall for TellingLater<'a> {
     }
 }
 
-/// A reader in memory that does something before each read.
+/// A device in memory, before whose calls something is done.
 #[derive(Drop)]
-pub struct ActingReader<B: BeforeCall> {
-    pub reader: MemReader,
+pub struct Acting<D: Drop, B: BeforeCall> {
+    pub device: D,
     pub before: B,
 }
 
-impl<B: BeforeCall> PeerRead for ActingReader<B> {
-    ghost given = { λ r. Some r.reader.given };
+impl<B: BeforeCall> PeerRead for Acting<MemReader, B> {
+    ghost given = { λ r. Some r.device.given };
 
-    ghost calls = { λ r. r.reader.calls };
+    ghost calls = { λ r. r.device.calls };
 
-    ghost ends = { λ r. r.reader.ends };
+    ghost ends = { λ r. r.device.ends };
 
-    ghost failures = { λ r. r.reader.failures };
+    ghost failures = { λ r. r.device.failures };
 
     fn read(&mut self, room: &mut [u8]) -> Result<usize, ReadFailed> {
         self.before.act();
-        self.reader.read(room)
+        self.device.read(room)
     }
 }
 
-/// A writer in memory that does something before each write.
-#[derive(Drop)]
-pub struct ActingWriter<B: BeforeCall> {
-    pub writer: MemWriter,
-    pub before: B,
-}
+impl<B: BeforeCall> PeerWrite for Acting<MemWriter, B> {
+    ghost taken = { λ w. Some w.device.taken };
 
-impl<B: BeforeCall> PeerWrite for ActingWriter<B> {
-    ghost taken = { λ w. Some w.writer.taken };
-
-    ghost failures = { λ w. w.writer.failures };
+    ghost failures = { λ w. w.device.failures };
 
     fn write(&mut self, bytes: &[u8]) -> Result<usize, WriteFailed> {
         self.before.act();
-        self.writer.write(bytes)
+        self.device.write(bytes)
     }
 }

@@ -1,33 +1,28 @@
 //! Connections whose reader and writer are threads: what they ask for, and how they end.
 
-use crate::demos::{Failing, demo, gated, is_served, is_served_over, over_pieces};
+use crate::demos::{Failing, demo, is_served_over, is_told, over_pieces, within};
 use crate::ends::{THREE, THREE_REPLIES};
-use crate::pooled::{Devices, Pooled, serve_pooled};
-use crate::runs::{READS, add_piece, by_bytes, whole};
+use crate::pooled::{Devices, Setup, serve_pooled};
+use crate::runs::{READS, by_bytes, cut, whole};
 use peer_conn::End;
-use peer_fill::{Gate, Report};
-use peer_source::GroupId;
+use peer_fill::Gate;
+use peer_source::{DemoSource, GroupId};
 use peer_view::{MemReader, MemWriter};
 use std::alloc::{AllocError, Global};
+use std::process::Abort;
 use std::sync::Wait;
-use std::test::Fail;
 use std::thread::Threads;
 use stream_model::{ASK_K, Then, Told, add_repeated, add_reply, add_request, repeated, request};
 use test_support::{Step, all_called};
 
 // How many asks the seat of a connection counted, and the pool, for a text in one piece.
-fn asks<H: Threads + Wait + Sync>(
-    rt: &H,
-    alloc: Global,
-    text: &[u8],
-) -> Result<Option<[u64; 2]>, AllocError> {
-    let pieces = whole(alloc, text)?;
-    let run = over_pieces(rt, alloc, demo(2, 0), pieces, Failing::Nothing);
-    Ok(run.map(|run| [run.asked, run.report.asked]))
+fn asks(rt: &(impl Abort + AllocGlobal + Threads + Wait + Sync), text: &[u8]) -> [u64; 2] {
+    let run = over_pieces(rt, demo(2, 0), whole(rt, text), Failing::Nothing);
+    [run.asked, run.report.asked]
 }
 
 #[test]
-fn a_request_with_a_known_group_is_asked_for(rt: HostRuntime) -> Result<(), Fail> {
+fn a_request_with_a_known_group_is_asked_for(rt: HostRuntime) {
     let rows: [(&[u8], u64); 8] = [
         (ASK_K, 1),
         (b"", 0),
@@ -43,182 +38,108 @@ fn a_request_with_a_known_group_is_asked_for(rt: HostRuntime) -> Result<(), Fail
     ];
     for (text, count) in rows {
         let length = text.len();
-        assert_eq!(rt;
-            asks(&rt, rt.alloc(), text)?,
-            Some([count; 2]),
-            "of {length} bytes"
-        );
+        assert_eq!(rt; asks(&rt, text), [count; 2], "of {length} bytes");
     }
-    Ok(())
 }
 
-// GET of the keys 100 to 299 of `echo`.
-fn two_hundred(alloc: Global) -> Result<Vec<u8>, AllocError> {
-    let mut text = Vec::new(alloc);
-    for number in 100..300 {
-        add_ask(alloc, &mut text, number)?;
-    }
-    Ok(text)
-}
-
-// Adds GET of a number of `echo`.
-fn add_ask(alloc: Global, text: &mut Vec<u8>, number: u64) -> Result<(), AllocError> {
+// Adds GET of a number of three digits of `echo`, and its reply.
+fn add_number(
+    alloc: Global,
+    text: &mut Vec<u8>,
+    replies: &mut Vec<u8>,
+    number: u64,
+) -> Result<(), AllocError> {
     let target = format!(in alloc; "/_groupcache/echo/{number}")?;
-    add_request(text, target.as_str())
-}
-
-// The replies.
-fn two_hundred_replies(alloc: Global) -> Result<Vec<u8>, AllocError> {
-    let mut text = Vec::new(alloc);
-    for number in 100..300 {
-        add_value(alloc, &mut text, number)?;
-    }
-    Ok(text)
-}
-
-// Adds the reply with a number of three digits.
-fn add_value(alloc: Global, text: &mut Vec<u8>, number: u64) -> Result<(), AllocError> {
+    add_request(text, target.as_str())?;
     let body = format!(in alloc; "\n\x03{number}")?;
-    add_reply(alloc, text, Then::Stays, Told::Value(body.as_bytes()))
-}
-
-/// How often the seat asked.
-pub fn asked(run: &Option<Pooled<MemReader, MemWriter>>) -> Option<u64> {
-    match run {
-        Some(run) => Some(run.asked),
-        None => None,
-    }
-}
-
-// What was asked for and counted.
-fn counts(run: &Option<Pooled<MemReader, MemWriter>>) -> Option<(u64, Report)> {
-    match run {
-        Some(run) => Some((run.asked, run.report)),
-        None => None,
-    }
+    add_reply(alloc, replies, Then::Stays, Told::Value(body.as_bytes()))
 }
 
 #[test]
-fn more_replies_than_places_come_in_order(rt: HostRuntime) -> Result<(), Fail> {
-    let replies = two_hundred_replies(rt.alloc())?;
-    let pieces = whole(rt.alloc(), &two_hundred(rt.alloc())?)?;
-    let run = over_pieces(&rt, rt.alloc(), demo(2, 0), pieces, Failing::Nothing);
-    let told = is_served(&run, &replies, End::Clean);
-    assert_eq!(rt; (told, counts(&run)), (true, Some((200, all_called(200)))));
-    Ok(())
+fn more_replies_than_places_come_in_order(rt: HostRuntime) {
+    let mut text = Vec::new(rt.alloc());
+    let mut replies = Vec::new(rt.alloc());
+    for number in 100..300 {
+        add_number(rt.alloc(), &mut text, &mut replies, number).expect(&rt, "memory");
+    }
+    let run = over_pieces(&rt, demo(2, 0), whole(&rt, &text), Failing::Nothing);
+    assert!(rt; is_told(&run.served, &replies, End::Clean));
+    assert_eq!(rt; (run.asked, run.report), (200, all_called(200)));
 }
 
 // Whether a writer over two workers that takes seven bytes a call, and fails at this limit, takes the bytes up to it.
-fn is_cut_at<H: Threads + Wait + Sync>(
-    rt: &H,
-    alloc: Global,
+fn is_cut_at(
+    rt: &(impl Abort + AllocGlobal + Threads + Wait + Sync),
     pieces: Vec<Vec<u8>>,
     limit: usize,
     end: End,
 ) -> bool {
     let devices = Devices {
         reader: MemReader::new(pieces, false),
-        writer: MemWriter::new(alloc, 7, Some(limit)),
+        writer: MemWriter::new(rt.alloc(), 7, Some(limit)),
         reads: READS,
     };
-    let run = serve_pooled(rt, alloc, demo(2, 0), devices);
+    let run = serve_pooled(rt, demo(2, 0), devices);
     let (replies, _) = THREE_REPLIES.as_slice().split_at(limit.min(237));
-    is_served(&run, replies, end)
+    is_told(&run.served, replies, end)
 }
 
 // Whether it does so in one piece and byte by byte.
-fn is_cut_both_ways<H: Threads + Wait + Sync>(
-    rt: &H,
-    alloc: Global,
+fn is_cut_both_ways(
+    rt: &(impl Abort + AllocGlobal + Threads + Wait + Sync),
     limit: usize,
     end: End,
-) -> Result<bool, AllocError> {
-    let one = is_cut_at(rt, alloc, whole(alloc, THREE)?, limit, end);
-    let cut = is_cut_at(rt, alloc, by_bytes(alloc, THREE)?, limit, end);
-    Ok(one && cut)
-}
-
-// Whether each limit of a writer gives the bytes up to it and a fault, and one of all bytes no fault.
-fn fails_at_limits<H: Threads + Wait + Sync>(rt: &H, alloc: Global) -> Result<bool, AllocError> {
-    let mut right = is_cut_both_ways(rt, alloc, 237, End::Clean)?;
-    for limit in 0..237 {
-        right &= is_cut_both_ways(rt, alloc, limit, End::WriteFault)?;
-    }
-    Ok(right)
+) -> bool {
+    is_cut_at(rt, whole(rt, THREE), limit, end) && is_cut_at(rt, by_bytes(rt, THREE), limit, end)
 }
 
 #[test]
-fn a_writer_fails_at_each_limit(rt: HostRuntime) -> Result<(), Fail> {
-    assert!(rt; fails_at_limits(&rt, rt.alloc())?);
-    Ok(())
+fn a_writer_fails_at_each_limit(rt: HostRuntime) {
+    let mut right = is_cut_both_ways(&rt, 237, End::Clean);
+    for limit in 0..237 {
+        right &= is_cut_both_ways(&rt, limit, End::WriteFault);
+    }
+    assert!(rt; right);
 }
 
 // Whether a reader over two workers that fails behind this text gets these replies, in one piece and byte by byte.
-fn is_read_fault<H: Threads + Wait + Sync>(
-    rt: &H,
-    alloc: Global,
+fn is_read_fault(
+    rt: &(impl Abort + AllocGlobal + Threads + Wait + Sync),
     text: &[u8],
     replies: &[u8],
-) -> Result<bool, AllocError> {
+) -> bool {
     let told = (replies, End::ReadFault);
-    let pieces = whole(alloc, text)?;
-    let one = is_served_over(rt, alloc, demo(2, 0), pieces, Failing::Reader, told);
-    let pieces = by_bytes(alloc, text)?;
-    let cut = is_served_over(rt, alloc, demo(2, 4), pieces, Failing::Reader, told);
-    Ok(one && cut)
+    is_served_over(rt, demo(2, 0), whole(rt, text), Failing::Reader, told)
+        && is_served_over(rt, demo(2, 4), by_bytes(rt, text), Failing::Reader, told)
 }
 
-// Whether a reader that fails behind each beginning of a text gets its whole replies.
-fn fails_behind_beginnings<H: Threads + Wait + Sync>(
-    rt: &H,
-    alloc: Global,
-) -> Result<bool, AllocError> {
+#[test]
+fn a_reader_fails_behind_each_beginning(rt: HostRuntime) {
     let mut right = true;
     for count in 0..=135 {
         let (text, _) = THREE.as_slice().split_at(count);
         let (replies, _) = THREE_REPLIES.as_slice().split_at(count / 45 * 79);
-        right &= is_read_fault(rt, alloc, text, replies)?;
+        right &= is_read_fault(&rt, text, replies);
     }
-    Ok(right)
+    assert!(rt; right);
 }
 
 #[test]
-fn a_reader_fails_behind_each_beginning(rt: HostRuntime) -> Result<(), Fail> {
-    assert!(rt; fails_behind_beginnings(&rt, rt.alloc())?);
-    Ok(())
-}
-
-#[test]
-fn nothing_is_read_without_reads(rt: HostRuntime) -> Result<(), Fail> {
-    let devices = Devices {
-        reader: MemReader::new(whole(rt.alloc(), ASK_K)?, true),
-        writer: MemWriter::new(rt.alloc(), 4096, None),
-        reads: 0,
-    };
-    let run = serve_pooled(&rt, rt.alloc(), demo(1, 0), devices);
-    let told = is_served(&run, b"", End::Spent);
-    assert_eq!(rt; (told, asked(&run)), (true, Some(0)));
-    Ok(())
-}
-
-// So many requests, one a piece.
-fn one_a_piece(alloc: Global, count: usize) -> Result<Vec<Vec<u8>>, AllocError> {
-    let mut pieces = Vec::new(alloc);
-    for _ in 0..count {
-        add_piece(alloc, &mut pieces, ASK_K)?;
-    }
-    Ok(pieces)
+fn nothing_is_read_without_reads(rt: HostRuntime) {
+    let run = within(&rt, demo(1, 0), whole(&rt, ASK_K), Failing::Reader, 0);
+    assert!(rt; is_told(&run.served, b"", End::Spent));
+    assert_eq!(rt; run.asked, 0);
 }
 
 // The reader is ahead of the writer by a lane of 64 tickets, and by some 200 replies that are gathered.
 #[test]
-fn a_failed_write_stops_the_reader(rt: HostRuntime) -> Result<(), Fail> {
-    let pieces = one_a_piece(rt.alloc(), 5000)?;
-    let run = over_pieces(&rt, rt.alloc(), demo(1, 0), pieces, Failing::Writer(10));
-    assert!(rt; is_served(&run, b"HTTP/1.1 2", End::WriteFault));
-    let asked = asked(&run).unwrap_or(5000);
+fn a_failed_write_stops_the_reader(rt: HostRuntime) {
+    let text = repeated(rt.alloc(), ASK_K, 5000).expect(&rt, "memory");
+    let pieces = cut(&rt, &text, ASK_K.len());
+    let run = over_pieces(&rt, demo(1, 0), pieces, Failing::Writer(10));
+    assert!(rt; is_told(&run.served, b"HTTP/1.1 2", End::WriteFault));
+    let asked = run.asked;
     assert!(rt; asked < 1000, "{asked} asks");
-    Ok(())
 }
 
 // Holds the call for a long value back until the key `last` is called for.
@@ -252,23 +173,22 @@ fn beyond_a_lane(alloc: Global) -> Result<Vec<u8>, AllocError> {
 // A writer that met a fault goes on taking tickets: else the reader would wait for ever. When the first reply is
 // written, the lane is full and the reader has a ticket more.
 #[test]
-fn tickets_are_taken_behind_a_failed_write(rt: HostRuntime) -> Result<(), Fail> {
-    let pieces = whole(rt.alloc(), &beyond_a_lane(rt.alloc())?)?;
+fn tickets_are_taken_behind_a_failed_write(rt: HostRuntime) {
+    let text = beyond_a_lane(rt.alloc()).expect(&rt, "memory");
     let gate = Holding { full: Step::new() };
-    let devices = Devices {
-        reader: MemReader::new(pieces, false),
-        writer: MemWriter::new(rt.alloc(), 4096, Some(10)),
-        reads: READS,
+    let setup = Setup {
+        source: DemoSource,
+        cache_bytes: 0,
+        workers: 2,
+        gate: &gate,
     };
-    let run = serve_pooled(&rt, rt.alloc(), gated(&gate), devices);
-    let told = is_served(&run, b"HTTP/1.1 2", End::WriteFault);
-    assert_eq!(rt; (told, gate.full.has_expired()), (true, false));
-    Ok(())
+    let run = over_pieces(&rt, setup, whole(&rt, &text), Failing::Writer(10));
+    assert!(rt; is_told(&run.served, b"HTTP/1.1 2", End::WriteFault));
+    assert!(rt; !gate.full.has_expired());
 }
 
 #[test]
-fn a_connection_asks_10000_times_at_most(rt: HostRuntime) -> Result<(), Fail> {
-    let text = repeated(rt.alloc(), ASK_K, 10_001)?;
-    assert_eq!(rt; asks(&rt, rt.alloc(), &text)?, Some([10_000; 2]));
-    Ok(())
+fn a_connection_asks_10000_times_at_most(rt: HostRuntime) {
+    let text = repeated(rt.alloc(), ASK_K, 10_001).expect(&rt, "memory");
+    assert_eq!(rt; asks(&rt, &text), [10_000; 2]);
 }

@@ -2,10 +2,8 @@
 
 use crate::runs::{READS, demand_all_ways, demand_told, demand_within, served, whole};
 use peer_conn::End;
-use std::alloc::{AllocError, Global};
 use std::process::Abort;
 use std::sync::Wait;
-use std::test::Fail;
 use std::thread::Threads;
 use stream_model::{FOUND_K, Told, joined, request};
 
@@ -14,12 +12,8 @@ pub const GO_REQUEST: &[u8] =
     b"GET /_groupcache/echo/k HTTP/1.1\r\nHost: 10.0.0.2:8000\r\nUser-Agent: Go-http-client/1.1\r\nAccept-Encoding: gzip\r\n\r\n";
 
 // Demands the value with this body for GET of a target.
-fn demand_body(
-    rt: &(impl Abort + AllocGlobal + Threads + Wait + Sync),
-    target: &str,
-    body: &[u8],
-) -> Result<(), AllocError> {
-    demand_told(rt, target, Told::Value(body))
+fn demand_body(rt: &(impl Abort + AllocGlobal + Threads + Wait + Sync), target: &str, body: &[u8]) {
+    demand_told(rt, target, Told::Value(body));
 }
 
 // Demands the source's error with this text for GET of a target.
@@ -27,37 +21,25 @@ fn demand_error(
     rt: &(impl Abort + AllocGlobal + Threads + Wait + Sync),
     target: &str,
     error: &str,
-) -> Result<(), AllocError> {
-    demand_told(
-        rt,
-        target,
-        Told::Text("500 Internal Server Error", error.as_bytes()),
-    )
+) {
+    let told = Told::Text("500 Internal Server Error", error.as_bytes());
+    demand_told(rt, target, told);
 }
 
-// A prefix, and so many bytes `x`.
-fn filled(alloc: Global, prefix: &[u8], count: usize) -> Result<Vec<u8>, AllocError> {
-    let fill = vec![in alloc; b'x'; count]?;
-    joined(alloc, &[prefix, fill.as_slice()])
-}
-
-// Demands a value of so many letters, whose body begins with this prefix.
+// Demands a value of so many bytes `x`, whose body begins with this prefix, and whose reply has this line.
 fn demand_filled(
     rt: &(impl Abort + AllocGlobal + Threads + Wait + Sync),
     target: &str,
     prefix: &[u8],
     count: usize,
-) -> Result<(), AllocError> {
-    let body = filled(rt.alloc(), prefix, count)?;
-    demand_body(rt, target, &body)
-}
-
-// Whether the reply to GET of a target has this line.
-fn is_told(alloc: Global, target: &str, line: &[u8]) -> Result<bool, AllocError> {
-    let text = request(alloc, target)?;
-    let pieces = whole(alloc, &text)?;
-    let served = served(alloc, pieces, false, READS);
-    Ok(has_line(served.writer.taken(), line))
+    line: &[u8],
+) {
+    let fill = vec![in rt.alloc(); b'x'; count].expect(rt, "memory");
+    let body = joined(rt.alloc(), &[prefix, fill.as_slice()]).expect(rt, "memory");
+    demand_body(rt, target, &body);
+    let text = request(rt.alloc(), target).expect(rt, "memory");
+    let served = served(rt.alloc(), whole(rt, &text), false, READS);
+    assert!(rt; has_line(served.writer.taken(), line), "at {target}");
 }
 
 // A line stands in a text.
@@ -66,40 +48,36 @@ fn has_line(text: &[u8], line: &[u8]) -> bool {
 }
 
 #[test]
-fn answers_what_go_sends(rt: HostRuntime) -> Result<(), Fail> {
-    demand_all_ways(&rt, GO_REQUEST, FOUND_K, End::Clean)?;
-    Ok(())
+fn answers_what_go_sends(rt: HostRuntime) {
+    demand_all_ways(&rt, GO_REQUEST, FOUND_K, End::Clean);
 }
 
 #[test]
-fn reads_no_more_than_it_may(rt: HostRuntime) -> Result<(), Fail> {
-    demand_within(&rt, whole(rt.alloc(), GO_REQUEST)?, 0, b"", End::Spent);
-    demand_within(&rt, whole(rt.alloc(), GO_REQUEST)?, 1, FOUND_K, End::Spent);
-    demand_within(&rt, whole(rt.alloc(), GO_REQUEST)?, 2, FOUND_K, End::Clean);
-    Ok(())
+fn reads_no_more_than_it_may(rt: HostRuntime) {
+    demand_within(&rt, whole(&rt, GO_REQUEST), 0, b"", End::Spent);
+    demand_within(&rt, whole(&rt, GO_REQUEST), 1, FOUND_K, End::Spent);
+    demand_within(&rt, whole(&rt, GO_REQUEST), 2, FOUND_K, End::Clean);
 }
 
 #[test]
-fn echoes_keys(rt: HostRuntime) -> Result<(), Fail> {
-    demand_body(&rt, "/_groupcache/echo/a%2Fb+c", b"\x0A\x05a/b+c")?;
-    demand_body(&rt, "/_groupcache/echo/%ff", b"\x0A\x01\xFF")?;
-    demand_body(&rt, "/%5Fgroupcache/echo%2Fk", b"\x0A\x01k")?;
-    demand_body(&rt, "/_groupcache/echo/%3F?x=%G1", b"\x0A\x01?")?;
-    demand_body(&rt, "/_groupcache/echo/", b"\x0A\x00")?;
-    demand_body(&rt, "http://10.0.0.2:8000/_groupcache/echo/k", b"\x0A\x01k")?;
-    Ok(())
+fn echoes_keys(rt: HostRuntime) {
+    demand_body(&rt, "/_groupcache/echo/a%2Fb+c", b"\x0A\x05a/b+c");
+    demand_body(&rt, "/_groupcache/echo/%ff", b"\x0A\x01\xFF");
+    demand_body(&rt, "/%5Fgroupcache/echo%2Fk", b"\x0A\x01k");
+    demand_body(&rt, "/_groupcache/echo/%3F?x=%G1", b"\x0A\x01?");
+    demand_body(&rt, "/_groupcache/echo/", b"\x0A\x00");
+    demand_body(&rt, "http://10.0.0.2:8000/_groupcache/echo/k", b"\x0A\x01k");
 }
 
 #[test]
-fn squares_numbers(rt: HostRuntime) -> Result<(), Fail> {
-    demand_body(&rt, "/_groupcache/square/12", b"\x0A\x03144")?;
-    demand_body(&rt, "/_groupcache/square/007", b"\x0A\x0249")?;
-    demand_error(&rt, "/_groupcache/square/x", "not a number")?;
-    Ok(())
+fn squares_numbers(rt: HostRuntime) {
+    demand_body(&rt, "/_groupcache/square/12", b"\x0A\x03144");
+    demand_body(&rt, "/_groupcache/square/007", b"\x0A\x0249");
+    demand_error(&rt, "/_groupcache/square/x", "not a number");
 }
 
 #[test]
-fn fills_up_to_the_limit(rt: HostRuntime) -> Result<(), Fail> {
+fn fills_up_to_the_limit(rt: HostRuntime) {
     let rows: [(&str, &[u8], usize, &[u8]); 3] = [
         (
             "/_groupcache/fill/128",
@@ -121,10 +99,8 @@ fn fills_up_to_the_limit(rt: HostRuntime) -> Result<(), Fail> {
         ),
     ];
     for (target, prefix, count, line) in rows {
-        demand_filled(&rt, target, prefix, count)?;
-        assert!(rt; is_told(rt.alloc(), target, line)?, "at {target}");
+        demand_filled(&rt, target, prefix, count, line);
     }
-    demand_error(&rt, "/_groupcache/fill/1048577", "value too long")?;
-    demand_error(&rt, "/_groupcache/fill/2000001", "not a size")?;
-    Ok(())
+    demand_error(&rt, "/_groupcache/fill/1048577", "value too long");
+    demand_error(&rt, "/_groupcache/fill/2000001", "not a size");
 }

@@ -48,8 +48,8 @@ fn address_of(rt: &HostRuntime) -> Option<String> {
 fn serve<
     H: AllocGlobal
         + Print
-        + Net<Listener = TcpListener, Stream = TcpStream>
         + RandomSource
+        + Net<Listener = TcpListener, Stream = TcpStream>
         + Threads
         + Wait
         + Clock

@@ -1,5 +1,6 @@
 use Rattle.std.specs.Prelude.{◌≡◌, ◌+◌, ◌≤◌, All, vec_len, vec_capacity}
-use Rattle.peer_loop.specs.Parts.{all_conn_parts, all_fill_parts, handed_conns, handed_fills, AreSeatsOf}
+use Rattle.peer_fill.specs.Lists.{all_conn_parts, all_fill_parts, AreSeatsOf}
+use Rattle.peer_loop.specs.Parts.{handed_conns, handed_fills}
 use Rattle.peer_loop.proofs.loop_seats.join_loops.Given as goal
 
 abbrev pub invariant-loop-handle : goal.invariant-loop-handle

@@ -1,0 +1,176 @@
+//! The connections of one thread: which of them are to have a turn, and when something is to be given up next.
+//!
+//! It stands on `Link`, a connection and its value. It promises nothing that contracts see: a connection is on the list of
+//! those that are to have a turn once at most, and the time that is told never is too late.
+
+use crate::link::Link;
+use mio::Token;
+use mio::event::Event;
+use peer_source::Source;
+use slab::Slab;
+use std::alloc::{AllocError, Global};
+use std::collections::VecDeque;
+use std::time::Duration;
+
+/// Connections, each under its key.
+#[derive(Drop)]
+pub struct Connections<'a, S: Source> {
+    links: Slab<Link<'a, S>>,
+    // Those that are to have a turn, each once.
+    ready: VecDeque<usize>,
+    // The time since the thread began, as it was when it last waited.
+    now: Duration,
+    // When something is to be given up next. It may be too early, and never is too late.
+    next_due: Option<Duration>,
+}
+
+// The earlier of two times.
+fn earlier(one: Option<Duration>, other: Option<Duration>) -> Option<Duration> {
+    match (one, other) {
+        (Some(a), Some(b)) if b < a => Some(b),
+        (Some(a), _) => Some(a),
+        (None, b) => b,
+    }
+}
+
+impl<'a, S: Source> Connections<'a, S> {
+    /// There is none.
+    pub fn new(alloc: Global) -> Connections<'a, S> {
+        Connections {
+            links: Slab::new(alloc),
+            ready: VecDeque::new(alloc),
+            now: Duration::ZERO,
+            next_due: None,
+        }
+    }
+
+    /// How many there are.
+    pub fn len(&self) -> usize {
+        self.links.len()
+    }
+
+    /// The connection under a key.
+    pub fn get(&self, key: usize) -> Option<&Link<'a, S>> {
+        self.links.get(key)
+    }
+
+    /// The same, to be changed.
+    pub fn get_mut(&mut self, key: usize) -> Option<&mut Link<'a, S>> {
+        self.links.get_mut(key)
+    }
+
+    /// Makes room for one connection more.
+    pub fn reserve(&mut self) -> Result<(), AllocError> {
+        let more = self.links.len().saturating_add(1);
+        self.ready.reserve(more)?;
+        self.links.reserve(1)
+    }
+
+    /// The token of the next connection that is added.
+    pub fn next_token(&self) -> Token {
+        Token(self.links.vacant_key())
+    }
+
+    /// Adds a connection, for which there is room.
+    pub fn add(&mut self, link: Link<'a, S>) {
+        self.next_due = earlier(self.next_due, link.due());
+        let _ = self.links.insert(link);
+    }
+
+    /// Takes a connection out.
+    pub fn remove(&mut self, key: usize) -> Option<Link<'a, S>> {
+        self.links.try_remove(key)
+    }
+
+    /// Lets a connection go.
+    pub fn forget(&mut self, key: usize) {
+        let _ = self.links.try_remove(key);
+    }
+
+    /// Whether one is to have a turn.
+    pub fn is_ready(&self) -> bool {
+        !self.ready.is_empty()
+    }
+
+    /// How many are to have a turn.
+    pub fn ready_count(&self) -> usize {
+        self.ready.len()
+    }
+
+    /// The next that is to have a turn.
+    pub fn next_ready(&mut self) -> Option<usize> {
+        self.ready.pop_front()
+    }
+
+    /// Puts a connection behind those that are to have a turn.
+    pub fn ready(&mut self, key: usize) {
+        if let Some(link) = self.links.get_mut(key) {
+            if !link.is_ready {
+                link.is_ready = self.ready.push_back(key).is_ok();
+            }
+        }
+    }
+
+    /// Notes an event of a connection, which then has its turn.
+    pub fn note(&mut self, event: &Event) {
+        let key = event.token().0;
+        if let Some(link) = self.links.get_mut(key) {
+            link.note(event);
+            self.ready(key);
+        }
+    }
+
+    /// The time.
+    pub fn now(&self) -> Duration {
+        self.now
+    }
+
+    /// How long nothing is to be given up, where values are under way.
+    pub fn time_left(&self) -> Option<Duration> {
+        match self.next_due {
+            Some(due) => Some(due.saturating_sub(self.now)),
+            None => None,
+        }
+    }
+
+    /// Notes when a connection is due.
+    pub fn note_due(&mut self, key: usize) {
+        if let Some(link) = self.links.get(key) {
+            self.next_due = earlier(self.next_due, link.due());
+        }
+    }
+
+    /// It is so late. Has those have a turn that are to be given up.
+    pub fn tell_time(&mut self, now: Duration) {
+        self.now = now;
+        if self.is_due() {
+            self.sweep();
+        }
+    }
+
+    // Whether something is to be given up by now, or was.
+    fn is_due(&self) -> bool {
+        match self.next_due {
+            Some(due) => due <= self.now,
+            None => false,
+        }
+    }
+
+    // Has those have a turn that are to be given up, and looks when the next is. Where there is one, it is swept once more
+    // behind their turn.
+    fn sweep(&mut self) {
+        self.next_due = None;
+        for key in 0..self.links.capacity() {
+            let due = match self.links.get(key) {
+                Some(link) => link.due(),
+                None => None,
+            };
+            self.next_due = earlier(self.next_due, due);
+            if let Some(due) = due {
+                if due <= self.now {
+                    self.ready(key);
+                }
+            }
+        }
+    }
+}

@@ -1,0 +1,140 @@
+//! The jobs of a thread that fetches: they are taken off the pool's queue, and their flights filled.
+//!
+//! It stands on the pool of `peer_fill` and on the values that are under way (`Fetcher`). It promises that the seat stays one
+//! of the pool with its parts, and that a flight is filled with what its group's source may answer.
+ghost use Rattle.std.specs.Prelude.{◌≡◌, IfSome};
+ghost use Rattle.peer_source.specs.Outcomes.{answer_of};
+ghost use Rattle.peer_fill.specs.Pools.{source_of, IsFillSeatOf};
+ghost use Rattle.peer_origin.specs.Origins.{IsOriginAnswer};
+ghost use Rattle.peer_fetch.specs.Threads.{Allows, IsLaterSeat};
+
+use crate::done::{Done, outcome_of};
+use crate::fetcher::Fetcher;
+use crate::opening::System;
+use crate::settings::FetchPlan;
+use peer_fill::{FillSeat, Gate, Pool, TakenJob};
+use peer_host::Network;
+use peer_source::{Outcome, Source};
+use std::alloc::Global;
+use std::sync::Wait;
+use std::sync::ledger::Ledger;
+
+// How many jobs are taken in one turn.
+const JOBS_OF_TURN: usize = 1024;
+
+/// The pool whose jobs are taken, its gate, and what is fetched.
+#[derive(Drop)]
+pub struct Jobs<'p, 'a, S: Source, L: Ledger, G> {
+    pub alloc: Global,
+    pub pool: &'p Pool<S, L>,
+    pub gate: &'p G,
+    pub plan: FetchPlan<'a>,
+}
+
+// Fills the flight of a job: with this outcome, where its group has a place. No job of another group comes here, and one
+// that did would be filled by a call of the source.
+fn fill<'a, S: Source, L: Ledger, G: Gate, H: Wait>(
+    rt: &H,
+    jobs: &Jobs<'_, 'a, S, L, G>,
+    seat: &mut FillSeat<S, L>,
+    job: TakenJob<S>,
+    outcome: Outcome,
+)
+    requires seat { IsFillSeatOf jobs.now.pool.now seat.old }
+    requires answers { Allows (S.answers (source_of jobs.now.pool.now)) jobs.now.plan }
+    requires answer { IfSome (answer_of outcome) IsOriginAnswer }
+    ensures { IsLaterSeat jobs.now.pool.now seat.old seat.new }
+{
+    match jobs.plan.places.of(job.group()) {
+        Some(_) => jobs.pool.finish(rt, seat, job, outcome, jobs.gate),
+        None => jobs.pool.fill_job(rt, jobs.alloc, seat, job, jobs.gate),
+    }
+}
+
+// Fills the flight of a job whose value was fetched, or was not, and counts why it was not.
+fn fill_done<'a, S: Source, L: Ledger, G: Gate, H: Wait>(
+    rt: &H,
+    jobs: &Jobs<'_, 'a, S, L, G>,
+    seat: &mut FillSeat<S, L>,
+    done: Option<Done<'a, S>>,
+)
+    requires seat { IsFillSeatOf jobs.now.pool.now seat.old }
+    requires answers { Allows (S.answers (source_of jobs.now.pool.now)) jobs.now.plan }
+    ensures { IsLaterSeat jobs.now.pool.now seat.old seat.new }
+{
+    let Some(done) = done else {
+        return;
+    };
+    let Done { job, got, .. } = done;
+    if let Err(fault) = &got {
+        jobs.plan.failures.count(fault.kind());
+    }
+    fill(rt, jobs, seat, job, outcome_of(jobs.alloc, got));
+}
+
+// Takes a job, and begins to fetch its value where its group has a place. Whether there was one.
+fn take_job<'a, S: Source, L: Ledger, G: Gate, H: Network>(
+    system: &System<'_, H>,
+    jobs: &Jobs<'_, 'a, S, L, G>,
+    seat: &mut FillSeat<S, L>,
+    fetcher: &mut Fetcher<'a, S>,
+) -> bool
+    requires seat { IsFillSeatOf jobs.now.pool.now seat.old }
+    requires answers { Allows (S.answers (source_of jobs.now.pool.now)) jobs.now.plan }
+    ensures { IsLaterSeat jobs.now.pool.now seat.old seat.new }
+{
+    let Some(job) = jobs.pool.take_job(system.rt, seat, jobs.gate) else {
+        return false;
+    };
+    match jobs.plan.places.of(job.group()) {
+        Some(at) => {
+            let done = fetcher.begin(system, at, job);
+            fill_done(system.rt, jobs, seat, done);
+        }
+        None => jobs
+            .pool
+            .fill_job(system.rt, jobs.alloc, seat, job, jobs.gate),
+    }
+    true
+}
+
+/// Takes jobs while there is room for their values, so many at most. Whether there was one.
+pub fn take_jobs<'a, S: Source, L: Ledger, G: Gate, H: Network>(
+    system: &System<'_, H>,
+    jobs: &Jobs<'_, 'a, S, L, G>,
+    seat: &mut FillSeat<S, L>,
+    fetcher: &mut Fetcher<'a, S>,
+) -> bool
+    requires seat { IsFillSeatOf jobs.now.pool.now seat.old }
+    requires answers { Allows (S.answers (source_of jobs.now.pool.now)) jobs.now.plan }
+    ensures { IsLaterSeat jobs.now.pool.now seat.old seat.new }
+{
+    let mut took = false;
+    for _ in 0..JOBS_OF_TURN {
+        if !fetcher.has_room() || !take_job(system, jobs, seat, fetcher) {
+            return took;
+        }
+        took = true;
+    }
+    took
+}
+
+/// Gives each of those a turn that are to have one by now.
+pub fn serve_ready<'a, S: Source, L: Ledger, G: Gate, H: Network>(
+    system: &System<'_, H>,
+    jobs: &Jobs<'_, 'a, S, L, G>,
+    seat: &mut FillSeat<S, L>,
+    fetcher: &mut Fetcher<'a, S>,
+)
+    requires seat { IsFillSeatOf jobs.now.pool.now seat.old }
+    requires answers { Allows (S.answers (source_of jobs.now.pool.now)) jobs.now.plan }
+    ensures { IsLaterSeat jobs.now.pool.now seat.old seat.new }
+{
+    for _ in 0..fetcher.ready_count() {
+        let Some(key) = fetcher.next_ready() else {
+            return;
+        };
+        let done = fetcher.turn(system, key);
+        fill_done(system.rt, jobs, seat, done);
+    }
+}

@@ -1,0 +1,175 @@
+//! The clients of a loop: which are to have a turn, which wait for a fill, and which for room in the queue of jobs.
+//!
+//! It stands on `Client`, a stream and its connection, and on the lists by slot (`WaitLists`). It promises nothing that
+//! contracts see: a client is on each list once at most, and to list one takes no memory, which is had as it is added.
+
+use crate::client::Client;
+use crate::facts::Facts;
+use crate::wait_lists::WaitLists;
+use mio::event::Event;
+use mio::net::TcpStream;
+use mio::{Registry, Token};
+use peer_exchange::Exchange;
+use peer_source::Source;
+use slab::Slab;
+use std::alloc::{AllocError, Global};
+use std::collections::VecDeque;
+use std::time::Duration;
+
+/// The clients, each under its key.
+#[derive(Drop)]
+pub struct Clients<'a, S: Source, F: Facts<S>> {
+    /// All of them.
+    pub each: Slab<Client<'a, S, F>>,
+    // Those that are to have a turn, each once.
+    ready: VecDeque<usize>,
+    // Those that wait for room in the queue of jobs.
+    for_room: VecDeque<usize>,
+    // Those that wait for a fill.
+    waiting: WaitLists,
+}
+
+impl<'a, S: Source, F: Facts<S>> Clients<'a, S, F> {
+    ghost use Rattle.std.specs.Prelude.{◌≡◌, Some};
+
+    /// There is none.
+    pub fn new(alloc: Global) -> Clients<'a, S, F> {
+        Clients {
+            each: Slab::new(alloc),
+            ready: VecDeque::new(alloc),
+            for_room: VecDeque::new(alloc),
+            waiting: WaitLists::new(alloc),
+        }
+    }
+
+    // Makes room on all lists for one client more.
+    fn reserve(&mut self) -> Result<(), AllocError> {
+        self.each.reserve(1)?;
+        let key = self.each.vacant_key();
+        self.waiting.reserve(key)?;
+        let more = self.each.len().saturating_add(1);
+        self.ready.reserve(more)?;
+        self.for_room.reserve(more)
+    }
+
+    /// Adds a client, and says whether memory and the system allow it.
+    pub fn add(
+        &mut self,
+        registry: &Registry,
+        stream: TcpStream,
+        exchange: Exchange<'a, S>,
+        now: Duration,
+    ) -> bool
+        requires { F.source ≡ Some exchange.names }
+    {
+        if self.reserve().is_err() {
+            return false;
+        }
+        let mut client = Client::new(stream, exchange, now);
+        let token = Token(self.each.vacant_key());
+        client.register(registry, token).is_ok() && self.each.insert(client).is_ok()
+    }
+
+    /// Takes a client out, and off the list of those that wait for a fill.
+    pub fn remove(&mut self, key: usize) -> Option<Client<'a, S, F>> {
+        self.unlist(key);
+        self.each.try_remove(key)
+    }
+
+    /// Whether one is to have a turn.
+    pub fn is_ready(&self) -> bool {
+        !self.ready.is_empty()
+    }
+
+    /// How many are to have a turn.
+    pub fn ready_count(&self) -> usize {
+        self.ready.len()
+    }
+
+    /// The next that is to have a turn.
+    pub fn next_ready(&mut self) -> Option<usize> {
+        self.ready.pop_front()
+    }
+
+    /// Puts a client behind those that are to have a turn.
+    pub fn ready(&mut self, key: usize) {
+        if let Some(client) = self.each.get_mut(key) {
+            if !client.is_ready {
+                client.is_ready = true;
+                let _ = self.ready.push_back(key);
+            }
+        }
+    }
+
+    /// Notes an event of a client, which then has its turn.
+    pub fn note(&mut self, event: &Event) {
+        let key = event.token().0;
+        if let Some(client) = self.each.get_mut(key) {
+            client.note(event);
+            self.ready(key);
+        }
+    }
+
+    /// The number of the flight whose fill a client waits for.
+    pub fn awaits(&self, key: usize) -> Option<u64> {
+        self.each.get(key).and_then(|client| client.awaits())
+    }
+
+    /// Whether one is listed as one that waits for a fill.
+    pub fn has_listed(&self) -> bool {
+        !self.waiting.is_empty()
+    }
+
+    /// Takes a client off the list of those that wait for a fill.
+    pub fn unlist(&mut self, key: usize) {
+        if self.waiting.slot(key).is_some() {
+            self.waiting.remove(key);
+        }
+    }
+
+    /// Lists a client as one that waits for a fill, at the slot of its flight.
+    pub fn list(&mut self, key: usize, slot: usize) {
+        if self.waiting.slot(key) != Some(slot) {
+            self.unlist(key);
+            self.waiting.put(slot, key);
+        }
+    }
+
+    /// Has those have their turn that are listed at a slot.
+    pub fn take_listed(&mut self, slot: usize) {
+        for _ in 0..self.each.capacity() {
+            let Some(key) = self.waiting.pop(slot) else {
+                return;
+            };
+            self.ready(key);
+        }
+    }
+
+    /// Whether one waits for room in the queue of jobs.
+    pub fn has_for_room(&self) -> bool {
+        !self.for_room.is_empty()
+    }
+
+    /// Lists a client as one that waits for room in the queue of jobs.
+    pub fn wait_for_room(&mut self, key: usize) {
+        if let Some(client) = self.each.get_mut(key) {
+            if !client.is_for_room {
+                client.is_for_room = true;
+                let _ = self.for_room.push_back(key);
+            }
+        }
+    }
+
+    /// Has those their turn that waited for room.
+    pub fn room_came(&mut self) {
+        for _ in 0..self.for_room.len() {
+            let Some(key) = self.for_room.pop_front() else {
+                return;
+            };
+            if let Some(client) = self.each.get_mut(key) {
+                client.is_for_room = false;
+            }
+            self.ready(key);
+        }
+    }
+}

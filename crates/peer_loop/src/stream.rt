@@ -1,0 +1,63 @@
+//! What the system reports of a client's stream, and how a stream is read for nothing behind a closing reply.
+
+use crate::client_state::ClientState;
+use crate::limits::{MAX_SKIPPED, ROUNDS_OF_TURN};
+use mio::event::Event;
+use mio::net::TcpStream;
+use std::io;
+use std::io::{ErrorKind, Read};
+
+/// What the system reported, and no call has found otherwise since.
+#[derive(Clone, Copy)]
+pub struct Readiness {
+    pub readable: bool,
+    pub writable: bool,
+    /// The client sends no more.
+    pub read_closed: bool,
+}
+
+impl Readiness {
+    /// Nothing was reported.
+    pub fn unknown() -> Readiness {
+        Readiness {
+            readable: false,
+            writable: false,
+            read_closed: false,
+        }
+    }
+
+    /// Notes what was reported.
+    pub fn note(&mut self, event: &Event) {
+        self.readable |= event.is_readable() || event.is_read_closed() || event.is_error();
+        self.writable |= event.is_writable() || event.is_error();
+        self.read_closed |= event.is_read_closed();
+    }
+}
+
+/// Whether a call of a stream would have to wait.
+pub fn would_block(error: &io::Error) -> bool {
+    error.kind() == ErrorKind::WouldBlock
+}
+
+/// Whether a call of a stream was interrupted, and is to be made again.
+pub fn was_interrupted(error: &io::Error) -> bool {
+    error.kind() == ErrorKind::Interrupted
+}
+
+/// Reads for nothing, as a lingering close does, adds what was read to what was skipped, and says what is waited for.
+pub fn skip(stream: &mut TcpStream, skipped: &mut usize) -> ClientState {
+    let mut room = [0u8; 4096];
+    for _ in 0..ROUNDS_OF_TURN {
+        match stream.read(&mut room) {
+            Ok(0) => return ClientState::Gone,
+            Ok(n) => *skipped = skipped.saturating_add(n),
+            Err(error) if would_block(&error) => return ClientState::Idle,
+            Err(error) if was_interrupted(&error) => {}
+            Err(_) => return ClientState::Gone,
+        }
+        if *skipped > MAX_SKIPPED {
+            return ClientState::Gone;
+        }
+    }
+    ClientState::Busy
+}

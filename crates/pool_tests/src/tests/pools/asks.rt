@@ -1,0 +1,135 @@
+//! What a pool keeps: which asks are hits, what they show, and which value goes first.
+
+use super::desk::{Desk, Steps, run};
+use super::numbering::Numbering;
+use crate::tests::values::{ECHO, value_of};
+use peer_fill::{NoGate, Report};
+use peer_flight::Claim;
+use peer_source::{DemoSource, Source};
+use std::alloc::Global;
+use std::sync::Wait;
+use std::sync::ledger::Ledger;
+use test_support::all_called;
+
+/// What five asks gave: which were hits, and the last byte of what each showed, or 0.
+type Shown = ([bool; 5], [u8; 5]);
+
+// Asks for a key of one byte, and has the worker run behind it: whether it was a hit, and the last byte that it showed.
+fn ask_and_work<S: Source, L: Ledger, R: Wait>(
+    rt: &R,
+    desk: &mut Desk<S, L>,
+    key: u8,
+) -> Option<(bool, u8)> {
+    let claim = desk.ask(rt, ECHO, &[key])?;
+    desk.work(rt, 1, &NoGate);
+    let mut note = claim.note();
+    let value = value_of(claim.look(&mut note)?);
+    let last = value.last().copied().unwrap_or(0);
+    Some((matches!(claim, Claim::Ready(_)), last))
+}
+
+// The same for five keys.
+fn ask_for_each<S: Source, L: Ledger, R: Wait>(
+    rt: &R,
+    desk: &mut Desk<S, L>,
+    keys: &[u8; 5],
+) -> Option<Shown> {
+    let mut hits = [false; 5];
+    let mut lasts = [0; 5];
+    for i in 0..5 {
+        (hits[i], lasts[i]) = ask_and_work(rt, desk, keys[i])?;
+    }
+    Some((hits, lasts))
+}
+
+// Asks for five keys, and once more for the last one, for which no worker runs.
+#[derive(Clone, Copy)]
+struct SixAsks {
+    keys: [u8; 5],
+}
+
+impl Steps for SixAsks {
+    type Source = Numbering;
+
+    type Seen = Shown;
+
+    fn take<L: Ledger, R: Wait>(&self, rt: &R, desk: &mut Desk<Numbering, L>) -> Option<Shown> {
+        let shown = ask_for_each(rt, desk, &self.keys);
+        let _claim = desk.ask(rt, ECHO, &[self.keys[4]]);
+        shown
+    }
+}
+
+// What six asks give of a pool whose caches keep so many bytes, and its report. The first calls of its source fail.
+fn six_asks<R: Wait>(
+    rt: &R,
+    alloc: Global,
+    failures: u64,
+    cache_bytes: u64,
+    keys: &[u8; 5],
+) -> Option<(Shown, Report)> {
+    let source = Numbering::new(2, failures, 0);
+    run(rt, alloc, source, cache_bytes, &SixAsks { keys: *keys })
+}
+
+// What is expected where these asks were hits and showed this, and the report of all six asks, of which so many were
+// hits. Each of the others led, and for so many the source was called.
+fn expected(shown: Shown, hits: u64, led: u64, calls: u64) -> Option<(Shown, Report)> {
+    let report = Report {
+        hits,
+        led,
+        calls,
+        left: led.saturating_sub(calls),
+        ..all_called(6)
+    };
+    Some((shown, report))
+}
+
+#[test]
+fn a_pool_with_cache_0_keeps_nothing(rt: HostRuntime) {
+    let seen = six_asks(&rt, rt.alloc(), 0, 0, b"aabba");
+    assert_eq!(rt; seen, expected(([false; 5], *b"12345"), 0, 6, 5));
+}
+
+#[test]
+fn an_error_is_never_kept(rt: HostRuntime) {
+    let seen = six_asks(&rt, rt.alloc(), 2, 100, b"kkkkk");
+    let hits = [false, false, false, true, true];
+    assert_eq!(rt; seen, expected((hits, *b"\0\0333"), 3, 3, 3));
+}
+
+#[test]
+fn a_value_is_kept_until_it_is_evicted(rt: HostRuntime) {
+    let first = six_asks(&rt, rt.alloc(), 0, 6, b"abaca");
+    let hits = [false, false, true, false, true];
+    assert_eq!(rt; first, expected((hits, *b"12131"), 3, 3, 3));
+    let second = six_asks(&rt, rt.alloc(), 0, 6, b"kkabk");
+    let hits = [false, true, false, false, false];
+    assert_eq!(rt; second, expected((hits, *b"11234"), 2, 4, 4));
+}
+
+/// Asks for three keys, of which two have room.
+struct ThreeKeys;
+
+impl Steps for ThreeKeys {
+    type Source = DemoSource;
+
+    type Seen = Shown;
+
+    fn take<L: Ledger, R: Wait>(&self, rt: &R, desk: &mut Desk<DemoSource, L>) -> Option<Shown> {
+        ask_for_each(rt, desk, b"abcac")
+    }
+}
+
+#[test]
+fn the_oldest_value_goes_first(rt: HostRuntime) {
+    let report = Report {
+        hits: 1,
+        led: 4,
+        calls: 4,
+        ..all_called(5)
+    };
+    let shown = ([false, false, false, false, true], *b"abcac");
+    let seen = run(&rt, rt.alloc(), DemoSource, 4, &ThreeKeys);
+    assert_eq!(rt; seen, Some((shown, report)));
+}

@@ -1,0 +1,210 @@
+//! Jobs whose answers are brought from elsewhere, and jobs that are filled without waiting for more.
+ghost use Rattle.std.specs.Prelude.{◌≤◌, length};
+ghost use Rattle.peer_view.specs.Sinks.{MAX_VALUE};
+
+use super::desk::{Desk, Steps, run};
+use super::numbering::Numbering;
+use crate::tests::values::{ECHO, is_shown, value_of};
+use bytes::Bytes;
+use peer_fill::{Gate, Report, TakenJob};
+use peer_flight::Claim;
+use peer_source::{GroupId, Outcome};
+use peer_view::ByteView;
+use std::alloc::Global;
+use std::sync::Wait;
+use std::sync::atomic::AtomicU64;
+use std::sync::atomic::Ordering::SeqCst;
+use std::sync::ledger::Ledger;
+use test_support::all_called;
+
+// Counts how often it was called.
+#[derive(Drop)]
+struct Counting {
+    before: AtomicU64,
+    after: AtomicU64,
+}
+
+impl Gate for Counting {
+    fn before_call<R: Wait>(&self, _rt: &R, _group: GroupId, _key: &[u8]) {
+        let _ = self.before.fetch_add(1, SeqCst);
+    }
+
+    fn after_put<R: Wait>(&self, _rt: &R, _number: u64, _group: GroupId, _key: &[u8]) {
+        let _ = self.after.fetch_add(1, SeqCst);
+    }
+}
+
+// The value that is brought.
+fn brought() -> ByteView
+    ensures { length result ≤ MAX_VALUE }
+{
+    ByteView::from_shared(Bytes::from_static(b"brought"))
+}
+
+// Finishes the job of this key with this value. Whether the job was there.
+fn bring<L: Ledger, R: Wait>(
+    rt: &R,
+    desk: &mut Desk<Numbering, L>,
+    job: Option<TakenJob<Numbering>>,
+    key: &[u8],
+    gate: &Counting,
+) -> bool {
+    let Some(job) = job else {
+        return false;
+    };
+    let is_own = job.group() == ECHO && job.key() == key;
+    let outcome = Outcome::Found(brought());
+    desk.pool
+        .finish(rt, &mut desk.seats.fill, job, outcome, gate);
+    is_own
+}
+
+// Whether each claim shows the value that is brought.
+fn are_shown(claims: &[Claim<Numbering>; 2]) -> [bool; 2] {
+    [
+        is_shown(&claims[0], b"brought"),
+        is_shown(&claims[1], b"brought"),
+    ]
+}
+
+// What became of two jobs that were taken, the second of which was finished first.
+#[derive(Clone, Copy, Debug, PartialEq, Eq)]
+struct Seen {
+    // Whether a job was there before anybody asked, and behind the two.
+    none: [bool; 2],
+    // Whether each was the job of its key.
+    own: [bool; 2],
+    // Whether each claim shows the value: before, behind the second, and behind both.
+    shown: [[bool; 2]; 3],
+    // Whether the value was kept.
+    hit: bool,
+    // How often the gate was called.
+    gate: [u64; 2],
+    // How many jobs were filled of three, at most two, and then all that were left.
+    filled: [usize; 3],
+    // Whether a job that was filled by a call shows its value, and the caches keep it.
+    called: [bool; 2],
+}
+
+// Takes the jobs of two claims, and finishes the second one first.
+fn bring_both<L: Ledger, R: Wait>(
+    rt: &R,
+    desk: &mut Desk<Numbering, L>,
+    claims: &[Claim<Numbering>; 2],
+    gate: &Counting,
+) -> ([bool; 2], [[bool; 2]; 3], bool) {
+    let first = desk.take_job(rt, gate);
+    let second = desk.take_job(rt, gate);
+    let is_last = desk.take_job(rt, gate).is_none();
+    let before = are_shown(claims);
+    let second_own = bring(rt, desk, second, b"two", gate);
+    let between = are_shown(claims);
+    let first_own = bring(rt, desk, first, b"one", gate);
+    (
+        [first_own, second_own],
+        [before, between, are_shown(claims)],
+        is_last,
+    )
+}
+
+// Leads three flights, and fills their jobs, two at most and then what is left.
+fn work_off<L: Ledger, R: Wait>(
+    rt: &R,
+    desk: &mut Desk<Numbering, L>,
+    gate: &Counting,
+) -> [usize; 3] {
+    for key in [b"three".as_slice(), b"four", b"five"] {
+        let _led = desk.ask(rt, ECHO, key);
+    }
+    let two = desk.work(rt, 2, gate);
+    let one = desk.work(rt, 2, gate);
+    [two, one, desk.work(rt, 2, gate)]
+}
+
+// Takes the job of a flight, and has it filled by a call of the source. Whether its value is shown, and is kept where the
+// caches may keep it.
+fn fill_one<L: Ledger, R: Wait>(
+    rt: &R,
+    desk: &mut Desk<Numbering, L>,
+    gate: &Counting,
+) -> Option<[bool; 2]> {
+    let before = desk.pool.cached_bytes(rt);
+    let claim = desk.ask(rt, ECHO, b"six")?;
+    let job = desk.take_job(rt, gate)?;
+    let fill = &mut desk.seats.fill;
+    desk.pool.fill_job(rt, desk.alloc, fill, job, gate);
+    let mut note = claim.note();
+    let value = value_of(claim.look(&mut note)?);
+    let is_kept = desk.pool.cached_bytes(rt) == before.saturating_add(7);
+    Some([value.starts_with(b"six") && value.len() == 4, is_kept])
+}
+
+/// Asks for two keys whose values are brought, and then for four that are filled.
+struct Brings;
+
+impl Steps for Brings {
+    type Source = Numbering;
+
+    type Seen = Seen;
+
+    fn take<L: Ledger, R: Wait>(&self, rt: &R, desk: &mut Desk<Numbering, L>) -> Option<Seen> {
+        let gate = Counting {
+            before: AtomicU64::new(0),
+            after: AtomicU64::new(0),
+        };
+        let is_empty = desk.take_job(rt, &gate).is_none();
+        let claims = [desk.ask(rt, ECHO, b"one")?, desk.ask(rt, ECHO, b"two")?];
+        let (own, shown, is_last) = bring_both(rt, desk, &claims, &gate);
+        let hit = desk.ask(rt, ECHO, b"two")?;
+        let filled = work_off(rt, desk, &gate);
+        let called = fill_one(rt, desk, &gate)?;
+        Some(Seen {
+            none: [is_empty, is_last],
+            own,
+            shown,
+            hit: matches!(hit, Claim::Ready(_)),
+            gate: [gate.before.load(SeqCst), gate.after.load(SeqCst)],
+            filled,
+            called,
+        })
+    }
+}
+
+// What is seen of a pool whose cache keeps so many bytes, and its report.
+fn with_brought<R: Wait>(rt: &R, alloc: Global, cache_bytes: u64) -> Option<(Seen, Report)> {
+    run(rt, alloc, Numbering::new(2, 0, 0), cache_bytes, &Brings)
+}
+
+// What is expected, where the third ask for a key was a hit or not, so many jobs of three were filled each time, and so
+// many were led.
+fn expected(hit: bool, filled: [usize; 3], led: u64) -> Option<(Seen, Report)> {
+    let seen = Seen {
+        none: [true, true],
+        own: [true, true],
+        shown: [[false, false], [false, true], [true, true]],
+        hit,
+        gate: [led, led],
+        filled,
+        called: [true, hit],
+    };
+    let report = Report {
+        hits: u64::from(hit),
+        led,
+        calls: led,
+        ..all_called(7)
+    };
+    Some((seen, report))
+}
+
+#[test]
+fn a_value_that_is_brought_is_shown_told_and_kept(rt: HostRuntime) {
+    let found = with_brought(&rt, rt.alloc(), 1000);
+    assert_eq!(rt; found, expected(true, [2, 1, 0], 6));
+}
+
+// The key is asked for again behind its flight, which landed: a new one is led.
+#[test]
+fn a_flight_whose_answer_was_brought_has_landed(rt: HostRuntime) {
+    let found = with_brought(&rt, rt.alloc(), 0);
+    assert_eq!(rt; found, expected(false, [2, 2, 0], 7));
+}

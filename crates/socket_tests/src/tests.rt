@@ -1,0 +1,16 @@
+//! What clients of both servers receive, and when servers end: a file for each group of tests, and for what they share.
+
+mod asking;
+mod clients;
+mod crowds;
+mod grouped;
+mod limited;
+mod lingering;
+mod loop_servers;
+mod loops;
+mod meeting;
+mod plans;
+mod servers;
+mod serving;
+mod stopping;
+mod working;

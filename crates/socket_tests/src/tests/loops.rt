@@ -1,0 +1,86 @@
+//! What the server on event loops has alone: counters that it publishes, and numbers that it refuses.
+
+use super::clients::{exchange, listen};
+use super::loop_servers::{Outside, beside, settings_of};
+use super::servers::has_asked;
+use peer_fill::OpenFault;
+use peer_loop::{Fillers, ServerFault, Settings, serve_loops};
+use peer_source::{DemoSource, Source};
+use std::net::{Net, TcpListener, TcpStream};
+use std::random::RandomSource;
+use std::sync::Wait;
+use std::test::Fail;
+use std::thread::Threads;
+use std::time::Clock;
+
+const ASK_TWICE: &[u8] = b"GET /_groupcache/echo/k HTTP/1.1\r\nHost: h\r\n\r\n\
+      GET /_groupcache/echo/k HTTP/1.1\r\nHost: h\r\nConnection: close\r\n\r\n";
+
+#[test]
+fn a_server_publishes_what_it_counts(rt: HostRuntime) -> Result<(), Fail> {
+    let outside = Outside::new();
+    let settings = settings_of(&rt, &outside, 1, 1, 1)?;
+    let (report, _) = beside(&rt, DemoSource, &settings, |address| {
+        exchange(&rt, address, ASK_TWICE)
+    })?;
+    let counts = outside.counters.read();
+    let (loops, workers) = (counts.loops, counts.workers);
+    let parts = loops
+        .hits
+        .wrapping_add(loops.led)
+        .wrapping_add(loops.joined);
+    let jobs = workers.calls.wrapping_add(workers.rehits);
+    assert!(rt; has_asked(&report, loops.asked));
+    assert_eq!(rt;
+        [
+            loops.asked,
+            parts,
+            loops.connections,
+            counts.accepts.accepted
+        ],
+        [2, 2, 0, 1]
+    );
+    assert_eq!(rt; [jobs, counts.accepts.failed], [loops.led, 0]);
+    Ok(())
+}
+
+// Whether a server with these numbers is refused by this fault.
+fn is_refused<
+    S: Source,
+    H: AllocGlobal
+        + RandomSource
+        + Net<Listener = TcpListener, Stream = TcpStream>
+        + Threads
+        + Wait
+        + Clock
+        + Sync,
+>(rt: &H, source: S, fillers: Fillers, loops: usize, fault: OpenFault) -> Result<bool, Fail> {
+    let (listener, _) = listen(rt)?;
+    let outside = Outside::new();
+    let settings = settings_of(rt, &outside, loops, 1, 1)?;
+    let settings = Settings {
+        fillers,
+        ..settings
+    };
+    let answered = serve_loops(rt, rt.alloc(), source, listener, &settings);
+    Ok(match answered {
+        Err(ServerFault::Open(found)) => found == fault,
+        _ => false,
+    })
+}
+
+#[test]
+fn loops_refuse_each_number(rt: HostRuntime) -> Result<(), Fail> {
+    for (fillers, loops, fault) in [
+        (Fillers::Threads(0), 1, OpenFault::Workers),
+        (Fillers::Threads(17), 1, OpenFault::Workers),
+        (Fillers::Threads(1), 0, OpenFault::Conns),
+        (Fillers::Threads(1), 17, OpenFault::Conns),
+        (Fillers::Loops, 0, OpenFault::Workers),
+        (Fillers::Loops, 17, OpenFault::Workers),
+    ] {
+        let refused = is_refused(&rt, DemoSource, fillers, loops, fault)?;
+        assert!(rt; refused, "at {fillers:?} {loops}");
+    }
+    Ok(())
+}
