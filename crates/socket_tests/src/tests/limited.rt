@@ -65,7 +65,7 @@ fn is_served_late<H: AllocGlobal + Net<Listener = TcpListener, Stream = TcpStrea
     rt: &H,
     address: SocketAddr,
 ) -> bool {
-    thread::sleep(rt, Duration::from_millis(500));
+    thread::sleep(rt, Duration::from_millis(1_500));
     is_served(rt, address)
 }
 
@@ -73,7 +73,7 @@ fn is_served_late<H: AllocGlobal + Net<Listener = TcpListener, Stream = TcpStrea
 #[test]
 fn a_client_that_comes_late_is_not_silent(rt: HostRuntime) -> Result<(), Fail> {
     let waits = Waits {
-        silence: Duration::from_millis(200),
+        silence: Duration::from_secs(1),
         ..attentive()
     };
     for kind in [Kind::Seats, Kind::Loops(1)] {
