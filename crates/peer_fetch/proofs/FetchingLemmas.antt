@@ -33,8 +33,8 @@ module _ (request : List ℕ) (sent : ℕ) (came : List ℕ) (first : Option Sil
       sent = take_all sent request whole;
       text = came;
       came = refl;
-      reply = subst (λ t. IsReply t 200 value.items) (append-nil came) (s []);
-      stands = λ untold later. s later;
+      reply = ∣ subst (λ t. IsReply t 200 value.items) (append-nil came) (s []) ∣₁;
+      stands = λ untold later. ∣ s later ∣₁;
       within = within;
     },
   )
@@ -47,7 +47,7 @@ module _ (request : List ℕ) (sent : ℕ) (came : List ℕ) (first : Option Sil
       sent = take_all sent request whole;
       text = came;
       came = refl;
-      reply = r;
+      reply = ∣ r ∣₁;
       stands = λ untold later. absurd (never untold);
       within = within;
     },

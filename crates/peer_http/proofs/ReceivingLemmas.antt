@@ -1,5 +1,8 @@
 -- A reply, read as its bytes come.
-use Rattle.std.proofs.Common.{true, false, ◌≡◌, ℕ, List, [], ◌∷◌, ◌++◌, drop, Option, Some, None, Result, Ok, Err, sym, refl, ap, ◌∙◌, subst, subst₂, arith, append_assoc, append-nil}
+use mathlib.Core.Logic.{∥∥₁_map}
+use Rattle.std.proofs.KnownBytes.{Appends-trans}
+use Rattle.std.specs.Io.KnownBytes.{Appends}
+use Rattle.std.proofs.Common.{true, false, ◌≡◌, ℕ, ◌≤◌, length, IfOk, IfSome, List, [], ◌++◌, drop, Option, Some, None, Result, Ok, Err, sym, refl, ap, ◌∙◌, subst, subst₂, append_assoc, append-nil}
 use Rattle.http1.specs.declared.client.Client.{Client}
 use Rattle.http1.specs.declared.conn.Reading.TheVariants as Reads
 use Rattle.http1.specs.declared.decode.Decoder.{Decoder}
@@ -8,13 +11,13 @@ use Rattle.http1.specs.Body.{body_of}
 use Rattle.http1.specs.Decoder.{Completes, decoder_for, with_front}
 use Rattle.http1.proofs.OneParse.{body_from_completes}
 use Rattle.peer_http.specs.Asks.{LIMITS}
-use Rattle.peer_http.specs.Replies.{Interims, IsReply, RepliesAs, TakesEnd, TakesFinal, TakesNothing, TakesPiece}
+use Rattle.peer_http.specs.Replies.{Interims, IsReply, ReadsOn, TakesEnd, TakesFinal, TakesNothing, TakesPiece}
 use Rattle.peer_http.specs.Receivings.{FindsHead, IsInContent, IsReadTo, IsStanding, Proceeds, TakesContent}
-use Rattle.peer_http.specs.declared.progress.Stage.{Stage}
-use Rattle.peer_http.specs.declared.progress.Stage.TheVariants as stage
+use Rattle.peer_http.specs.declared.stage.Stage.{Stage}
+use Rattle.peer_http.specs.declared.stage.Stage.TheVariants as stage
 use Rattle.peer_http.specs.declared.reply.Reply.{Reply}
-use Rattle.peer_http.specs.declared.reply.ReplyFault.{ReplyFault}
-use Rattle.peer_http.specs.declared.reply.ReplyFault.TheVariants as told
+use Rattle.peer_http.specs.declared.fault.ReplyFault.{ReplyFault}
+use Rattle.peer_http.specs.declared.fault.ReplyFault.TheVariants as told
 use Rattle.peer_http.proofs.ReadLemmas.{accepts_append, interims_append, same_body}
 
 -- the head of the final reply
@@ -84,20 +87,6 @@ closes came status c unread value (d, is, p) until none =
 pub stands_now : (came : List ℕ) (status : ℕ) (value : List ℕ) → IsStanding came status value → IsReply came status value
 stands_now came status value s = subst (λ t. IsReply t status value) (append-nil came) (s [])
 
--- a fault that may come after bytes is not silence
-pub never_silent : (f : ReplyFault) → ((given given' : Option (List ℕ)) → (ends ends' most : ℕ) → RepliesAs given given' ends ends' most (Err f)) → f ≡ told.Silent → ⊥
-never_silent f h e =
-    let none = subst (λ x. RepliesAs (Some []) (Some (0 ∷ [])) 0 0 0 (Err x)) e (h (Some []) (Some (0 ∷ [])) 0 0 0) in
-    grind (arith, none)
-
-other_than : Result Reply ReplyFault → ReplyFault
-other_than (Ok r) = told.Lost
-other_than (Err f) = f
-
-pub no_silence : (f : ReplyFault) → ((given given' : Option (List ℕ)) → (ends ends' most : ℕ) → RepliesAs given given' ends ends' most (Err f)) → (r s : Result Reply ReplyFault) → r ≡ Err f → s ≡ Err told.Silent → r ≡ s → ⊥
-unfolding other_than
-no_silence f h r s is silent e = never_silent f h (ap other_than (sym is ∙ e ∙ silent))
-
 -- no head was found
 pub waits_on : (came : List ℕ) (s : Stage) (c c' : Client) (unread unread' value : List ℕ) → s ≡ stage.Head → FindsHead c' unread unread' (Ok None) → IsReadTo came s c unread value → IsReadTo came s c' unread' value
 waits_on came s c c' unread unread' value is found h =
@@ -125,3 +114,21 @@ module _ (came : List ℕ) (s : Stage) (status : ℕ) (c c' : Client) (unread un
   -- all of it came with the end of the connection
   pub whole_at_end : TakesContent c c' unread unread' value value' (Ok false) → c'.reading ≡ Reads.Body UntilClose → IsReply came status value'
   whole_at_end t until = closes came status c' unread' value' (t.0 came status in_content) until (t.1 in_content.0 in_content.1 until)
+
+-- a read behind bytes that came, which gave these
+module _ (given given' : Option (List ℕ)) (ends ends' : ℕ) (came bytes came' : List ℕ) (most : ℕ) (gave : Appends given given' bytes) (grown : came' ≡ came ++ bytes) where
+  appended : (first : Option (List ℕ)) → Appends first given came → Appends first given' came'
+  appended first before = subst (Appends first given') (sym grown) (Appends-trans first given given' came bytes before gave)
+
+  -- it gave no reply yet, or the whole of one, or none for another reason than silence
+  pub receives : (result : Result (Option Reply) ReplyFault) → ends' ≡ ends → (result ≡ Err told.Silent → ⊥) → IfOk result (λ given?. IfSome given? (λ r. ∥ IsStanding came' r.status r.value.items ∥₁)) → IfOk result (λ given?. IfSome given? (λ r. length r.value.items ≤ most)) → ReadsOn given given' ends ends' came came' most result
+  receives (Ok None) untold loud stands within = (appended, untold)
+  receives (Ok (Some r)) untold loud stands within = λ first before.
+      let now = ∥∥₁_map stands (stands_now came' r.status r.value.items) in
+      ((came', appended first before, (now, λ same later. ∥∥₁_map stands (λ h. h later))), within)
+  receives (Err told.Silent) untold loud stands within = absurd (loud refl)
+  receives (Err told.Lost) untold loud stands within = λ first before. tt
+  receives (Err told.Malformed) untold loud stands within = λ first before. tt
+  receives (Err told.TooLong) untold loud stands within = λ first before. tt
+  receives (Err (told.Status code)) untold loud stands within = λ first before. tt
+  receives (Err told.Memory) untold loud stands within = λ first before. tt

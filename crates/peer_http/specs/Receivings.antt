@@ -8,9 +8,9 @@ use Rattle.http1.specs.Body.{Body}
 use Rattle.http1.specs.Decoder.{Completes}
 use Rattle.peer_http.specs.Asks.{Awaits}
 use Rattle.peer_http.specs.Replies.{Interims, IsReply}
-use Rattle.peer_http.specs.declared.intake.Fault.{Fault}
-use Rattle.peer_http.specs.declared.progress.Stage.{Stage}
-use Rattle.peer_http.specs.declared.progress.Stage.TheVariants as stage
+use Rattle.peer_http.specs.declared.fault.Fault.{Fault}
+use Rattle.peer_http.specs.declared.stage.Stage.{Stage}
+use Rattle.peer_http.specs.declared.stage.Stage.TheVariants as stage
 
 -- whatever makes a whole body of what is unread makes a whole reply of what came
 abbrev pub Proceeds : List ℕ → ℕ → List ℕ → Decoder → List ℕ → Type 0

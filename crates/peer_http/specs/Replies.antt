@@ -1,5 +1,5 @@
 -- The reply that a text begins with: interim responses, and then the final one.
-use Rattle.std.specs.Prelude.{◌≡◌, ℕ, Bool, true, false, ◌<◌, ◌≤◌, List, [], ◌++◌, ◌+◌, drop, length, Option, Some, None, Result, Ok, Err}
+use Rattle.std.specs.Prelude.{◌≡◌, ℕ, Bool, true, false, ◌<◌, ◌≤◌, List, [], ◌++◌, drop, length, Option, Some, None, Result, Ok, Err}
 use Rattle.std.specs.Io.KnownBytes.{Appends}
 use Rattle.httparse.specs.Grammar.{Field, ResponseHead, status_code}
 use Rattle.http1.specs.declared.framing.Framing.{Framing}
@@ -12,14 +12,14 @@ use Rattle.http1.specs.Body.{body_of}
 use Rattle.http1.specs.Decoder.{Completes, Continues, decoder_for}
 use Rattle.http1.specs.Message.{AcceptsResponse, Response, ReadsResponseMessage}
 use Rattle.peer_http.specs.Asks.{LIMITS, Awaits}
-use Rattle.peer_http.specs.declared.intake.Fault.{Fault}
-use Rattle.peer_http.specs.declared.reply.Found.{Found}
-use Rattle.peer_http.specs.declared.reply.Found.TheVariants as find
+use Rattle.peer_http.specs.declared.fault.Fault.{Fault}
+use Rattle.peer_http.specs.declared.heads.Found.{Found}
+use Rattle.peer_http.specs.declared.heads.Found.TheVariants as find
 use Rattle.peer_http.specs.declared.reply.Reply.{Reply}
-use Rattle.peer_http.specs.declared.reply.ReplyFault.{ReplyFault}
-use Rattle.peer_http.specs.declared.reply.ReplyFault.TheVariants as fault
-use Rattle.peer_http.specs.declared.reply.Taken.{Taken}
-use Rattle.peer_http.specs.declared.reply.Taken.TheVariants as take
+use Rattle.peer_http.specs.declared.fault.ReplyFault.{ReplyFault}
+use Rattle.peer_http.specs.declared.fault.ReplyFault.TheVariants as fault
+use Rattle.peer_http.specs.declared.content.Taken.{Taken}
+use Rattle.peer_http.specs.declared.content.Taken.TheVariants as take
 
 -- interim responses stand at the front of the text, and then comes the rest
 pub data Interims (text : List ℕ) : List ℕ → Type 0 where
@@ -40,7 +40,8 @@ pub record IsReply (text : List ℕ) (status : ℕ) (value : List ℕ) : Type 0 
 
 -- the text begins with this reply, and does so whatever comes behind it, unless the end was told
 abbrev pub StandsAs : ℕ → ℕ → List ℕ → ℕ → List ℕ → Type 0
-StandsAs ends ends' text status value = IsReply text status value × (ends' ≡ ends → (later : List ℕ) → IsReply (text ++ later) status value)
+StandsAs ends ends' text status value =
+    ∥ IsReply text status value ∥₁ × (ends' ≡ ends → (later : List ℕ) → ∥ IsReply (text ++ later) status value ∥₁)
 
 -- bytes that were given begin with this reply, whose body is within the limit
 abbrev pub GaveReply : Option (List ℕ) → Option (List ℕ) → ℕ → ℕ → ℕ → Reply → Type 0
@@ -57,31 +58,19 @@ RepliesAs given given' ends ends' most (Err fault.TooLong) = Unit {0}
 RepliesAs given given' ends ends' most (Err (fault.Status code)) = Unit {0}
 RepliesAs given given' ends ends' most (Err fault.Memory) = Unit {0}
 
--- what reading the first bytes answers
-abbrev pub ReadsFirst : Option (List ℕ) → Option (List ℕ) → Result (List ℕ) ReplyFault → Type 0
-ReadsFirst given given' (Ok unread) = Appends given given' unread
-ReadsFirst given given' (Err fault.Silent) = Appends given given' []
-ReadsFirst given given' (Err fault.Lost) = Unit {0}
-ReadsFirst given given' (Err fault.Malformed) = Unit {0}
-ReadsFirst given given' (Err fault.TooLong) = Unit {0}
-ReadsFirst given given' (Err (fault.Status code)) = Unit {0}
-ReadsFirst given given' (Err fault.Memory) = Unit {0}
+-- what a read answers behind bytes that came: the reply, where these and what was read make it, or nothing yet
+abbrev pub ReadsOn : Option (List ℕ) → Option (List ℕ) → ℕ → ℕ → List ℕ → List ℕ → ℕ → Result (Option Reply) ReplyFault → Type 0
+ReadsOn given given' ends ends' came came' most (Ok None) =
+    ((first : Option (List ℕ)) → Appends first given came → Appends first given' came') × (ends' ≡ ends)
+ReadsOn given given' ends ends' came came' most (Ok (Some r)) =
+    (first : Option (List ℕ)) → Appends first given came → RepliesAs first given' ends ends' most (Ok r)
+ReadsOn given given' ends ends' came came' most (Err f) =
+    (first : Option (List ℕ)) → Appends first given came → RepliesAs first given' ends ends' most (Err f)
 
 -- the end of the connection ends a body that runs until then, and nothing else
 abbrev pub EndsHere : Bool → Client → Type 0
 EndsHere true c = c.reading ≡ Reads.Body UntilClose
 EndsHere false c = Unit {0}
-
--- the text has the whole head of the final response, and the client goes on with its body, of which the rest is the front
-pub record IsHeadRead (text rest : List ℕ) (c : Client) (status : ℕ) : Type 0 where
-  pub start : List ℕ
-  pub interims : Interims text start
-  pub head : ResponseHead
-  pub framing : Framing
-  pub accepts : AcceptsResponse LIMITS Other start head framing rest
-  pub final : 200 ≤ status
-  pub code : status ≡ status_code head
-  pub body : c.reading ≡ Reads.Body (decoder_for LIMITS framing)
 
 -- the head of an interim response was taken
 pub record TakesInterim (unread unread' : List ℕ) : Type 0 where
@@ -105,31 +94,6 @@ FindsNext c unread unread' (Ok (find.Final status)) = TakesFinal c unread unread
 FindsNext c unread unread' (Ok find.Interim) = Awaits c × TakesInterim unread unread'
 FindsNext c unread unread' (Ok find.Nothing) = Awaits c × (unread' ≡ unread)
 FindsNext c unread unread' (Err f) = Unit {0}
-
--- what a step before the body does, behind interim responses
-abbrev pub StepsHead : Option (List ℕ) → Option (List ℕ) → Client → List ℕ → List ℕ → Result (Option ℕ) Fault → Type 0
-StepsHead given given' c unread unread' (Ok (Some status)) = Appends given given' [] × TakesFinal c unread unread' status
-StepsHead given given' c unread unread' (Ok None) =
-    Awaits c × ((text : List ℕ) → Interims text unread → (bytes : List ℕ) × Appends given given' bytes × Interims (text ++ bytes) unread')
-StepsHead given given' c unread unread' (Err f) = Unit {0}
-
--- what reading a head answers, of what was read before and what came
-abbrev pub ReadsHeadAs : Option (List ℕ) → Option (List ℕ) → List ℕ → List ℕ → Client → Result ℕ Fault → Type 0
-ReadsHeadAs given given' unread unread' c (Ok status) =
-    (text : List ℕ) × Appends given given' text × IsHeadRead (unread ++ text) unread' c status
-ReadsHeadAs given given' unread unread' c (Err f) = Unit {0}
-
--- what was read and what came make a whole body of these bytes
-abbrev pub ReadsBodyAs : Option (List ℕ) → Option (List ℕ) → ℕ → ℕ → List ℕ → Decoder → List ℕ → Type 0
-ReadsBodyAs given given' ends ends' unread d value =
-    (text : List ℕ) × (trailers : List Field) × (rest : List ℕ) × Appends given given' text
-    × Completes d (unread ++ text) (body_of value trailers) rest
-    × (ends' ≡ ends → (later : List ℕ) → Completes d ((unread ++ text) ++ later) (body_of value trailers) (rest ++ later))
-
--- a client that goes on with a body reads the whole of it
-abbrev pub ReadsContent : Option (List ℕ) → Option (List ℕ) → ℕ → ℕ → List ℕ → Client → List ℕ → Type 0
-ReadsContent given given' ends ends' unread c value = (d : Decoder) → c.reading ≡ Reads.Body d
-    → ReadsBodyAs given given' ends ends' unread d value
 
 -- a piece of the body was taken
 pub record TakesPiece (d : Decoder) (c : Client) (unread unread' value value' : List ℕ) : Type 0 where
@@ -164,38 +128,3 @@ TakesAs c d unread unread' value value' (Err f) = Unit {0}
 abbrev pub TakesNext : Client → Client → List ℕ → List ℕ → List ℕ → List ℕ → Result Taken Fault → Type 0
 TakesNext old new unread unread' value value' result =
     (d : Decoder) → old.reading ≡ Reads.Body d → TakesAs new d unread unread' value value' result
-
--- what reading on within a body adds, where it did not end with the connection
-abbrev pub FillsBody : Option (List ℕ) → Option (List ℕ) → ℕ → ℕ → Client → Client → List ℕ → List ℕ → Result Bool Fault → Type 0
-FillsBody given given' ends ends' old new unread unread' (Ok true) =
-    ((bytes : List ℕ) × Appends given given' bytes × (unread' ≡ unread ++ bytes)) × (new ≡ old) × (ends' ≡ ends)
-FillsBody given given' ends ends' old new unread unread' (Ok false) =
-    Appends given given' [] × (old.reading ≡ Reads.Body UntilClose) × (ends' ≡ ends + 1)
-FillsBody given given' ends ends' old new unread unread' (Err f) = Unit {0}
-
--- a piece was taken, and bytes came behind what is left
-pub record GoesFurther (given given' : Option (List ℕ)) (d : Decoder) (c : Client) (unread unread' value value' : List ℕ) : Type 0 where
-  pub left : List ℕ
-  pub taken : TakesPiece d c unread left value value'
-  pub bytes : List ℕ
-  pub came : Appends given given' bytes
-  pub joined : unread' ≡ left ++ bytes
-
--- the body ended, with a last piece
-pub record GoesToEnd (given given' : Option (List ℕ)) (ends ends' : ℕ) (d : Decoder) (unread value value' : List ℕ) : Type 0 where
-  pub piece : List ℕ
-  pub trailers : List Field
-  pub rest : List ℕ
-  pub came : Appends given given' []
-  pub completes : Completes d (unread ++ []) (body_of piece trailers) rest
-  pub stands : ends' ≡ ends → (later : List ℕ) → Completes d (unread ++ later) (body_of piece trailers) (rest ++ later)
-  pub grown : value' ≡ value ++ piece
-
--- what a step within a body does
-abbrev pub StepsBody : Option (List ℕ) → Option (List ℕ) → ℕ → ℕ → Client → Client → List ℕ → List ℕ → List ℕ → List ℕ
-    → Result Bool Fault → Type 0
-StepsBody given given' ends ends' old new unread unread' value value' (Ok false) =
-    ((d : Decoder) → old.reading ≡ Reads.Body d → GoesFurther given given' d new unread unread' value value') × (ends' ≡ ends)
-StepsBody given given' ends ends' old new unread unread' value value' (Ok true) =
-    (d : Decoder) → old.reading ≡ Reads.Body d → GoesToEnd given given' ends ends' d unread value value'
-StepsBody given given' ends ends' old new unread unread' value value' (Err f) = Unit {0}

@@ -1,34 +1,14 @@
 //! The bytes of a connection that were read and not taken yet.
-ghost use Rattle.std.specs.Prelude.{◌≡◌, ◌+◌, ◌-◌, ◌^◌, ◌<◌, ◌≤◌, ◌++◌, [], drop, length, OnOk};
-ghost use Rattle.peer_http.specs.Intakes.{Fills, end_told};
+ghost use Rattle.std.specs.Prelude.{◌≡◌, ◌≤◌, ◌++◌, [], drop, length, OnOk};
 
-use peer_view::PeerRead;
 use std::alloc::{AllocError, Global};
 use std::marker::Model;
 
-// Why a reply could not be read on.
-#[derive(Clone, Copy, Debug, PartialEq, Eq)]
-pub enum Fault {
-    // The connection ended, or a read failed.
-    Lost,
-    // What came is no reply, by the rules of `http1`.
-    Malformed,
-    // The body is longer than was allowed.
-    TooLong,
-    // Memory was refused.
-    Memory,
-}
-
-// How many bytes a read may give.
-const ROOM: usize = 32_768;
-
-/// The bytes that were read and not taken yet, for contracts; and room for a read, once there was one.
+/// The bytes that were read and not taken yet, for contracts.
 #[derive(Drop)]
 pub struct Intake {
-    alloc: Global,
     bytes: Vec<u8>,
     from: usize,
-    room: Vec<u8>,
 }
 
 impl Model for Intake {
@@ -39,16 +19,6 @@ impl Model for Intake {
     ghost view = { λ i. drop i.from i.bytes.items };
 
     ghost invariant = { λ i. i.from ≤ length i.bytes.items };
-}
-
-// Makes room for a read, where there is none.
-fn make_room(alloc: Global, room: &mut Vec<u8>) -> Result<(), AllocError>
-    ensures { OnOk result (0 < length room.new.items) }
-{
-    if room.is_empty() {
-        *room = vec![in alloc; 0; ROOM]?;
-    }
-    Ok(())
 }
 
 // Puts bytes behind those that were read, of which some were taken.
@@ -70,10 +40,8 @@ impl Intake {
         ensures { result ≡ [] }
     {
         Intake {
-            alloc,
             bytes: Vec::new(alloc),
             from: 0,
-            room: Vec::new(alloc),
         }
     }
 
@@ -97,28 +65,5 @@ impl Intake {
         ensures { OnOk result (self.new ≡ self.old ++ bytes.now) }
     {
         put_behind(&mut self.bytes, &mut self.from, bytes)
-    }
-
-    /// Reads once, and says whether bytes came: else the end was told.
-    pub fn fill<R: PeerRead>(&mut self, reader: &mut R) -> Result<bool, Fault>
-        requires { R.calls reader.old < 2 ^ 64 - 1 }
-        ensures calls { R.calls reader.new ≤ R.calls reader.old + 1 }
-        ensures fills { Fills (R.given reader.old) (R.given reader.new) self.old self.new result }
-        ensures ended { R.ends reader.new ≡ R.ends reader.old + end_told result }
-        ensures unfailed { OnOk result (R.failures reader.new ≡ R.failures reader.old) }
-    {
-        if make_room(self.alloc, &mut self.room).is_err() {
-            return Err(Fault::Memory);
-        }
-        let Ok(n) = reader.read(&mut self.room) else {
-            return Err(Fault::Lost);
-        };
-        if n == 0 {
-            return Ok(false);
-        }
-        match put_behind(&mut self.bytes, &mut self.from, &self.room[..n]) {
-            Ok(()) => Ok(true),
-            Err(_) => Err(Fault::Memory),
-        }
     }
 }

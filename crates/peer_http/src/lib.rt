@@ -5,12 +5,16 @@
 //! same holds of a reply as a state, `Receiving`, whose bytes come as they may.
 #![tactic(auto)]
 
+mod content;
+mod fault;
+mod heads;
 mod intake;
-mod progress;
 mod receiving;
 mod reply;
 mod request;
+mod stage;
 
+pub use fault::ReplyFault;
 pub use receiving::Receiving;
-pub use reply::{Reply, ReplyFault, read_reply};
+pub use reply::{Reply, read_reply};
 pub use request::{Asked, ask};

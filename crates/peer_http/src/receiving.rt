@@ -1,22 +1,28 @@
 //! A reply as a state, without input: its bytes come, and once it is whole it is given.
 //!
-//! It stands on the heads and the content of `reply`, and on a history of the bytes that came, which only contracts see.
+//! It stands on `heads` and `content`, and on a history of the bytes that came, which only contracts see.
 //! It promises of a reply that is given that the bytes that came begin with it.
-ghost use Rattle.std.specs.Prelude.{◌≡◌, ◌≤◌, ◌++◌, [], length, Err, IfOk, IfSome, IsTrue};
+ghost use Rattle.std.specs.Prelude.{◌≡◌, ◌≢◌, ◌≤◌, ◌++◌, [], length, Err, IfOk, IfSome, IsTrue};
 ghost use Rattle.peer_http.specs.Asks.{Awaits};
 ghost use Rattle.peer_http.specs.Receivings.{IsReadTo, IsStanding};
 ghost use Rattle.peer_http.specs.Replies.{IsReply};
-ghost use Rattle.peer_http.specs.declared.progress.Stage.TheVariants as at;
-ghost use Rattle.peer_http.specs.declared.reply.ReplyFault.TheVariants as told;
+ghost use Rattle.peer_http.specs.declared.stage.Stage.TheVariants as at;
+ghost use Rattle.peer_http.specs.declared.fault.ReplyFault.TheVariants as told;
 
-use crate::intake::{Fault, Intake};
-use crate::progress::{Stage, find_head, take_content};
-use crate::reply::{FIELDS, Reply, ReplyFault, content_fault, ends_here, reply_fault, room_for};
+use crate::content::{ends_here, room_for, take_content};
+use crate::fault::{Fault, ReplyFault, content_fault, reply_fault};
+use crate::heads::find_head;
+use crate::intake::Intake;
+use crate::reply::Reply;
+use crate::stage::Stage;
 use http1::Client;
 use httparse::spans::EMPTY_HEADER_SPAN;
 use peer_view::History;
 use std::alloc::Global;
 use std::mem;
+
+// How many fields a head, or a trailer section, may have.
+const FIELDS: usize = 128;
 
 /// A reply that is read as its bytes come.
 #[derive(Drop)]
@@ -58,6 +64,7 @@ impl Receiving {
     fn push(&mut self, bytes: &[u8]) -> Result<(), ReplyFault>
         ensures came { self.new.came.bytes ≡ self.old.came.bytes ++ bytes.now }
         ensures most { self.new.most ≡ self.old.most }
+        ensures silent { result ≢ Err told.Silent }
     {
         self.silent &= bytes.is_empty();
         self.came = self.came.and(bytes);
@@ -74,6 +81,7 @@ impl Receiving {
     fn read_head(&mut self) -> Result<(), ReplyFault>
         ensures came { self.new.came.bytes ≡ self.old.came.bytes }
         ensures most { self.new.most ≡ self.old.most }
+        ensures silent { result ≢ Err told.Silent }
     {
         let Stage::Head = self.stage else {
             return Ok(());
@@ -119,6 +127,7 @@ impl Receiving {
     fn read_content(&mut self) -> Result<Option<Reply>, ReplyFault>
         ensures came { self.new.came.bytes ≡ self.old.came.bytes }
         ensures most { self.new.most ≡ self.old.most }
+        ensures silent { result ≢ Err told.Silent }
         ensures reply { IfOk result (λ given. IfSome given (λ r. ∥ IsStanding self.new.came.bytes r.status r.value.items ∥₁)) }
         ensures within { IfOk result (λ given. IfSome given (λ r. length r.value.items ≤ self.new.most)) }
     {
@@ -150,6 +159,7 @@ impl Receiving {
     pub fn receive(&mut self, bytes: &[u8]) -> Result<Option<Reply>, ReplyFault>
         ensures came { self.new.came.bytes ≡ self.old.came.bytes ++ bytes.now }
         ensures most { self.new.most ≡ self.old.most }
+        ensures silent { result ≢ Err told.Silent }
         ensures reply { IfOk result (λ given. IfSome given (λ r. ∥ IsStanding self.new.came.bytes r.status r.value.items ∥₁)) }
         ensures within { IfOk result (λ given. IfSome given (λ r. length r.value.items ≤ self.new.most)) }
     {

@@ -75,7 +75,7 @@ told_never (Some bytes) ends e = grind (arith, e)
 -- a whole reply makes an attempt that found its value, or failed for its status
 pub replied : (blank : Option (List ℕ)) (request : List ℕ) (us us' : List Use) (u₀ u : Use) (ends ends' : ℕ) (r : Reply) (result : Result (Vec ℕ Global) Failure) → u₀.sent ≡ blank → u₀.came ≡ blank → ends ≡ 0 → (u.ends ≡ Some 0 → ends' ≡ 0) → us' ≡ u ∷ us → ExchangesAs request u₀ u ends ends' (Ok r) → IfOk result (λ v. (v.items ≡ r.value.items) × (r.status ≡ 200)) → (result ≡ Err fail.Silent → ⊥) → AttemptsAs blank request us us' result
 replied blank request us us' u₀ u ends ends' r (Ok v) unsent uncome zero never grown ((rest, moves, whole), ((text, came, (reply, stands)), within)) (same, status) silent =
-    let fits : (t : List ℕ) → IsReply t r.status r.value.items → IsReply t 200 v.items = λ t i. subst₂ (IsReply t) status (sym same) i in (
+    let fits : (t : List ℕ) → ∥ IsReply t r.status r.value.items ∥₁ → ∥ IsReply t 200 v.items ∥₁ = λ t i. subst₂ (λ s x. ∥ IsReply t s x ∥₁) status (sym same) i in (
       u,
       grown,
       (rest, subst (λ b. Moves b u.sent request rest) unsent moves),

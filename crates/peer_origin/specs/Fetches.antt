@@ -10,7 +10,7 @@ use Rattle.peer_view.specs.declared.reader.PeerRead as Read
 use Rattle.peer_view.specs.declared.writer.PeerWrite as Write
 use Rattle.peer_http.specs.Replies.{IsReply, RepliesAs}
 use Rattle.peer_http.specs.declared.reply.Reply.{Reply}
-use Rattle.peer_http.specs.declared.reply.ReplyFault.{ReplyFault}
+use Rattle.peer_http.specs.declared.fault.ReplyFault.{ReplyFault}
 use Rattle.peer_origin.specs.declared.connections.Connection.{Connection}
 use Rattle.peer_origin.specs.declared.fault.FetchFault.{FetchFault}
 use Rattle.peer_origin.specs.declared.exchange.Failure.{Failure}
@@ -52,8 +52,8 @@ pub record IsFoundBy (blank : Option (List ℕ)) (request : List ℕ) (u : Use) 
   pub sent : Appends blank u.sent request
   pub text : List ℕ
   pub came : Appends blank u.came text
-  pub reply : IsReply text 200 value
-  pub stands : u.ends ≡ Some 0 → (later : List ℕ) → IsReply (text ++ later) 200 value
+  pub reply : ∥ IsReply text 200 value ∥₁
+  pub stands : u.ends ≡ Some 0 → (later : List ℕ) → ∥ IsReply (text ++ later) 200 value ∥₁
   pub within : length value ≤ MAX_VALUE
 
 -- the uses before a fetch and after it: none more, one, or a second one behind one on which nothing came

@@ -1,7 +1,7 @@
 //! The fetch of a value: a request for its key, and one more where a kept connection ended before a byte of the reply.
 ghost use Rattle.std.specs.Prelude.{◌≡◌, ◌≢◌, ◌+◌, ◌-◌, ◌^◌, ◌<◌, ◌≤◌, length, Err, IfOk};
 ghost use Rattle.peer_http.specs.Asks.{Awaits, IsAsked, request_for};
-ghost use Rattle.peer_http.specs.declared.reply.ReplyFault.TheVariants as told;
+ghost use Rattle.peer_http.specs.declared.fault.ReplyFault.TheVariants as told;
 ghost use Rattle.peer_origin.specs.declared.exchange.Failure.TheVariants as fail;
 ghost use Rattle.peer_origin.specs.Fetches.{AttemptsAs, ExchangesAs, Fetches, FetchesAnew, IsUnused, use_of};
 ghost use Rattle.peer_origin.specs.Targets.{target_of};

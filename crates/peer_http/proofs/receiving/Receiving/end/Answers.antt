@@ -1,8 +1,8 @@
 use mathlib.Core.Logic.{∥∥₁_map}
-use Rattle.std.proofs.Common.{Ok, refl, sym, subst, subst₂}
+use Rattle.std.proofs.Common.{Ok, sym, subst, subst₂}
 use Rattle.peer_http.specs.Receivings.{TakesContent}
 use Rattle.peer_http.specs.Replies.{EndsHere, IsReply}
-use Rattle.peer_http.proofs.ReceivingLemmas.{no_silence, stands_now, whole, whole_at_end}
+use Rattle.peer_http.proofs.ReceivingLemmas.{stands_now, whole, whole_at_end}
 use Rattle.peer_http.proofs.receiving.Receiving.end.Goals as goal
 
 pub returns-in-Ok-true-clause-reply : goal.returns-in-Ok-true-clause-reply
@@ -21,9 +21,3 @@ returns-in-Ok-false-clause-reply c =
     let closes = subst (λ x. EndsHere x new.client) c.if-ends_here.true c.ends_here.ensures in
     ∥∥₁_map r.reads (λ h. subst₂ (IsReply r.came.bytes) (sym c.give-in-Ok-false.ensures.status) (sym c.give-in-Ok-false.ensures.value)
     (whole_at_end r.came.bytes r.stage c.in-Content.status r.client new.client r.intake new.intake r.value.items new.value.items c.in-Content.is h taken closes))
-
-pub returns-in-Ok-false-2-clause-silent : goal.returns-in-Ok-false-2-clause-silent
-returns-in-Ok-false-2-clause-silent c = λ e. absurd (no_silence c.content_fault.result c.content_fault.ensures _ _ refl refl e)
-
-pub returns-in-Err-clause-silent : goal.returns-in-Err-clause-silent
-returns-in-Err-clause-silent c = λ e. absurd (no_silence c.content_fault-in-Err.result c.content_fault-in-Err.ensures _ _ refl refl e)

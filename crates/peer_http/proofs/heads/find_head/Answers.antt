@@ -1,7 +1,7 @@
 use Rattle.std.proofs.Common.{subst, sym, Ok}
 use Rattle.peer_http.specs.Replies.{FindsNext, Interims, more}
 use Rattle.peer_http.proofs.ReceivingLemmas.{begins}
-use Rattle.peer_http.proofs.progress.find_head.Goals as goal
+use Rattle.peer_http.proofs.heads.find_head.Goals as goal
 
 pub loop-head-init : goal.loop-head-init
 loop-head-init c = record { awaits = c.requires; keeps = λ came h. h }

@@ -2,7 +2,7 @@ use Rattle.std.proofs.Common.{◌≡◌, ℕ, List, ◌≤◌, length}
 use Rattle.http1.specs.declared.conn.Reading.TheVariants as Reads
 use Rattle.http1.specs.declared.decode.Decoder.{Decoder}
 use Rattle.peer_http.specs.Receivings.{IsInContent}
-use Rattle.peer_http.proofs.progress.take_content.Given as goal
+use Rattle.peer_http.proofs.content.take_content.Given as goal
 
 abbrev pub invariant-loop-piece : goal.invariant-loop-piece
 invariant-loop-piece l = record {

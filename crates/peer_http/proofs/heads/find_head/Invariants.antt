@@ -1,7 +1,7 @@
 use Rattle.std.proofs.Common.{ℕ, List}
 use Rattle.peer_http.specs.Asks.{Awaits}
 use Rattle.peer_http.specs.Replies.{Interims}
-use Rattle.peer_http.proofs.progress.find_head.Given as goal
+use Rattle.peer_http.proofs.heads.find_head.Given as goal
 
 abbrev pub invariant-loop-head : goal.invariant-loop-head
 invariant-loop-head l = record {

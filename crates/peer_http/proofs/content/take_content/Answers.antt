@@ -2,9 +2,9 @@ use Rattle.std.proofs.Common.{◌≡◌, subst, Ok}
 use Rattle.http1.specs.declared.conn.Reading.TheVariants as Reads
 use Rattle.http1.specs.declared.decode.Decoder.{Decoder}
 use Rattle.peer_http.specs.Replies.{TakesAs}
-use Rattle.peer_http.specs.declared.reply.Taken.TheVariants as take
+use Rattle.peer_http.specs.declared.content.Taken.TheVariants as take
 use Rattle.peer_http.proofs.ReceivingLemmas.{goes, ends, drains}
-use Rattle.peer_http.proofs.progress.take_content.Goals as goal
+use Rattle.peer_http.proofs.content.take_content.Goals as goal
 
 pub loop-piece-init : goal.loop-piece-init
 loop-piece-init c = record { within = c.requires; reads = λ d is. (d, is); keeps = λ came status h. h }
