@@ -80,15 +80,12 @@ fn see<H: AllocGlobal + Net<Listener = TcpListener, Stream = TcpStream> + Wait +
 }
 
 // Serves while the clients are there, and gives what they saw.
-fn serve<
-    H: AllocGlobal
-        + RandomSource
-        + Net<Listener = TcpListener, Stream = TcpStream>
-        + Threads
-        + Wait
-        + Clock
-        + Sync,
->(rt: &H) -> Option<[bool; 5]> {
+fn serve<H: Net<Listener = TcpListener, Stream = TcpStream> + Threads + Wait + Clock + Sync>(
+    rt: &H,
+) -> Option<[bool; 5]>
+where
+    H: AllocGlobal + RandomSource,
+{
     let listener = TcpListener::bind(rt, "127.0.0.1:0").ok()?;
     let address = listener.local_addr().ok()?;
     let keys = RandomState::new(rt).ok()?;
