@@ -45,16 +45,13 @@ fn address_of(rt: &HostRuntime) -> Option<String> {
 }
 
 // Serves the address, and says how much was asked.
-fn serve<
-    H: AllocGlobal
-        + Print
-        + RandomSource
-        + Net<Listener = TcpListener, Stream = TcpStream>
-        + Threads
-        + Wait
-        + Clock
-        + Sync,
->(rt: &H, address: &str) -> Option<()> {
+fn serve<H: Net<Listener = TcpListener, Stream = TcpStream> + Threads + Wait + Clock + Sync>(
+    rt: &H,
+    address: &str,
+) -> Option<()>
+where
+    H: AllocGlobal + Print + RandomSource,
+{
     let listener = TcpListener::bind(rt, address).ok()?;
     let seed = RandomState::new(rt).ok()?;
     let report = peer_server(
