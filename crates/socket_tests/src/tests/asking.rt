@@ -2,19 +2,16 @@
 
 use super::clients::{ASK_LAST, FOUND_LAST, connect, receive, send};
 use super::plans::{Kind, plan_of};
-use super::servers::{beside, has_asked};
-use peer_source::{DemoSource, Source};
+use super::servers::{beside, beside_both, has_asked};
 use std::alloc::Global;
 use std::hint::spin_loop;
 use std::io::Read;
 use std::net::{Net, SocketAddr, TcpListener, TcpStream};
-use std::random::RandomSource;
 use std::sync::Wait;
 use std::sync::atomic::AtomicBool;
 use std::sync::atomic::Ordering::SeqCst;
 use std::test::Fail;
 use std::thread;
-use std::thread::Threads;
 use std::time::{Clock, Duration};
 use test_support::{Hook, Hooked};
 
@@ -59,30 +56,11 @@ pub fn ask_each<H: AllocGlobal + Net<Listener = TcpListener, Stream = TcpStream>
     }
 }
 
-// Whether a server with this source answers a client that asks for so many keys, one after the other.
-fn answers_each<
-    S: Source,
-    H: AllocGlobal
-        + RandomSource
-        + Net<Listener = TcpListener, Stream = TcpStream>
-        + Threads
-        + Wait
-        + Clock
-        + Sync,
->(rt: &H, source: S, kind: Kind, count: u32) -> Result<[bool; 2], Fail> {
-    let plan = plan_of(rt, 1, 1, 1)?;
-    let (report, asked) = beside(rt, source, kind, &plan, |address| {
-        ask_each(rt, address, count)
-    })?;
-    Ok([asked, has_asked(&report, count as u64)])
-}
-
 #[test]
 fn one_client_is_woken_for_each_of_a_thousand_keys(rt: HostRuntime) -> Result<(), Fail> {
-    for kind in [Kind::Seats, Kind::Loops(1)] {
-        let seen = answers_each(&rt, DemoSource, kind, 1_100)?;
-        assert_eq!(rt; seen, [true; 2], "at {kind:?}");
-    }
+    let plan = plan_of(&rt, 1, 1, 1)?;
+    let seen = beside_both(&rt, &plan, 1_100, |address| ask_each(&rt, address, 1_100))?;
+    assert_eq!(rt; seen, [(true, true); 2]);
     Ok(())
 }
 
@@ -110,9 +88,17 @@ impl Hook for Sweeping {
 
 #[test]
 fn a_fill_comes_at_each_moment_of_falling_asleep(rt: HostRuntime) -> Result<(), Fail> {
-    for kind in [Kind::Seats, Kind::Loops(1)] {
-        let seen = answers_each(&rt, Hooked { hook: Sweeping }, kind, 9_999)?;
-        assert_eq!(rt; seen, [true; 2], "at {kind:?}");
+    let plan = plan_of(&rt, 1, 1, 1)?;
+    for kind in [Kind::Seats, Kind::Loops] {
+        let source = Hooked { hook: Sweeping };
+        let (report, asked) = beside(&rt, source, kind, &plan, |address| {
+            ask_each(&rt, address, 9_999)
+        })?;
+        assert_eq!(rt;
+            [asked, has_asked(&report, 9_999)],
+            [true; 2],
+            "at {kind:?}"
+        );
     }
     Ok(())
 }
@@ -180,17 +166,9 @@ pub fn six_ask<H: AllocGlobal + Net<Listener = TcpListener, Stream = TcpStream> 
 
 #[test]
 fn six_clients_ask_for_the_same_keys_at_once(rt: HostRuntime) -> Result<(), Fail> {
-    for kind in [Kind::Seats, Kind::Loops(3)] {
-        let plan = plan_of(&rt, 1, 6, 1)?;
-        let (report, seen) = beside(&rt, DemoSource, kind, &plan, |address| {
-            six_ask(&rt, address, 0)
-        })?;
-        assert_eq!(rt;
-            (seen, has_asked(&report, 6 * 701)),
-            ([true; 2], true),
-            "at {kind:?}"
-        );
-    }
+    let plan = plan_of(&rt, 1, 6, 1)?.on_loops(3);
+    let seen = beside_both(&rt, &plan, 6 * 701, |address| six_ask(&rt, address, 0))?;
+    assert_eq!(rt; seen, [([true; 2], true); 2]);
     Ok(())
 }
 
@@ -214,14 +192,13 @@ impl Hook for Gated<'_> {
 
 // So many clients ask for so many keys of their own each, and for one more. Then the gate is opened, and each gets its
 // replies.
-fn each_asks<
-    H: AllocGlobal
-        + Net<Listener = TcpListener, Stream = TcpStream>
-        + Threads
-        + Wait
-        + Clock
-        + Sync,
->(rt: &H, address: SocketAddr, count: u32, keys: u32, open: &AtomicBool) -> Option<bool> {
+fn each_asks<H: AllocGlobal + Net<Listener = TcpListener, Stream = TcpStream> + Wait + Clock>(
+    rt: &H,
+    address: SocketAddr,
+    count: u32,
+    keys: u32,
+    open: &AtomicBool,
+) -> Option<bool> {
     let mut clients = Vec::new(rt.alloc());
     for number in 0..count {
         let stream = connect(rt, address)?;
@@ -247,7 +224,7 @@ fn each_asks<
 fn more_clients_ask_than_the_queue_has_room_for(rt: HostRuntime) -> Result<(), Fail> {
     for (kind, clients, keys, asked) in [
         (Kind::Seats, 16u32, 40, 16 * 41),
-        (Kind::Loops(1), 300u32, 8, 300 * 9),
+        (Kind::Loops, 300u32, 8, 300 * 9),
     ] {
         let open = AtomicBool::new(false);
         let plan = plan_of(&rt, 1, clients as usize, 1)?;

@@ -14,7 +14,7 @@ const FOUND_SQUARE: &[u8] =
 
 #[test]
 fn each_group_keeps_its_value(rt: HostRuntime) -> Result<(), Fail> {
-    for kind in [Kind::Seats, Kind::Loops(1)] {
+    for kind in [Kind::Seats, Kind::Loops] {
         let plan = plan_of(&rt, 1, 1, 4)?.caching(1000);
         let (report, seen) = beside(&rt, DemoSource, kind, &plan, |address| {
             [

@@ -2,60 +2,42 @@
 
 use super::clients::{ASK, FOUND, connect, drips_in_vain, exchange, is_served, is_text, send};
 use super::plans::{Kind, Waits, attentive, plan_of};
-use super::servers::{beside, has_asked};
+use super::servers::{beside, beside_both, has_asked};
 use peer_source::DemoSource;
 use std::net::{Net, SocketAddr, TcpListener, TcpStream};
-use std::random::RandomSource;
 use std::sync::Wait;
 use std::test::Fail;
 use std::thread;
-use std::thread::Threads;
 use std::time::{Clock, Duration};
 
 // A request that came whole, and the beginning of another.
 const ASK_AND_MORE: &[u8] = b"GET /_groupcache/echo/k HTTP/1.1\r\nHost: h\r\n\r\nGET /_gr";
 
-// Whether a client that sends this and is silent then has its reply and loses its place, and the next one has its own.
-fn gives_up_silent<
-    H: AllocGlobal
-        + RandomSource
-        + Net<Listener = TcpListener, Stream = TcpStream>
-        + Threads
-        + Wait
-        + Clock
-        + Sync,
->(rt: &H, kind: Kind, waits: Waits, bytes: &[u8]) -> Result<[bool; 3], Fail> {
-    let plan = plan_of(rt, 1, 1, 2)?.within(waits);
-    let (report, seen) = beside(rt, DemoSource, kind, &plan, |address| {
-        [
-            is_text(&exchange(rt, address, bytes), FOUND),
-            is_served(rt, address),
-        ]
-    })?;
-    Ok([seen[0], seen[1], has_asked(&report, 2)])
-}
-
+// Each client sends a request, or the beginning of another too, and is silent then: it has its reply and loses its place, and
+// the next one has its own.
 #[test]
 fn a_silent_client_is_closed(rt: HostRuntime) -> Result<(), Fail> {
     let time = Duration::from_millis(100);
-    for (kind, bytes) in [
-        (Kind::Seats, ASK),
-        (Kind::Seats, ASK_AND_MORE),
-        (Kind::Loops(1), ASK),
-        (Kind::Loops(1), ASK_AND_MORE),
+    let always = Waits {
+        silence: time,
+        ..attentive()
+    };
+    let when_full = Waits {
+        silence_when_full: time,
+        ..attentive()
+    };
+    for (when, waits, bytes) in [
+        ("always", always, ASK),
+        ("always, within a request", always, ASK_AND_MORE),
+        ("when full", when_full, ASK),
+        ("when full, within a request", when_full, ASK_AND_MORE),
     ] {
-        let always = Waits {
-            silence: time,
-            ..attentive()
-        };
-        let seen = gives_up_silent(&rt, kind, always, bytes)?;
-        assert_eq!(rt; seen, [true; 3], "at {kind:?}");
-        let when_full = Waits {
-            silence_when_full: time,
-            ..attentive()
-        };
-        let seen = gives_up_silent(&rt, kind, when_full, bytes)?;
-        assert_eq!(rt; seen, [true; 3], "when full at {kind:?}");
+        let plan = plan_of(&rt, 1, 1, 2)?.within(waits);
+        let seen = beside_both(&rt, &plan, 2, |address| {
+            let answered = is_text(&exchange(&rt, address, bytes), FOUND);
+            [answered, is_served(&rt, address)]
+        })?;
+        assert_eq!(rt; seen, [([true; 2], true); 2], "{when}");
     }
     Ok(())
 }
@@ -76,17 +58,11 @@ fn a_client_that_comes_late_is_not_silent(rt: HostRuntime) -> Result<(), Fail> {
         silence: Duration::from_secs(1),
         ..attentive()
     };
-    for kind in [Kind::Seats, Kind::Loops(1)] {
-        let plan = plan_of(&rt, 1, 1, 2)?.within(waits);
-        let (report, seen) = beside(&rt, DemoSource, kind, &plan, |address| {
-            [is_served_late(&rt, address), is_served_late(&rt, address)]
-        })?;
-        assert_eq!(rt;
-            (seen, has_asked(&report, 2)),
-            ([true; 2], true),
-            "at {kind:?}"
-        );
-    }
+    let plan = plan_of(&rt, 1, 1, 2)?.within(waits);
+    let seen = beside_both(&rt, &plan, 2, |address| {
+        [is_served_late(&rt, address), is_served_late(&rt, address)]
+    })?;
+    assert_eq!(rt; seen, [([true; 2], true); 2]);
     Ok(())
 }
 
@@ -103,21 +79,15 @@ fn drip<H: AllocGlobal + Net<Listener = TcpListener, Stream = TcpStream> + Wait 
 
 #[test]
 fn a_slow_client_is_closed(rt: HostRuntime) -> Result<(), Fail> {
-    for kind in [Kind::Seats, Kind::Loops(1)] {
-        let waits = Waits {
-            request_when_full: Duration::from_millis(100),
-            ..attentive()
-        };
-        let plan = plan_of(&rt, 1, 1, 2)?.within(waits);
-        let (report, seen) = beside(&rt, DemoSource, kind, &plan, |address| {
-            [drip(&rt, address), is_served(&rt, address)]
-        })?;
-        assert_eq!(rt;
-            (seen, has_asked(&report, 1)),
-            ([true; 2], true),
-            "at {kind:?}"
-        );
-    }
+    let waits = Waits {
+        request_when_full: Duration::from_millis(100),
+        ..attentive()
+    };
+    let plan = plan_of(&rt, 1, 1, 2)?.within(waits);
+    let seen = beside_both(&rt, &plan, 1, |address| {
+        [drip(&rt, address), is_served(&rt, address)]
+    })?;
+    assert_eq!(rt; seen, [([true; 2], true); 2]);
     Ok(())
 }
 
@@ -142,7 +112,7 @@ fn ask_beside_greedy<
 // A loop judges no more requests of a client that takes nothing than it has room for.
 #[test]
 fn a_client_that_takes_nothing_is_closed(rt: HostRuntime) -> Result<(), Fail> {
-    for (kind, count) in [(Kind::Seats, 8), (Kind::Loops(1), 64)] {
+    for (kind, count) in [(Kind::Seats, 8), (Kind::Loops, 64)] {
         let waits = Waits {
             unread: Duration::from_millis(100),
             ..attentive()
@@ -153,7 +123,7 @@ fn a_client_that_takes_nothing_is_closed(rt: HostRuntime) -> Result<(), Fail> {
         })?;
         assert_eq!(rt; seen, [true; 2], "at {kind:?}");
         let counted = match kind {
-            Kind::Loops(_) => report.is_some(),
+            Kind::Loops => report.is_some(),
             _ => has_asked(&report, 9),
         };
         assert!(rt; counted, "at {kind:?}");

@@ -3,9 +3,8 @@
 use super::clients::{
     ASK_LAST, FOUND_LAST, connect, drips_in_vain, is_served, is_text, receive, send,
 };
-use super::plans::{Kind, Waits, attentive, plan_of};
-use super::servers::{beside, has_asked};
-use peer_source::DemoSource;
+use super::plans::{Waits, attentive, plan_of};
+use super::servers::beside_both;
 use std::net::{Net, SocketAddr, TcpListener, TcpStream};
 use std::sync::Wait;
 use std::test::Fail;
@@ -26,20 +25,14 @@ fn is_answered_whole<
 
 #[test]
 fn what_was_not_read_resets_no_closing_reply(rt: HostRuntime) -> Result<(), Fail> {
-    for kind in [Kind::Seats, Kind::Loops(1)] {
-        let plan = plan_of(&rt, 1, 1, 2)?;
-        let (report, seen) = beside(&rt, DemoSource, kind, &plan, |address| {
-            [
-                is_answered_whole(&rt, address),
-                is_answered_whole(&rt, address),
-            ]
-        })?;
-        assert_eq!(rt;
-            (seen, has_asked(&report, 2)),
-            ([true; 2], true),
-            "at {kind:?}"
-        );
-    }
+    let plan = plan_of(&rt, 1, 1, 2)?;
+    let seen = beside_both(&rt, &plan, 2, |address| {
+        [
+            is_answered_whole(&rt, address),
+            is_answered_whole(&rt, address),
+        ]
+    })?;
+    assert_eq!(rt; seen, [([true; 2], true); 2]);
     Ok(())
 }
 
@@ -60,20 +53,14 @@ fn drip_behind<H: AllocGlobal + Net<Listener = TcpListener, Stream = TcpStream> 
 
 #[test]
 fn a_client_that_drips_is_not_read_for_ever(rt: HostRuntime) -> Result<(), Fail> {
-    for kind in [Kind::Seats, Kind::Loops(1)] {
-        let waits = Waits {
-            linger: Duration::from_millis(200),
-            ..attentive()
-        };
-        let plan = plan_of(&rt, 1, 1, 2)?.within(waits);
-        let (report, seen) = beside(&rt, DemoSource, kind, &plan, |address| {
-            [drip_behind(&rt, address), is_served(&rt, address)]
-        })?;
-        assert_eq!(rt;
-            (seen, has_asked(&report, 2)),
-            ([true; 2], true),
-            "at {kind:?}"
-        );
-    }
+    let waits = Waits {
+        linger: Duration::from_millis(200),
+        ..attentive()
+    };
+    let plan = plan_of(&rt, 1, 1, 2)?.within(waits);
+    let seen = beside_both(&rt, &plan, 2, |address| {
+        [drip_behind(&rt, address), is_served(&rt, address)]
+    })?;
+    assert_eq!(rt; seen, [([true; 2], true); 2]);
     Ok(())
 }

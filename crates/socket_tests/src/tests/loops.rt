@@ -1,13 +1,13 @@
 //! What the server on event loops has alone: counters that it publishes, and numbers that it refuses.
 
 use super::clients::{exchange, listen};
-use super::loop_servers::{Outside, beside, settings_of};
+use super::loop_servers::{Outside, beside_loops, settings_of};
+use super::plans::{Plan, plan_of};
 use super::servers::has_asked;
 use peer_fill::OpenFault;
 use peer_loop::{Fillers, ServerFault, Settings, serve_loops};
-use peer_source::{DemoSource, Source};
+use peer_source::DemoSource;
 use std::net::{Net, TcpListener, TcpStream};
-use std::random::RandomSource;
 use std::sync::Wait;
 use std::test::Fail;
 use std::thread::Threads;
@@ -19,8 +19,8 @@ const ASK_TWICE: &[u8] = b"GET /_groupcache/echo/k HTTP/1.1\r\nHost: h\r\n\r\n\
 #[test]
 fn a_server_publishes_what_it_counts(rt: HostRuntime) -> Result<(), Fail> {
     let outside = Outside::new();
-    let settings = settings_of(&rt, &outside, 1, 1, 1)?;
-    let (report, _) = beside(&rt, DemoSource, &settings, |address| {
+    let settings = settings_of(&outside, &plan_of(&rt, 1, 1, 1)?);
+    let (report, _) = beside_loops(&rt, DemoSource, &settings, |address| {
         exchange(&rt, address, ASK_TWICE)
     })?;
     let counts = outside.counters.read();
@@ -45,24 +45,22 @@ fn a_server_publishes_what_it_counts(rt: HostRuntime) -> Result<(), Fail> {
 }
 
 // Whether a server with these numbers is refused by this fault.
-fn is_refused<
-    S: Source,
-    H: AllocGlobal
-        + RandomSource
-        + Net<Listener = TcpListener, Stream = TcpStream>
-        + Threads
-        + Wait
-        + Clock
-        + Sync,
->(rt: &H, source: S, fillers: Fillers, loops: usize, fault: OpenFault) -> Result<bool, Fail> {
+fn is_refused<H: Net<Listener = TcpListener, Stream = TcpStream> + Threads + Wait + Clock + Sync>(
+    rt: &H,
+    plan: &Plan,
+    fillers: Fillers,
+    fault: OpenFault,
+) -> Result<bool, Fail>
+where
+    H: AllocGlobal,
+{
     let (listener, _) = listen(rt)?;
     let outside = Outside::new();
-    let settings = settings_of(rt, &outside, loops, 1, 1)?;
     let settings = Settings {
         fillers,
-        ..settings
+        ..settings_of(&outside, plan)
     };
-    let answered = serve_loops(rt, rt.alloc(), source, listener, &settings);
+    let answered = serve_loops(rt, rt.alloc(), DemoSource, listener, &settings);
     Ok(match answered {
         Err(ServerFault::Open(found)) => found == fault,
         _ => false,
@@ -79,7 +77,8 @@ fn loops_refuse_each_number(rt: HostRuntime) -> Result<(), Fail> {
         (Fillers::Loops, 0, OpenFault::Workers),
         (Fillers::Loops, 17, OpenFault::Workers),
     ] {
-        let refused = is_refused(&rt, DemoSource, fillers, loops, fault)?;
+        let plan = plan_of(&rt, 1, 1, 1)?.on_loops(loops);
+        let refused = is_refused(&rt, &plan, fillers, fault)?;
         assert!(rt; refused, "at {fillers:?} {loops}");
     }
     Ok(())

@@ -67,8 +67,8 @@ fn a_fill_waits_for_that_of_another_connection(rt: HostRuntime) -> Result<(), Fa
     for (kind, later_first) in [
         (Kind::Usual, true),
         (Kind::Seats, false),
-        (Kind::Loops(1), true),
-        (Kind::Loops(1), false),
+        (Kind::Loops, true),
+        (Kind::Loops, false),
     ] {
         let called = Step::new();
         let plan = plan_of(&rt, 2, 2, 1)?;

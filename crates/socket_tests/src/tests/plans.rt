@@ -12,8 +12,8 @@ pub enum Kind {
     Usual,
     /// The same, with the limits of the plan.
     Seats,
-    /// So many event loops, with the limits of the plan.
-    Loops(usize),
+    /// Event loops, with the limits of the plan.
+    Loops,
 }
 
 /// How long clients are waited for.
@@ -52,6 +52,8 @@ pub fn attentive() -> Waits {
 /// How a server serves.
 #[derive(Clone, Copy)]
 pub struct Plan {
+    /// How many event loops serve, where loops do.
+    pub loops: usize,
     /// How many threads call the source.
     pub workers: usize,
     /// How many connections are served at one moment.
@@ -69,6 +71,11 @@ impl Plan {
         Plan { waits, ..self }
     }
 
+    /// The same server, which serves on so many loops where loops serve.
+    pub fn on_loops(self, loops: usize) -> Plan {
+        Plan { loops, ..self }
+    }
+
     /// The same server, whose caches keep so many bytes each.
     pub fn caching(self, cache_bytes: u64) -> Plan {
         Plan {
@@ -78,7 +85,7 @@ impl Plan {
     }
 }
 
-/// A patient server with these numbers, and with no cache.
+/// A patient server with these numbers, with one loop and with no cache.
 pub fn plan_of(
     rt: &impl RandomSource,
     workers: usize,
@@ -86,6 +93,7 @@ pub fn plan_of(
     rounds: u64,
 ) -> io::Result<Plan> {
     Ok(Plan {
+        loops: 1,
         workers,
         connections,
         rounds,

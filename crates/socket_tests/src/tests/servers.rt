@@ -1,11 +1,12 @@
 //! Servers of each kind in threads of their own, beside their clients.
 
 use super::clients::listen;
-use super::loop_servers::serve_on_loops;
+use super::loop_servers::{Outside, settings_of};
 use super::plans::{Kind, Plan, Waits};
 use peer_fill::Report;
+use peer_loop::serve_loops;
 use peer_socket::{Limits, Settings, peer_server, serve_within};
-use peer_source::Source;
+use peer_source::{DemoSource, Source};
 use std::net::{Net, SocketAddr, TcpListener, TcpStream};
 use std::sync::Wait;
 use std::test::Fail;
@@ -27,94 +28,77 @@ fn limits_of(waits: Waits) -> Limits {
     }
 }
 
-// Serves in threads, with the limits of the plan.
-fn serve_on_seats<
-    S: Source,
-    H: AllocGlobal
-        + Net<Listener = TcpListener, Stream = TcpStream>
-        + Threads
-        + Wait
-        + Clock
-        + Sync,
->(rt: &H, source: S, listener: TcpListener, plan: &Plan) -> Option<Report> {
-    let settings = Settings {
+// A server in threads that serves as the plan says.
+fn seats_of(plan: &Plan) -> Settings {
+    Settings {
         workers: plan.workers,
         conns: plan.connections,
         rounds: plan.rounds,
         cache_bytes: plan.cache_bytes,
         seed: plan.seed,
         limits: limits_of(plan.waits),
-    };
-    serve_within(rt, rt.alloc(), source, listener, &settings).ok()
-}
-
-// Serves in threads, with the limits for everyone.
-fn serve_as_usual<
-    S: Source,
-    H: AllocGlobal
-        + Net<Listener = TcpListener, Stream = TcpStream>
-        + Threads
-        + Wait
-        + Clock
-        + Sync,
->(rt: &H, source: S, listener: TcpListener, plan: &Plan) -> Option<Report> {
-    peer_server(
-        rt,
-        rt.alloc(),
-        source,
-        listener,
-        plan.workers,
-        plan.connections,
-        plan.rounds,
-        plan.cache_bytes,
-        plan.seed,
-    )
-    .ok()
+    }
 }
 
 // Serves as the plan says.
 fn serve<
     S: Source,
-    H: AllocGlobal
-        + Net<Listener = TcpListener, Stream = TcpStream>
-        + Threads
-        + Wait
-        + Clock
-        + Sync,
->(rt: &H, source: S, listener: TcpListener, kind: Kind, plan: &Plan) -> Option<Report> {
+    H: Net<Listener = TcpListener, Stream = TcpStream> + Threads + Wait + Clock + Sync,
+>(rt: &H, source: S, listener: TcpListener, kind: Kind, plan: &Plan) -> Option<Report>
+where
+    H: AllocGlobal,
+{
+    let alloc = rt.alloc();
     match kind {
-        Kind::Usual => serve_as_usual(rt, source, listener, plan),
-        Kind::Seats => serve_on_seats(rt, source, listener, plan),
-        Kind::Loops(loops) => serve_on_loops(rt, source, listener, loops, plan),
+        Kind::Usual => peer_server(
+            rt,
+            alloc,
+            source,
+            listener,
+            plan.workers,
+            plan.connections,
+            plan.rounds,
+            plan.cache_bytes,
+            plan.seed,
+        )
+        .ok(),
+        Kind::Seats => serve_within(rt, alloc, source, listener, &seats_of(plan)).ok(),
+        Kind::Loops => {
+            let outside = Outside::new();
+            serve_loops(rt, alloc, source, listener, &settings_of(&outside, plan)).ok()
+        }
     }
 }
 
-/// What a server answers that serves while clients run, and what they answer.
+/// What a server answers that serves at a free port while clients run, and what they answer, who were told its address.
 pub fn run_both<
     T,
-    F: FnOnce() -> Option<Report> + Send,
-    C: FnOnce() -> T,
-    H: Threads + Wait + Sync,
->(rt: &H, serve: F, clients: C) -> (Option<Report>, T)
-    requires serve { F.pre serve }
-    requires clients { C.pre clients }
+    F: FnOnce(TcpListener) -> Option<Report> + Send,
+    C: FnOnce(SocketAddr) -> T,
+    H: Net<Listener = TcpListener, Stream = TcpStream> + Threads + Wait + Clock + Sync,
+>(rt: &H, serve: F, clients: C) -> Result<(Option<Report>, T), Fail>
+where
+    H: AllocGlobal,
+    requires serve { F.IsAlwaysCallable serve }
+    requires clients { C.IsAlwaysCallable clients }
 {
-    thread::scope(
+    let (listener, address) = listen(rt)?;
+    Ok(thread::scope(
         thread::scope_env(),
         rt,
         move |scope| -> (Option<Report>, T)
-            requires serve { F.pre serve }
-            requires clients { C.pre clients }
+            requires serve { F.IsAlwaysCallable serve }
+            requires clients { C.IsAlwaysCallable clients }
         {
-            match scope.spawn(serve) {
+            match scope.spawn(move || serve(listener)) {
                 Ok(server) => {
-                    let seen = clients();
+                    let seen = clients(address);
                     (server.join(rt), seen)
                 }
-                Err(_) => (None, clients()),
+                Err(_) => (None, clients(address)),
             }
         },
-    )
+    ))
 }
 
 /// The report of a server that serves as the plan says, and what its clients answered, who were told its address.
@@ -122,18 +106,45 @@ pub fn beside<
     S: Source,
     T,
     C: FnOnce(SocketAddr) -> T,
-    H: AllocGlobal
-        + Net<Listener = TcpListener, Stream = TcpStream>
-        + Threads
-        + Wait
-        + Clock
-        + Sync,
+    H: Net<Listener = TcpListener, Stream = TcpStream> + Threads + Wait + Clock + Sync,
 >(rt: &H, source: S, kind: Kind, plan: &Plan, clients: C) -> Result<(Option<Report>, T), Fail>
+where
+    H: AllocGlobal,
     requires { C.IsAlwaysCallable clients }
 {
-    let (listener, address) = listen(rt)?;
-    let serve = move || serve(rt, source, listener, kind, plan);
-    Ok(run_both(rt, serve, || clients(address)))
+    let serve = move |listener| serve(rt, source, listener, kind, plan);
+    run_both(rt, serve, clients)
+}
+
+/// What the clients of a server in threads answered, and those of one on loops: each with whether its server counted so many
+/// requests.
+pub fn beside_both<
+    T: Copy,
+    C: Fn(SocketAddr) -> T,
+    H: Net<Listener = TcpListener, Stream = TcpStream> + Threads + Wait + Clock + Sync,
+>(rt: &H, plan: &Plan, asked: u64, clients: C) -> Result<[(T, bool); 2], Fail>
+where
+    H: AllocGlobal,
+    requires { C.IsAlwaysCallable clients }
+{
+    let (threads, one) = beside(
+        rt,
+        DemoSource,
+        Kind::Seats,
+        plan,
+        |address| clients(address),
+    )?;
+    let (loops, other) = beside(
+        rt,
+        DemoSource,
+        Kind::Loops,
+        plan,
+        |address| clients(address),
+    )?;
+    Ok([
+        (one, has_asked(&threads, asked)),
+        (other, has_asked(&loops, asked)),
+    ])
 }
 
 /// Whether the report is of so many requests, none of them a stranger's.

@@ -5,7 +5,7 @@ use super::clients::{
     listen, receive, send, served_client,
 };
 use super::plans::{Kind, plan_of};
-use super::servers::{beside, has_asked, has_totals};
+use super::servers::{beside, beside_both, has_asked, has_totals};
 use peer_fill::{OpenFault, Report};
 use peer_socket::{ServerFault, peer_server};
 use peer_source::DemoSource;
@@ -29,8 +29,8 @@ fn a_client_asks_twice(rt: HostRuntime) -> Result<(), Fail> {
     for (kind, cache_bytes) in [
         (Kind::Usual, 1_048_576),
         (Kind::Seats, 0),
-        (Kind::Loops(1), 0),
-        (Kind::Loops(1), 1_048_576),
+        (Kind::Loops, 0),
+        (Kind::Loops, 1_048_576),
     ] {
         let plan = plan_of(&rt, 2, 1, 1)?.caching(cache_bytes);
         let (report, received) = beside(&rt, DemoSource, kind, &plan, |address| {
@@ -72,7 +72,7 @@ fn ask_behind<H: AllocGlobal + Net<Listener = TcpListener, Stream = TcpStream> +
 
 #[test]
 fn a_value_that_was_served_is_in_the_cache(rt: HostRuntime) -> Result<(), Fail> {
-    for kind in [Kind::Usual, Kind::Seats, Kind::Loops(1)] {
+    for kind in [Kind::Usual, Kind::Seats, Kind::Loops] {
         let plan = plan_of(&rt, 2, 1, 1)?.caching(1_048_576);
         let (report, served) = beside(&rt, DemoSource, kind, &plan, |address| {
             ask_behind(&rt, address)
@@ -83,31 +83,31 @@ fn a_value_that_was_served_is_in_the_cache(rt: HostRuntime) -> Result<(), Fail> 
     Ok(())
 }
 
+// Whether two clients are answered, of which the later one asks first and the other one twice, and then a third one.
+fn ask_in_turn<H: AllocGlobal + Net<Listener = TcpListener, Stream = TcpStream> + Wait + Clock>(
+    rt: &H,
+    address: SocketAddr,
+) -> [bool; 3] {
+    let (Some(one), Some(other)) = (connect(rt, address), connect(rt, address)) else {
+        return [false; 3];
+    };
+    let sent = send(&other, ASK_LAST) && send(&one, ASK_BOTH);
+    let first = sent && is_text(&receive(rt.alloc(), &one), BOTH);
+    drop(one);
+    let second = is_text(&receive(rt.alloc(), &other), FOUND_LAST);
+    drop(other);
+    [
+        first,
+        second,
+        is_text(&exchange_and_end(rt, address, ASK), FOUND),
+    ]
+}
+
 #[test]
 fn more_clients_than_connections(rt: HostRuntime) -> Result<(), Fail> {
-    for kind in [Kind::Seats, Kind::Loops(2)] {
-        let plan = plan_of(&rt, 1, 1, 3)?;
-        let (report, seen) = beside(&rt, DemoSource, kind, &plan, |address| {
-            let (Some(one), Some(other)) = (connect(&rt, address), connect(&rt, address)) else {
-                return [false; 3];
-            };
-            let sent = send(&other, ASK_LAST) && send(&one, ASK_BOTH);
-            let first = sent && is_text(&receive(rt.alloc(), &one), BOTH);
-            drop(one);
-            let second = is_text(&receive(rt.alloc(), &other), FOUND_LAST);
-            drop(other);
-            [
-                first,
-                second,
-                is_text(&exchange_and_end(&rt, address, ASK), FOUND),
-            ]
-        })?;
-        assert_eq!(rt;
-            (seen, has_asked(&report, 4)),
-            ([true; 3], true),
-            "at {kind:?}"
-        );
-    }
+    let plan = plan_of(&rt, 1, 1, 3)?.on_loops(2);
+    let seen = beside_both(&rt, &plan, 4, |address| ask_in_turn(&rt, address))?;
+    assert_eq!(rt; seen, [([true; 3], true); 2]);
     Ok(())
 }
 
@@ -119,7 +119,7 @@ const ASK_LONG: &[u8] = b"GET /_groupcache/fill/1048576 HTTP/1.1\r\nHost: h\r\n\
 
 #[test]
 fn a_client_resets(rt: HostRuntime) -> Result<(), Fail> {
-    for kind in [Kind::Seats, Kind::Loops(1)] {
+    for kind in [Kind::Seats, Kind::Loops] {
         let plan = plan_of(&rt, 1, 1, 4)?;
         let (report, seen) = beside(&rt, DemoSource, kind, &plan, |address| {
             let mut seen = [false; 3];

@@ -1,7 +1,8 @@
 //! Servers that are told to end while clients are there.
 
 use super::clients::{connect, is_text, receive, send, served_client};
-use super::loop_servers::{Outside, beside, settings_of};
+use super::loop_servers::{Outside, beside_loops, settings_of};
+use super::plans::plan_of;
 use super::servers::has_asked;
 use peer_loop::{Settings, Stop};
 use peer_source::DemoSource;
@@ -90,14 +91,15 @@ fn a_server_that_is_told_to_end_gives_the_values_that_are_waited_for(
         open: AtomicBool::new(false),
     };
     let outside = Outside::new();
+    let plan = plan_of(&rt, 1, 10, 1)?.on_loops(2);
     let settings = Settings {
         accepts: None,
-        ..settings_of(&rt, &outside, 2, 10, 1)?
+        ..settings_of(&outside, &plan)
     };
     let source = Hooked {
         hook: Slow { call: &call },
     };
-    let (report, seen) = beside(&rt, source, &settings, |address| {
+    let (report, seen) = beside_loops(&rt, source, &settings, |address| {
         let seen = stop_beside(&rt, address, &call, &outside.stop);
         call.open.store(true, SeqCst);
         outside.stop.stop();
@@ -112,11 +114,12 @@ fn a_server_that_is_told_to_end_gives_the_values_that_are_waited_for(
 fn a_server_that_was_told_before_it_began_ends(rt: HostRuntime) -> Result<(), Fail> {
     let outside = Outside::new();
     outside.stop.stop();
+    let plan = plan_of(&rt, 1, 10, 1)?.on_loops(2);
     let settings = Settings {
         accepts: None,
-        ..settings_of(&rt, &outside, 2, 10, 1)?
+        ..settings_of(&outside, &plan)
     };
-    let (report, ()) = beside(&rt, DemoSource, &settings, |_| ())?;
+    let (report, ()) = beside_loops(&rt, DemoSource, &settings, |_| ())?;
     assert!(rt; has_asked(&report, 0));
     Ok(())
 }

@@ -1,7 +1,8 @@
 //! Loops that fill what their clients ask for: no thread beside them does.
 
 use super::asking::{ask_each, six_ask};
-use super::loop_servers::{Outside, beside, settings_of};
+use super::loop_servers::{Outside, beside_loops, settings_of};
+use super::plans::plan_of;
 use super::servers::has_asked;
 use peer_loop::{Fillers, Settings};
 use peer_source::DemoSource;
@@ -13,9 +14,9 @@ fn a_loop_fills_each_of_three_hundred_keys(rt: HostRuntime) -> Result<(), Fail> 
     let outside = Outside::new();
     let settings = Settings {
         fillers: Fillers::Loops,
-        ..settings_of(&rt, &outside, 1, 1, 1)?
+        ..settings_of(&outside, &plan_of(&rt, 1, 1, 1)?)
     };
-    let (report, asked) = beside(&rt, DemoSource, &settings, |address| {
+    let (report, asked) = beside_loops(&rt, DemoSource, &settings, |address| {
         ask_each(&rt, address, 300)
     })?;
     assert_eq!(rt; [asked, has_asked(&report, 300)], [true; 2]);
@@ -29,18 +30,17 @@ fn a_loop_fills_each_of_three_hundred_keys(rt: HostRuntime) -> Result<(), Fail> 
 fn loops_fill_more_than_one_turn_takes(rt: HostRuntime) -> Result<(), Fail> {
     for loops in [1, 3] {
         let outside = Outside::new();
+        let plan = plan_of(&rt, 1, 100, 1)?.on_loops(loops);
         let settings = Settings {
             fillers: Fillers::Loops,
-            ..settings_of(&rt, &outside, loops, 100, 6)?
+            accepts: Some(6),
+            ..settings_of(&outside, &plan)
         };
-        let (report, seen) = beside(&rt, DemoSource, &settings, |address| {
+        let (report, seen) = beside_loops(&rt, DemoSource, &settings, |address| {
             six_ask(&rt, address, 1_000)
         })?;
-        assert_eq!(rt;
-            (seen, has_asked(&report, 6 * 701)),
-            ([true; 2], true),
-            "at {loops}"
-        );
+        assert_eq!(rt; seen, [true; 2], "at {loops}");
+        assert!(rt; has_asked(&report, 6 * 701), "at {loops}");
     }
     Ok(())
 }
