@@ -142,136 +142,102 @@ fn check_text(rt: &impl Abort, alloc: Global, text: &[u8], word: &str) -> Result
     Ok(())
 }
 
-// Checks what each text is.
-fn check_texts(rt: &impl Abort, alloc: Global, rows: &[(&[u8], &str)]) -> Result<(), AllocError> {
-    for (text, word) in rows {
-        check_text(rt, alloc, text, word)?;
+// Texts and what each is, by the rule that says so.
+const TEXTS: [(&[u8], &str); 34] = [
+    // A head ends with its first empty line.
+    (b"", "need"),
+    (b"\r", "need"),
+    (b"\r\n\r\n\r\n", "need"),
+    (b"GET /k HTTP/1.1\r\nHost: h\r\n", "need"),
+    (b"GET /k HTTP/1.1\r\nHost: h\r\n\r\n", "head"),
+    (b"\r\n\r\nGET /k HTTP/1.1\r\nHost: h\r\n\r\n", "head"),
+    (b"HEAD /k HTTP/1.1\r\nHost: h\r\n\r\n", "bare head"),
+    (b"head /k HTTP/1.1\r\nHost: h\r\n\r\n", "head"),
+    (b"POST /k HTTP/1.1\r\nHost: h\r\n\r\n", "head"),
+    // A CR or an LF alone ends no line.
+    (b"GET /k HTTP/1.1\nHost: h\n\n", "need"),
+    (b"GET /k HTTP/1.1\nHost: h\r\n\r\n", "not a head"),
+    (b"GET /k HTTP/1.1\r\nHost: h\nA: b\r\n\r\n", "not a head"),
+    (b"GET /k HTTP/1.1\r\nHost: h\rA: b\r\n\r\n", "not a head"),
+    (b"\nGET /k HTTP/1.1\r\nHost: h\r\n\r\n", "not a head"),
+    // Targets are visible, and names have no space.
+    (b"GET /\xff HTTP/1.1\r\nHost: h\r\n\r\n", "not a head"),
+    (b"GET /\x7f HTTP/1.1\r\nHost: h\r\n\r\n", "not a head"),
+    (b"GET /k HTTP/2.0\r\nHost: h\r\n\r\n", "not a head"),
+    (b"GET /k HTTP/1.1\r\nHost : h\r\n\r\n", "not a head"),
+    // A head has one host.
+    (b"GET /k HTTP/1.1\r\n\r\n", "host"),
+    (b"GET /k HTTP/1.1\r\nHost: h\r\nhost: h\r\n\r\n", "host"),
+    (b"HEAD /k HTTP/1.1\r\n\r\n", "bare host"),
+    (b"GET /k HTTP/1.0\r\n\r\n", "closing head"),
+    (b"GET /k HTTP/1.0\r\nHost: h\r\n\r\n", "closing head"),
+    (b"GET /k HTTP/1.0\r\nHost: h\r\nHOST: i\r\n\r\n", "host"),
+    // `close` is an element of `Connection`.
+    (
+        b"GET /k HTTP/1.1\r\nHost: h\r\nConnection: Keep-Alive, CLOSE\r\n\r\n",
+        "closing head",
+    ),
+    (
+        b"GET /k HTTP/1.1\r\nHost: h\r\nConnection: keep-alive, closed\r\n\r\n",
+        "head",
+    ),
+    (
+        b"HEAD /k HTTP/1.1\r\nHost: h\r\nCONNECTION: a\r\nConnection:\tclose ,b\r\n\r\n",
+        "bare closing head",
+    ),
+    // A head announces no content.
+    (
+        b"GET /k HTTP/1.1\r\nHost: h\r\nContent-Length: 00\r\n\r\n",
+        "head",
+    ),
+    (
+        b"GET /k HTTP/1.1\r\nHost: h\r\nContent-Length: +1\r\n\r\n",
+        "bad length",
+    ),
+    (
+        b"POST /k HTTP/1.1\r\nHost: h\r\nContent-Length: 3\r\n\r\n",
+        "content",
+    ),
+    (
+        b"GET /k HTTP/1.1\r\nHost: h\r\nContent-Length: 0\r\nContent-Length: 00\r\n\r\n",
+        "bad length",
+    ),
+    (
+        b"GET /k HTTP/1.1\r\nHost: h\r\nContent-Length: 0, 0\r\n\r\n",
+        "bad length",
+    ),
+    (
+        b"GET /k HTTP/1.1\r\nContent-Length: 5\r\nTransfer-Encoding: chunked\r\n\r\n",
+        "transfer coding",
+    ),
+    (
+        b"HEAD /k HTTP/1.1\r\nHost: h\r\nContent-Length:\r\n\r\n",
+        "bare fault",
+    ),
+];
+
+#[test]
+fn each_text_is_what_its_rule_says(rt: HostRuntime) -> Result<(), Fail> {
+    for (text, word) in TEXTS {
+        check_text(&rt, rt.alloc(), text, word)?;
     }
     Ok(())
 }
 
-#[test]
-fn a_head_ends_with_its_first_empty_line(rt: HostRuntime) -> Result<(), Fail> {
-    let rows: [(&[u8], &str); 9] = [
-        (b"", "need"),
-        (b"\r", "need"),
-        (b"\r\n\r\n\r\n", "need"),
-        (b"GET /k HTTP/1.1\r\nHost: h\r\n", "need"),
-        (b"GET /k HTTP/1.1\r\nHost: h\r\n\r\n", "head"),
-        (b"\r\n\r\nGET /k HTTP/1.1\r\nHost: h\r\n\r\n", "head"),
-        (b"HEAD /k HTTP/1.1\r\nHost: h\r\n\r\n", "bare head"),
-        (b"head /k HTTP/1.1\r\nHost: h\r\n\r\n", "head"),
-        (b"POST /k HTTP/1.1\r\nHost: h\r\n\r\n", "head"),
-    ];
-    check_texts(&rt, rt.alloc(), &rows)?;
-    Ok(())
-}
-
-#[test]
-fn a_cr_or_an_lf_alone_ends_no_line(rt: HostRuntime) -> Result<(), Fail> {
-    let rows: [(&[u8], &str); 5] = [
-        (b"GET /k HTTP/1.1\nHost: h\n\n", "need"),
-        (b"GET /k HTTP/1.1\nHost: h\r\n\r\n", "not a head"),
-        (b"GET /k HTTP/1.1\r\nHost: h\nA: b\r\n\r\n", "not a head"),
-        (b"GET /k HTTP/1.1\r\nHost: h\rA: b\r\n\r\n", "not a head"),
-        (b"\nGET /k HTTP/1.1\r\nHost: h\r\n\r\n", "not a head"),
-    ];
-    check_texts(&rt, rt.alloc(), &rows)?;
-    Ok(())
-}
-
-#[test]
-fn targets_are_visible_and_names_have_no_space(rt: HostRuntime) -> Result<(), Fail> {
-    let rows: [(&[u8], &str); 4] = [
-        (b"GET /\xff HTTP/1.1\r\nHost: h\r\n\r\n", "not a head"),
-        (b"GET /\x7f HTTP/1.1\r\nHost: h\r\n\r\n", "not a head"),
-        (b"GET /k HTTP/2.0\r\nHost: h\r\n\r\n", "not a head"),
-        (b"GET /k HTTP/1.1\r\nHost : h\r\n\r\n", "not a head"),
-    ];
-    check_texts(&rt, rt.alloc(), &rows)?;
-    Ok(())
-}
-
-#[test]
-fn a_head_has_one_host(rt: HostRuntime) -> Result<(), Fail> {
-    let rows: [(&[u8], &str); 6] = [
-        (b"GET /k HTTP/1.1\r\n\r\n", "host"),
-        (b"GET /k HTTP/1.1\r\nHost: h\r\nhost: h\r\n\r\n", "host"),
-        (b"HEAD /k HTTP/1.1\r\n\r\n", "bare host"),
-        (b"GET /k HTTP/1.0\r\n\r\n", "closing head"),
-        (b"GET /k HTTP/1.0\r\nHost: h\r\n\r\n", "closing head"),
-        (b"GET /k HTTP/1.0\r\nHost: h\r\nHOST: i\r\n\r\n", "host"),
-    ];
-    check_texts(&rt, rt.alloc(), &rows)?;
-    Ok(())
-}
-
-#[test]
-fn close_is_an_element_of_connection(rt: HostRuntime) -> Result<(), Fail> {
-    let rows: [(&[u8], &str); 3] = [
-        (
-            b"GET /k HTTP/1.1\r\nHost: h\r\nConnection: Keep-Alive, CLOSE\r\n\r\n",
-            "closing head",
-        ),
-        (
-            b"GET /k HTTP/1.1\r\nHost: h\r\nConnection: keep-alive, closed\r\n\r\n",
-            "head",
-        ),
-        (
-            b"HEAD /k HTTP/1.1\r\nHost: h\r\nCONNECTION: a\r\nConnection:\tclose ,b\r\n\r\n",
-            "bare closing head",
-        ),
-    ];
-    check_texts(&rt, rt.alloc(), &rows)?;
-    Ok(())
-}
-
-#[test]
-fn a_head_announces_no_content(rt: HostRuntime) -> Result<(), Fail> {
-    let rows: [(&[u8], &str); 7] = [
-        (
-            b"GET /k HTTP/1.1\r\nHost: h\r\nContent-Length: 00\r\n\r\n",
-            "head",
-        ),
-        (
-            b"GET /k HTTP/1.1\r\nHost: h\r\nContent-Length: +1\r\n\r\n",
-            "bad length",
-        ),
-        (
-            b"POST /k HTTP/1.1\r\nHost: h\r\nContent-Length: 3\r\n\r\n",
-            "content",
-        ),
-        (
-            b"GET /k HTTP/1.1\r\nHost: h\r\nContent-Length: 0\r\nContent-Length: 00\r\n\r\n",
-            "bad length",
-        ),
-        (
-            b"GET /k HTTP/1.1\r\nHost: h\r\nContent-Length: 0, 0\r\n\r\n",
-            "bad length",
-        ),
-        (
-            b"GET /k HTTP/1.1\r\nContent-Length: 5\r\nTransfer-Encoding: chunked\r\n\r\n",
-            "transfer coding",
-        ),
-        (
-            b"HEAD /k HTTP/1.1\r\nHost: h\r\nContent-Length:\r\n\r\n",
-            "bare fault",
-        ),
-    ];
-    check_texts(&rt, rt.alloc(), &rows)?;
+// Puts a piece behind the text so many times.
+fn put_times(text: &mut Vec<u8>, piece: &[u8], count: usize) -> Result<(), AllocError> {
+    for _ in 0..count {
+        text.extend_from_slice(piece)?;
+    }
     Ok(())
 }
 
 // So many pairs, and a head with a field of so many letters.
-fn long_head(rt: &HostRuntime, pairs: usize, letters: usize) -> Result<Vec<u8>, AllocError> {
-    let mut text = Vec::new(rt.alloc());
-    for _ in 0..pairs {
-        text.extend_from_slice(b"\r\n")?;
-    }
+fn long_head(alloc: Global, pairs: usize, letters: usize) -> Result<Vec<u8>, AllocError> {
+    let mut text = Vec::new(alloc);
+    put_times(&mut text, b"\r\n", pairs)?;
     text.extend_from_slice(b"GET /_groupcache/echo/k HTTP/1.1\r\nHost: h\r\nPad: ")?;
-    for _ in 0..letters {
-        text.push(b'a')?;
-    }
+    put_times(&mut text, b"a", letters)?;
     text.extend_from_slice(b"\r\n\r\n")?;
     Ok(text)
 }
@@ -285,7 +251,7 @@ fn the_limit_counts_the_pairs(rt: HostRuntime) -> Result<(), Fail> {
         (1, 16331, "too long"),
     ];
     for (pairs, letters, word) in rows {
-        let text = long_head(&rt, pairs, letters)?;
+        let text = long_head(rt.alloc(), pairs, letters)?;
         check_text(&rt, rt.alloc(), &text, word)?;
     }
     Ok(())
@@ -295,9 +261,7 @@ fn the_limit_counts_the_pairs(rt: HostRuntime) -> Result<(), Fail> {
 fn pairs_alone_are_too_long_in_the_end(rt: HostRuntime) -> Result<(), Fail> {
     for (pairs, word) in [(8191, "need"), (8192, "too long")] {
         let mut text = Vec::new(rt.alloc());
-        for _ in 0..pairs {
-            text.extend_from_slice(b"\r\n")?;
-        }
+        put_times(&mut text, b"\r\n", pairs)?;
         check_text(&rt, rt.alloc(), &text, word)?;
     }
     Ok(())
@@ -306,11 +270,8 @@ fn pairs_alone_are_too_long_in_the_end(rt: HostRuntime) -> Result<(), Fail> {
 #[test]
 fn a_head_has_64_fields_at_most(rt: HostRuntime) -> Result<(), Fail> {
     for (more, word) in [(63, "head"), (64, "not a head")] {
-        let mut text = Vec::new(rt.alloc());
-        text.extend_from_slice(b"GET /k HTTP/1.1\r\nHost: h\r\n")?;
-        for _ in 0..more {
-            text.extend_from_slice(b"Name: value\r\n")?;
-        }
+        let mut text = b"GET /k HTTP/1.1\r\nHost: h\r\n".to_vec(rt.alloc())?;
+        put_times(&mut text, b"Name: value\r\n", more)?;
         text.extend_from_slice(b"\r\n")?;
         check_text(&rt, rt.alloc(), &text, word)?;
     }

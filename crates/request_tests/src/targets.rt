@@ -18,62 +18,31 @@ fn leads_to(
     Ok(())
 }
 
-// Checks that each target names its group and its key.
-fn lead_to(
-    rt: &impl Abort,
-    alloc: Global,
-    rows: &[(&[u8], &[u8], &[u8])],
-) -> Result<(), PathFault> {
-    for (target, group, key) in rows {
-        leads_to(rt, alloc, target, group, key)?;
-    }
-    Ok(())
-}
-
 #[test]
 fn names_group_and_key(rt: HostRuntime) -> Result<(), Fail> {
-    let rows: [(&[u8], &[u8], &[u8]); 5] = [
+    let rows: [(&[u8], &[u8], &[u8]); 15] = [
         (b"/_groupcache/echo/k", b"echo", b"k"),
         (b"/_groupcache//k", b"", b"k"),
         (b"/_groupcache/echo/", b"echo", b""),
         (b"/_groupcache/echo/a/b", b"echo", b"a/b"),
         (b"/_groupcache/echo/a+b", b"echo", b"a+b"),
-    ];
-    lead_to(&rt, rt.alloc(), &rows)?;
-    Ok(())
-}
-
-#[test]
-fn splits_what_is_decoded_once(rt: HostRuntime) -> Result<(), Fail> {
-    let rows: [(&[u8], &[u8], &[u8]); 6] = [
+        // A slash in what was decoded parts too, and nothing is decoded twice.
         (b"/_groupcache/echo/a%2Fb+c", b"echo", b"a/b+c"),
         (b"/_groupcache/echo/a%2Fb", b"echo", b"a/b"),
         (b"/_groupcache/a%2Fb/c", b"a", b"b/c"),
         (b"/_groupcache/echo/%ff", b"echo", b"\xFF"),
         (b"/_groupcache/echo/%2541", b"echo", b"%41"),
         (b"/%5Fgroupcache/echo%2Fk", b"echo", b"k"),
-    ];
-    lead_to(&rt, rt.alloc(), &rows)?;
-    Ok(())
-}
-
-#[test]
-fn leaves_the_query_alone(rt: HostRuntime) -> Result<(), Fail> {
-    let rows: [(&[u8], &[u8], &[u8]); 2] = [
+        // The query is left alone.
         (b"/_groupcache/echo/%3F?x=%G1", b"echo", b"?"),
         (b"/_groupcache/echo/k?a?b/c", b"echo", b"k"),
-    ];
-    lead_to(&rt, rt.alloc(), &rows)?;
-    Ok(())
-}
-
-#[test]
-fn takes_the_path_of_an_absolute_form(rt: HostRuntime) -> Result<(), Fail> {
-    let rows: [(&[u8], &[u8], &[u8]); 2] = [
+        // An absolute form leads by its path.
         (b"http://10.0.0.2:8000/_groupcache/echo/k", b"echo", b"k"),
         (b"hTTp://h/_groupcache/echo/%6b", b"echo", b"k"),
     ];
-    lead_to(&rt, rt.alloc(), &rows)?;
+    for (target, group, key) in rows {
+        leads_to(&rt, rt.alloc(), target, group, key)?;
+    }
     Ok(())
 }
 

@@ -105,25 +105,18 @@ fn of_head(alloc: Global, held: &[u8]) -> Result<Option<Seen>, AllocError> {
 }
 
 #[test]
-fn the_next_wish_lends_its_key(rt: HostRuntime) -> Result<(), Fail> {
-    assert_eq!(rt; next_lent(rt.alloc(), OPEN)?, Some(SEEN_OPEN));
-    assert_eq!(rt; next_lent(rt.alloc(), CLOSING)?, Some(SEEN_CLOSING));
-    assert_eq!(rt; next_lent(rt.alloc(), b"GET /_groupcache")?, None);
-    Ok(())
-}
-
-#[test]
-fn a_kept_wish_has_its_own_key(rt: HostRuntime) -> Result<(), Fail> {
-    assert_eq!(rt; next_copied(rt.alloc(), OPEN)?, Some(SEEN_OPEN));
-    assert_eq!(rt; next_copied(rt.alloc(), CLOSING)?, Some(SEEN_CLOSING));
-    assert_eq!(rt; next_copied(rt.alloc(), b"GET /_groupcache")?, None);
-    Ok(())
-}
-
-#[test]
-fn a_head_has_its_wish(rt: HostRuntime) -> Result<(), Fail> {
-    assert_eq!(rt; of_head(rt.alloc(), OPEN)?, Some(SEEN_OPEN));
-    assert_eq!(rt; of_head(rt.alloc(), CLOSING)?, Some(SEEN_CLOSING));
+fn each_way_sees_the_same_wish(rt: HostRuntime) -> Result<(), Fail> {
+    let alloc = rt.alloc();
+    let rows: [(&[u8], Option<Seen>); 3] = [
+        (OPEN, Some(SEEN_OPEN)),
+        (CLOSING, Some(SEEN_CLOSING)),
+        (b"GET /_groupcache", None),
+    ];
+    for (held, seen) in rows {
+        assert_eq!(rt; next_lent(alloc, held)?, seen, "lent, of {held:?}");
+        assert_eq!(rt; next_copied(alloc, held)?, seen, "copied, of {held:?}");
+        assert_eq!(rt; of_head(alloc, held)?, seen, "of the head, of {held:?}");
+    }
     Ok(())
 }
 
