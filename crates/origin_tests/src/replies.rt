@@ -23,29 +23,35 @@ fn gives(alloc: Global, text: &[u8], value: &[u8]) -> Result<bool, AllocError> {
     )
 }
 
-// Whether a text fails with this, whatever comes behind it.
+// Whether a text fails with this, whatever comes behind it. Where one was cut, the time may be over too.
 fn fails(alloc: Global, text: &[u8], fault: FetchFault) -> Result<bool, AllocError> {
+    let late = match fault {
+        FetchFault::Lost => FetchFault::Late,
+        told => told,
+    };
     Ok(
         gives_at(alloc, text, End::Closed, Err(fault))?
-            && gives_at(alloc, text, End::Failed, Err(fault))?,
+            && gives_at(alloc, text, End::Failed, Err(fault))?
+            && gives_at(alloc, text, End::Late, Err(late))?,
     )
 }
 
+// Whole replies with this value.
+const WHOLE: [&[u8]; 5] = [
+    b"HTTP/1.1 200 OK\r\nContent-Length: 5\r\n\r\nvalue",
+    b"HTTP/1.0 200 OK\r\nContent-Length: 5\r\n\r\nvalue",
+    b"HTTP/1.1 200 OK\r\nTransfer-Encoding: chunked\r\n\r\n5\r\nvalue\r\n0\r\n\r\n",
+    b"HTTP/1.1 200 OK\r\nTransfer-Encoding: chunked\r\n\r\n2;a=b\r\nva\r\n003\r\nlue\r\n0\r\nX-Sum: 1\r\n\r\n",
+    b"HTTP/1.1 103 Early Hints\r\nLink: </a>\r\n\r\nHTTP/1.1 100 Continue\r\n\r\nHTTP/1.1 200 OK\r\nContent-Length: 5\r\n\r\nvalue",
+];
+
 #[test]
 fn gives_whole_bodies(rt: HostRuntime) -> Result<(), AllocError> {
-    let alloc = rt.alloc();
-    let mut right = true;
-    for text in [
-        b"HTTP/1.1 200 OK\r\nContent-Length: 5\r\n\r\nvalue".as_slice(),
-        b"HTTP/1.0 200 OK\r\nContent-Length: 5\r\n\r\nvalue",
-        b"HTTP/1.1 200 OK\r\nTransfer-Encoding: chunked\r\n\r\n5\r\nvalue\r\n0\r\n\r\n",
-        b"HTTP/1.1 200 OK\r\nTransfer-Encoding: chunked\r\n\r\n2;a=b\r\nva\r\n003\r\nlue\r\n0\r\nX-Sum: 1\r\n\r\n",
-        b"HTTP/1.1 103 Early Hints\r\nLink: </a>\r\n\r\nHTTP/1.1 100 Continue\r\n\r\nHTTP/1.1 200 OK\r\nContent-Length: 5\r\n\r\nvalue",
-    ] {
-        right &= gives(alloc, text, b"value")?;
+    for text in WHOLE {
+        assert!(rt; gives(rt.alloc(), text, b"value")?, "{text:?}");
     }
-    right &= gives(alloc, b"HTTP/1.1 200 OK\r\nContent-Length: 0\r\n\r\n", b"")?;
-    assert!(rt; right);
+    let empty = b"HTTP/1.1 200 OK\r\nContent-Length: 0\r\n\r\n";
+    assert!(rt; gives(rt.alloc(), empty, b"")?);
     Ok(())
 }
 
@@ -59,68 +65,79 @@ fn gives_a_body_until_the_close_only_where_that_is_told(rt: HostRuntime) -> Resu
     Ok(())
 }
 
-#[test]
-fn tells_other_statuses(rt: HostRuntime) -> Result<(), AllocError> {
-    let alloc = rt.alloc();
-    let mut right = true;
-    for (text, status) in [
-        (
-            b"HTTP/1.1 404 Not Found\r\nContent-Length: 4\r\n\r\nnone".as_slice(),
-            404,
-        ),
-        (b"HTTP/1.1 503 Busy\r\nContent-Length: 100\r\n\r\ncut", 503),
-        (b"HTTP/1.1 204 No Content\r\n\r\n", 204),
-        (
-            b"HTTP/1.1 301 Moved\r\nLocation: /other\r\nContent-Length: 0\r\n\r\n",
-            301,
-        ),
-        (
-            b"HTTP/1.1 206 Partial Content\r\nContent-Length: 2\r\n\r\nva",
-            206,
-        ),
-    ] {
-        right &= fails(alloc, text, FetchFault::Status(status))?;
-    }
-    assert!(rt; right);
-    Ok(())
-}
-
-#[test]
-fn gives_nothing_that_was_cut(rt: HostRuntime) -> Result<(), AllocError> {
-    let alloc = rt.alloc();
-    let mut right = true;
-    for text in [
-        b"".as_slice(),
-        b"HTTP/1.1 200 OK\r\nContent-Le",
+// Texts that give no value, and what each fails with.
+const FAILURES: [(&[u8], FetchFault); 19] = [
+    // Another status.
+    (
+        b"HTTP/1.1 404 Not Found\r\nContent-Length: 4\r\n\r\nnone",
+        FetchFault::Status(404),
+    ),
+    (
+        b"HTTP/1.1 503 Busy\r\nContent-Length: 100\r\n\r\ncut",
+        FetchFault::Status(503),
+    ),
+    (b"HTTP/1.1 204 No Content\r\n\r\n", FetchFault::Status(204)),
+    (
+        b"HTTP/1.1 301 Moved\r\nLocation: /other\r\nContent-Length: 0\r\n\r\n",
+        FetchFault::Status(301),
+    ),
+    (
+        b"HTTP/1.1 206 Partial Content\r\nContent-Length: 2\r\n\r\nva",
+        FetchFault::Status(206),
+    ),
+    // A reply that was cut.
+    (b"", FetchFault::Lost),
+    (b"HTTP/1.1 200 OK\r\nContent-Le", FetchFault::Lost),
+    (
         b"HTTP/1.1 200 OK\r\nContent-Length: 6\r\n\r\nvalue",
+        FetchFault::Lost,
+    ),
+    (
         b"HTTP/1.1 200 OK\r\nTransfer-Encoding: chunked\r\n\r\n5\r\nvalue\r\n",
+        FetchFault::Lost,
+    ),
+    (
         b"HTTP/1.1 200 OK\r\nTransfer-Encoding: chunked\r\n\r\n5\r\nvalue\r\n0\r\n",
-        b"HTTP/1.1 103 Early Hints\r\n\r\n",
-    ] {
-        right &= fails(alloc, text, FetchFault::Lost)?;
-        right &= gives_at(alloc, text, End::Late, Err(FetchFault::Late))?;
-    }
-    assert!(rt; right);
-    Ok(())
-}
+        FetchFault::Lost,
+    ),
+    (b"HTTP/1.1 103 Early Hints\r\n\r\n", FetchFault::Lost),
+    // No reply.
+    (
+        b"HTTP/2.0 200 OK\r\nContent-Length: 1\r\n\r\nx",
+        FetchFault::Malformed,
+    ),
+    (b"\x00\x01 no reply\r\n\r\n", FetchFault::Malformed),
+    (
+        b"HTTP/1.1 200 OK\nContent-Length: 1\n\nx",
+        FetchFault::Malformed,
+    ),
+    (
+        b"HTTP/1.1 200 OK\r\nContent-Length: 1\r\nContent-Length: 2\r\n\r\nxy",
+        FetchFault::Malformed,
+    ),
+    (
+        b"HTTP/1.1 200 OK\r\nContent-Length: 1\r\nTransfer-Encoding: chunked\r\n\r\n0\r\n\r\n",
+        FetchFault::Malformed,
+    ),
+    (
+        b"HTTP/1.1 200 OK\r\nTransfer-Encoding: gzip, chunked\r\n\r\n1\r\nx\r\n0\r\n\r\n",
+        FetchFault::Malformed,
+    ),
+    (
+        b"HTTP/1.1 200 OK\r\nTransfer-Encoding: chunked\r\n\r\nzz\r\nx\r\n0\r\n\r\n",
+        FetchFault::Malformed,
+    ),
+    (
+        b"HTTP/1.1 101 Switching Protocols\r\nUpgrade: x\r\n\r\n",
+        FetchFault::Malformed,
+    ),
+];
 
 #[test]
-fn refuses_what_is_no_reply(rt: HostRuntime) -> Result<(), AllocError> {
-    let alloc = rt.alloc();
-    let mut right = true;
-    for text in [
-        b"HTTP/2.0 200 OK\r\nContent-Length: 1\r\n\r\nx".as_slice(),
-        b"\x00\x01 no reply\r\n\r\n",
-        b"HTTP/1.1 200 OK\nContent-Length: 1\n\nx",
-        b"HTTP/1.1 200 OK\r\nContent-Length: 1\r\nContent-Length: 2\r\n\r\nxy",
-        b"HTTP/1.1 200 OK\r\nContent-Length: 1\r\nTransfer-Encoding: chunked\r\n\r\n0\r\n\r\n",
-        b"HTTP/1.1 200 OK\r\nTransfer-Encoding: gzip, chunked\r\n\r\n1\r\nx\r\n0\r\n\r\n",
-        b"HTTP/1.1 200 OK\r\nTransfer-Encoding: chunked\r\n\r\nzz\r\nx\r\n0\r\n\r\n",
-        b"HTTP/1.1 101 Switching Protocols\r\nUpgrade: x\r\n\r\n",
-    ] {
-        right &= fails(alloc, text, FetchFault::Malformed)?;
+fn gives_nothing_else(rt: HostRuntime) -> Result<(), AllocError> {
+    for (text, fault) in FAILURES {
+        assert!(rt; fails(rt.alloc(), text, fault)?, "{text:?}");
     }
-    assert!(rt; right);
     Ok(())
 }
 

@@ -10,6 +10,9 @@ const REQUEST: &[u8] =
 // A whole reply, behind which the connection may be used again.
 const REPLY: &[u8] = b"HTTP/1.1 200 OK\r\nContent-Length: 5\r\n\r\nvalue";
 
+// A reply before the one that is waited for.
+const EARLY_HINTS: &[u8] = b"HTTP/1.1 103 Early Hints\r\n\r\n";
+
 // Fetches over a kept connection and a new one.
 fn play_both(alloc: Global, kept: Script, new: Script) -> Result<Played, AllocError> {
     let mut kept_ones = Vec::new(alloc);
@@ -33,47 +36,30 @@ fn after(alloc: Global, text: &[u8], end: End) -> Result<Played, AllocError> {
     )
 }
 
-#[test]
-fn asks_once_over_a_kept_connection(rt: HostRuntime) -> Result<(), AllocError> {
-    let played = after(rt.alloc(), REPLY, End::Closed)?;
-    assert!(rt; played.answers(Ok(b"value")));
-    assert!(rt; sent(&played, 1));
-    Ok(())
-}
+// What a kept connection sends and how that ends, what is answered then, and how often the request was sent.
+const KEPT: [(&[u8], End, Result<&[u8], FetchFault>, usize); 8] = [
+    (REPLY, End::Closed, Ok(b"value"), 1),
+    // It ended silently.
+    (b"", End::Closed, Ok(b"value"), 2),
+    (b"", End::Failed, Ok(b"value"), 2),
+    // Bytes came.
+    (b"H", End::Closed, Err(FetchFault::Lost), 1),
+    (b"H", End::Failed, Err(FetchFault::Lost), 1),
+    (EARLY_HINTS, End::Closed, Err(FetchFault::Lost), 1),
+    (EARLY_HINTS, End::Failed, Err(FetchFault::Lost), 1),
+    // The time is over.
+    (b"", End::Late, Err(FetchFault::Late), 1),
+];
 
 #[test]
-fn asks_once_more_where_a_kept_connection_ended_silently(
+fn asks_once_more_only_where_a_kept_connection_ended_silently(
     rt: HostRuntime,
 ) -> Result<(), AllocError> {
-    let alloc = rt.alloc();
-    let mut right = true;
-    for end in [End::Closed, End::Failed] {
-        let played = after(alloc, b"", end)?;
-        right &= played.answers(Ok(b"value")) && sent(&played, 2);
+    for (text, end, want, times) in KEPT {
+        let played = after(rt.alloc(), text, end)?;
+        let right = played.answers(want) && sent(&played, times);
+        assert!(rt; right, "behind {text:?}, and {times} requests");
     }
-    assert!(rt; right);
-    Ok(())
-}
-
-#[test]
-fn asks_no_more_where_bytes_came(rt: HostRuntime) -> Result<(), AllocError> {
-    let alloc = rt.alloc();
-    let mut right = true;
-    for text in [b"H".as_slice(), b"HTTP/1.1 103 Early Hints\r\n\r\n"] {
-        for end in [End::Closed, End::Failed] {
-            let played = after(alloc, text, end)?;
-            right &= played.answers(Err(FetchFault::Lost)) && sent(&played, 1);
-        }
-    }
-    assert!(rt; right);
-    Ok(())
-}
-
-#[test]
-fn asks_no_more_where_the_time_is_over(rt: HostRuntime) -> Result<(), AllocError> {
-    let played = after(rt.alloc(), b"", End::Late)?;
-    assert!(rt; played.answers(Err(FetchFault::Late)));
-    assert!(rt; sent(&played, 1));
     Ok(())
 }
 
@@ -106,29 +92,32 @@ fn again(alloc: Global, text: &[u8], want: bool) -> Result<bool, AllocError> {
     Ok(played.again.as_slice() == [want].as_slice())
 }
 
+// Replies, and whether their connection may be used again.
+const AGAIN: [(&[u8], bool); 9] = [
+    (REPLY, true),
+    (b"HTTP/1.1 404 Not Found\r\nContent-Length: 0\r\n\r\n", true),
+    (
+        b"HTTP/1.1 200 OK\r\nContent-Length: 5\r\n\r\nvalueHTTP/1.1 200 OK\r\n\r\n",
+        false,
+    ),
+    (
+        b"HTTP/1.1 200 OK\r\nContent-Length: 5\r\n\r\nvalue\n",
+        false,
+    ),
+    (
+        b"HTTP/1.1 200 OK\r\nConnection: close\r\nContent-Length: 5\r\n\r\nvalue",
+        false,
+    ),
+    (b"HTTP/1.0 200 OK\r\nContent-Length: 5\r\n\r\nvalue", false),
+    (b"HTTP/1.1 200 OK\r\n\r\nvalue", false),
+    (b"HTTP/1.1 200 OK\r\nContent-Length: 6\r\n\r\nvalue", false),
+    (b"", false),
+];
+
 #[test]
 fn uses_a_connection_again_where_nothing_is_left_on_it(rt: HostRuntime) -> Result<(), AllocError> {
-    let alloc = rt.alloc();
-    assert!(rt; again(alloc, REPLY, true)?);
-    assert!(rt;
-        again(
-            alloc,
-            b"HTTP/1.1 404 Not Found\r\nContent-Length: 0\r\n\r\n",
-            true
-        )?
-    );
-    let mut right = true;
-    for text in [
-        b"HTTP/1.1 200 OK\r\nContent-Length: 5\r\n\r\nvalueHTTP/1.1 200 OK\r\n\r\n".as_slice(),
-        b"HTTP/1.1 200 OK\r\nContent-Length: 5\r\n\r\nvalue\n",
-        b"HTTP/1.1 200 OK\r\nConnection: close\r\nContent-Length: 5\r\n\r\nvalue",
-        b"HTTP/1.0 200 OK\r\nContent-Length: 5\r\n\r\nvalue",
-        b"HTTP/1.1 200 OK\r\n\r\nvalue",
-        b"HTTP/1.1 200 OK\r\nContent-Length: 6\r\n\r\nvalue",
-        b"",
-    ] {
-        right &= again(alloc, text, false)?;
+    for (text, want) in AGAIN {
+        assert!(rt; again(rt.alloc(), text, want)?, "{text:?}");
     }
-    assert!(rt; right);
     Ok(())
 }
