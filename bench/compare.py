@@ -10,11 +10,11 @@ it is a `peer_serve`. Each load runs against each build in turn, so many rounds.
 as the median of the rounds, and for each other build the medians of the ratios of rate and of processor time a request to the
 first one's in the same round. Every reply is checked. c is the number of connections, d how many requests each has in flight.
 """
-import argparse
 import os
 import signal
 import statistics
 
+from common import given_words
 from net import WORDS, built, program, ratios, run, started
 
 GRID = [(1, 1), (4, 1), (4, 16), (16, 16), (1, 64), (16, 64)]
@@ -29,11 +29,7 @@ def command(build):
 
 
 def main():
-    parser = argparse.ArgumentParser()
-    parser.add_argument("builds", nargs="+")
-    parser.add_argument("--rounds", type=int, default=7)
-    parser.add_argument("--seconds", type=float, default=0.3)
-    given = parser.parse_args()
+    given = given_words("builds", "+", rounds=7, seconds=0.3)
     load = built("load", ["gcc", "-O2", "-o", "{out}/load", "load.c", "-lpthread"], ".")
     servers = []
     try:

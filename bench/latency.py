@@ -24,6 +24,7 @@ import sys
 import threading
 import time
 
+from common import given_words
 from growth import replies
 from net import HERE, OUT, built, program, run, started
 
@@ -130,10 +131,7 @@ RUNS = [
 
 
 def main():
-    parser = argparse.ArgumentParser()
-    parser.add_argument("server", nargs="?", default="crates/peer_serve/out/peer_serve")
-    parser.add_argument("--rounds", type=int, default=5)
-    given = parser.parse_args()
+    given = given_words("server", "?", "crates/peer_serve/out/peer_serve", rounds=5)
     server = program(given.server)
     os.makedirs(OUT, exist_ok=True)
     built("load", ["gcc", "-O2", "-o", "{out}/load", "load.c", "-lpthread"], ".")

@@ -14,6 +14,8 @@ import sys
 import threading
 import time
 
+from common import Started, free_port
+
 PROGRAM = sys.argv[1] if len(sys.argv) > 1 else "crates/peer_front/out/peer_front"
 SILENT, GREEDY, BUSY, LATE = 9000, 1000, 16, 20
 resource.setrlimit(resource.RLIMIT_NOFILE, (20000, 20000))
@@ -24,25 +26,12 @@ def request(path):
     return b"GET /_groupcache/%s HTTP/1.1\r\nHost: h\r\n\r\n" % path.encode()
 
 
-def free_port():
-    with socket.socket() as listener:
-        listener.bind(("127.0.0.1", 0))
-        return listener.getsockname()[1]
-
-
-class Server:
+class Server(Started):
     def __init__(self, *words):
         self.address = ("127.0.0.1", free_port())
         listen = "%s:%d" % self.address
-        self.run = subprocess.Popen([PROGRAM, "--listen", listen, "--demo", *words], stdout=subprocess.PIPE)
-        assert self.run.stdout.readline() == b"listening\n"
-
-    def __enter__(self):
-        return self
-
-    def __exit__(self, *_):
-        self.run.kill()
-        self.run.wait()
+        self.process = subprocess.Popen([PROGRAM, "--listen", listen, "--demo", *words], stdout=subprocess.PIPE)
+        assert self.process.stdout.readline() == b"listening\n"
 
     def connect(self):
         client = socket.create_connection(self.address)
@@ -54,11 +43,11 @@ class Server:
         return len(client.recv(length, socket.MSG_WAITALL)) == length
 
     def kib(self):
-        with open(f"/proc/{self.run.pid}/status") as status:
+        with open(f"/proc/{self.process.pid}/status") as status:
             return next(int(line.split()[1]) for line in status if line.startswith("VmRSS"))
 
     def ticks(self):
-        with open(f"/proc/{self.run.pid}/stat") as stat:
+        with open(f"/proc/{self.process.pid}/stat") as stat:
             fields = stat.read().split()
         return int(fields[13]) + int(fields[14])
 

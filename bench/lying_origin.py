@@ -11,14 +11,14 @@ end once they are used again, and some that never answer). A value must be the m
 and no key is asked of the service more than twice. Midway the service dies, and comes again a second later: until it is back
 an error that says so is right too. The last line is `checks N failures 0`; where something failed, so does the program.
 """
-import argparse
 import asyncio
 import os
 import random
-import socket
 import subprocess
 import sys
 from urllib.parse import quote, unquote_to_bytes
+
+from common import free_port, given_words
 
 MIB = 1 << 20
 GONE = {b"origin cannot be reached\n", b"origin closed the connection\n"}
@@ -237,12 +237,6 @@ async def die_midway(service, checks, keys):
     service.death = asyncio.get_running_loop().time()
 
 
-def free_port():
-    with socket.socket() as probe:
-        probe.bind(("127.0.0.1", 0))
-        return probe.getsockname()[1]
-
-
 async def run(given):
     draw = random.Random(given.seed)
     replies = {}
@@ -271,12 +265,7 @@ async def run(given):
 
 
 def main():
-    parser = argparse.ArgumentParser()
-    parser.add_argument("program", nargs="?", default="crates/peer_front/out/peer_front")
-    parser.add_argument("--keys", type=int, default=20000)
-    parser.add_argument("--seed", type=int, default=1)
-    parser.add_argument("--connections", type=int, default=64)
-    given = parser.parse_args()
+    given = given_words("program", "?", "crates/peer_front/out/peer_front", keys=20000, seed=1, connections=64)
     if not os.path.exists(given.program):
         sys.exit(f"lying_origin.py: no program {given.program}: run `rt run -- --version` in crates/peer_front first")
     sys.exit(1 if asyncio.run(run(given)) else 0)

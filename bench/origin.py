@@ -14,12 +14,12 @@ latency of the slowest in a hundred. Below the table stand the rows that the ser
 as quick there as the quickest server, for want of a processor and not because it waits. The last row asks
 for one key. It wants `ulimit -n` of 8,192.
 """
-import argparse
 import os
 import signal
 import statistics
 import sys
 
+from common import given_words
 import net
 
 OURS = "ours"
@@ -99,13 +99,8 @@ def bounded_by_service(results, cell):
 
 
 def main():
-    parser = argparse.ArgumentParser()
-    parser.add_argument("server", nargs="?", default="crates/peer_front/out/peer_front")
-    parser.add_argument("--rounds", type=int, default=5)
-    parser.add_argument("--seconds", type=float, default=2)
-    parser.add_argument("--connections", type=int, default=256)
-    parser.add_argument("--flags", default="--fetchers 2")
-    given = parser.parse_args()
+    own = "crates/peer_front/out/peer_front"
+    given = given_words("server", "?", own, rounds=5, seconds=2.0, connections=256, flags="--fetchers 2")
     server = net.program(given.server)
     load, _ = net.peers()
     print("load average before: %.2f %.2f %.2f" % os.getloadavg())

@@ -9,10 +9,11 @@ was let through (`proves`), each function without a clause (`no-ensures`), and e
 (`untested`). docs/PROMISES.md says why those that are let through are right, or what else rules them out.
 """
 
-import argparse
 import os
 import re
 import subprocess
+
+from common import given_words
 
 ROOT = os.path.dirname(os.path.dirname(os.path.abspath(__file__)))
 ROWS = re.compile(r"\s*(no-ensures|untested|proves)\b")
@@ -35,11 +36,7 @@ def planted(name, minutes, jobs):
 
 
 def main():
-    parser = argparse.ArgumentParser()
-    parser.add_argument("names", nargs="*")
-    parser.add_argument("--minutes", type=int, default=10)
-    parser.add_argument("--jobs", type=int, default=1)
-    options = parser.parse_args()
+    options = given_words("names", "*", minutes=10, jobs=1)
     for name in options.names or crates():
         rows, last = planted(name, options.minutes, options.jobs)
         print("\n".join([last, *("    " + row for row in rows)]), flush=True)

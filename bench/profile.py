@@ -8,12 +8,12 @@
 For each load `perf record` samples the server, and the samples are summed by what their function is for; then `perf stat` counts
 system calls and task switches of a second run. c is the number of connections, d how many requests each has in flight.
 """
-import argparse
 import os
 import re
 import subprocess
 import tempfile
 
+from common import given_words
 from net import OUT, WORDS, built, program, run, started
 
 LOADS = [("echo", key, c, d) for key in ("hot:k", "unique") for c, d in ((1, 1), (4, 16), (1, 64), (16, 64))]
@@ -64,10 +64,7 @@ def counted(load, address, process, cell, seconds):
 
 
 def main():
-    parser = argparse.ArgumentParser()
-    parser.add_argument("server", nargs="?", default="crates/peer_front/out/peer_front")
-    parser.add_argument("--seconds", type=float, default=3)
-    given = parser.parse_args()
+    given = given_words("server", "?", "crates/peer_front/out/peer_front", seconds=3.0)
     server = program(given.server)
     os.makedirs(OUT, exist_ok=True)
     load = built("load", ["gcc", "-O2", "-o", "{out}/load", "load.c", "-lpthread"], ".")

@@ -25,6 +25,8 @@ import tempfile
 import threading
 import time
 
+from common import free_port
+
 HERE = os.path.dirname(os.path.abspath(__file__))
 ROOT = os.path.dirname(HERE)
 CALLS = os.path.join(ROOT, "crates/refused/out/refused")
@@ -252,12 +254,6 @@ def refused_pipe(tools, only):
                 counts.append(n - 1)
                 break
     print(f"peer_pipe, by the program: {counts[0]} growths refused one by one, {counts[1]} with all behind them", flush=True)
-
-
-def free_port():
-    with socket.socket() as probe:
-        probe.bind(("127.0.0.1", 0))
-        return probe.getsockname()[1]
 
 
 def connect(port):

@@ -14,11 +14,12 @@ import resource
 import select
 import shutil
 import signal
-import socket
 import subprocess
 import sys
 import tempfile
 import time
+
+from common import Started, free_port
 
 PROGRAM = sys.argv[1] if len(sys.argv) > 1 else "crates/peer_serve/out/peer_serve"
 PATIENCE = 20
@@ -31,18 +32,12 @@ def row(name, value, wanted):
     print(f"{'ok  ' if rows[-1] else 'FAIL'} {name}: {value!r}{'' if rows[-1] else f', and not {wanted!r}'}", flush=True)
 
 
-def free_port():
-    with socket.socket() as probe:
-        probe.bind(("127.0.0.1", 0))
-        return probe.getsockname()[1]
-
-
 def part_of(pipe):
     """What comes next on a pipe, and nothing where that takes too long."""
     return os.read(pipe.fileno(), 65536) if select.select([pipe], [], [], PATIENCE)[0] else b""
 
 
-class Server:
+class Server(Started):
     """A server with these words behind its address, and what it says first."""
 
     def __init__(self, *words, given=b"", limit=None, program=PROGRAM):
@@ -52,13 +47,6 @@ class Server:
         self.process.stdin.write(given)
         self.process.stdin.close()
         self.said = part_of(self.process.stdout)
-
-    def __enter__(self):
-        return self
-
-    def __exit__(self, *_):
-        self.process.kill()
-        self.process.wait()
 
     def client(self):
         return http.client.HTTPConnection("127.0.0.1", self.port, timeout=PATIENCE)

@@ -114,20 +114,24 @@ static void bad(struct conn *c, const char *why) {
     c->dead = 1; atomic_store(&stop, 1);
 }
 
-static _Atomic uint64_t reopened;
-// The server closed after a reply: what was asked behind it is asked again on a new connection.
-static void reopen(struct conn *c) {
-    int ep = c->ep;
-    c->closes = 0;
-    atomic_fetch_sub(&issued, c->tail - c->head); c->tail = c->head;
-    c->from = c->to = 0; c->ofrom = c->oto = 0; c->wants_out = 0;
-    close(c->fd);
+// A connection to the server, known to the epoll of its thread.
+static void dial(struct conn *c) {
     c->fd = socket(AF_INET, SOCK_STREAM, 0);
     if (connect(c->fd, (void *)&o.addr, sizeof o.addr)) die("connect");
     int one = 1; setsockopt(c->fd, IPPROTO_TCP, TCP_NODELAY, &one, sizeof one);
     fcntl(c->fd, F_SETFL, O_NONBLOCK);
     struct epoll_event ev = {.events = EPOLLIN, .data.ptr = c};
-    epoll_ctl(ep, EPOLL_CTL_ADD, c->fd, &ev);
+    epoll_ctl(c->ep, EPOLL_CTL_ADD, c->fd, &ev);
+}
+
+static _Atomic uint64_t reopened;
+// The server closed after a reply: what was asked behind it is asked again on a new connection.
+static void reopen(struct conn *c) {
+    c->closes = 0;
+    atomic_fetch_sub(&issued, c->tail - c->head); c->tail = c->head;
+    c->from = c->to = 0; c->ofrom = c->oto = 0; c->wants_out = 0;
+    close(c->fd);
+    dial(c);
     atomic_fetch_add(&reopened, 1);
 }
 
@@ -245,12 +249,7 @@ static void *run(void *arg) {
     for (int i = first; i < o.conns; i += o.threads) {
         struct conn *c = calloc(1, sizeof *c); cs[n++] = c; c->ep = ep;
         c->in = malloc(INBUF); c->out = malloc(OUTBUF); c->rng = 88172645463325252ull + i * 7919;
-        c->fd = socket(AF_INET, SOCK_STREAM, 0);
-        if (connect(c->fd, (void *)&o.addr, sizeof o.addr)) die("connect");
-        int one = 1; setsockopt(c->fd, IPPROTO_TCP, TCP_NODELAY, &one, sizeof one);
-        fcntl(c->fd, F_SETFL, O_NONBLOCK);
-        struct epoll_event ev = {.events = EPOLLIN, .data.ptr = c};
-        epoll_ctl(ep, EPOLL_CTL_ADD, c->fd, &ev);
+        dial(c);
         top_up(c); flush_out(ep, c);
         if (o.conns > 64 && n % 4 == 0) usleep(1000); // a backlog of 128 is not to overflow while the server has no processor
     }
