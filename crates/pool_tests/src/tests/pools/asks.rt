@@ -72,15 +72,15 @@ fn six_asks<R: Wait>(
     run(rt, alloc, source, cache_bytes, &SixAsks { keys: *keys })
 }
 
-// What is expected where these asks were hits and showed this, and the report of all six asks, of which so many were
-// hits. Each of the others led, and for so many the source was called.
+// What is expected where these asks were hits and showed this, and the report of all asks, of which so many were hits
+// and so many led. For so many of those the source was called.
 fn expected(shown: Shown, hits: u64, led: u64, calls: u64) -> Option<(Shown, Report)> {
     let report = Report {
         hits,
         led,
         calls,
         left: led.saturating_sub(calls),
-        ..all_called(6)
+        ..all_called(hits.saturating_add(led))
     };
     Some((shown, report))
 }
@@ -123,13 +123,7 @@ impl Steps for ThreeKeys {
 
 #[test]
 fn the_oldest_value_goes_first(rt: HostRuntime) {
-    let report = Report {
-        hits: 1,
-        led: 4,
-        calls: 4,
-        ..all_called(5)
-    };
-    let shown = ([false, false, false, false, true], *b"abcac");
     let seen = run(&rt, rt.alloc(), DemoSource, 4, &ThreeKeys);
-    assert_eq!(rt; seen, Some((shown, report)));
+    let hits = [false, false, false, false, true];
+    assert_eq!(rt; seen, expected((hits, *b"abcac"), 1, 4, 4));
 }

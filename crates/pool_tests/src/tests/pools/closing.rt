@@ -57,19 +57,22 @@ impl<'a> Steps for AskThrice<'a> {
     }
 }
 
-// The third ask led a flight whose job was left.
-#[test]
-fn a_pool_that_lacks_seats_comes_back_and_is_closed_with_all(rt: HostRuntime) {
-    let report = Report {
+// The report of the three asks. The third one led a flight whose job was left.
+fn report_of_three() -> Report {
+    Report {
         led: 2,
         joined: 1,
         calls: 1,
         left: 1,
         ..all_called(3)
-    };
+    }
+}
+
+#[test]
+fn a_pool_that_lacks_seats_comes_back_and_is_closed_with_all(rt: HostRuntime) {
     let calls = AtomicU64::new(0);
     let seen = AskThrice { calls: &calls }.run(&rt, rt.alloc());
-    assert_eq!(rt; seen, Some(([true; 2], report)));
+    assert_eq!(rt; seen, Some(([true; 2], report_of_three())));
 }
 
 #[test]

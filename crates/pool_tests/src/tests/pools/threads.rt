@@ -71,6 +71,31 @@ const ALONE: Setting = Setting {
     together: 0,
 };
 
+impl Setting {
+    // The same with so many workers and connections.
+    const fn with_threads(self, workers: usize, conns: usize) -> Setting {
+        Setting {
+            workers,
+            conns,
+            ..self
+        }
+    }
+
+    // The same with so many rounds, each of so many keys.
+    const fn with_keys(self, rounds: u16, keys: u16) -> Setting {
+        Setting {
+            rounds,
+            keys,
+            ..self
+        }
+    }
+
+    // The same with workers that are held back.
+    const fn with_slow(self, slow: Slow) -> Setting {
+        Setting { slow, ..self }
+    }
+}
+
 // Claims on the echo of these keys of two bytes.
 fn ask_each<S: Source, L: Ledger, R: Wait>(
     rt: &R,
@@ -189,12 +214,10 @@ fn use_every<S: Source, L: Ledger + Send + Sync, R: Threads + Wait + Sync>(
 }
 
 // The report of a pool whose workers and connections each have a thread.
-fn report_over<L: Ledger + Send + Sync, R: Threads + Wait + Sync>(
-    rt: &R,
-    alloc: Global,
-    setting: Setting,
-    blank: Blank,
-) -> Option<Report>
+fn report_over<L, R>(rt: &R, alloc: Global, setting: Setting, blank: Blank) -> Option<Report>
+where
+    L: Ledger + Send + Sync,
+    R: Threads + Wait + Sync,
     requires name { blank.name ≡ L.name }
     requires parts { (blank.parts ≡ L.parts) × (blank.parts ≡ 16) }
 {
@@ -216,24 +239,16 @@ fn report_of<R: Threads + Wait + Sync>(rt: &R, alloc: Global, setting: Setting) 
 
 #[test]
 fn one_worker_fills_three_hundred_keys(rt: HostRuntime) {
-    let setting = Setting {
-        keys: 300,
-        slow: Slow::AtZero,
-        ..ALONE
-    };
+    let setting = ALONE.with_keys(1, 300).with_slow(Slow::AtZero);
     assert_eq!(rt; report_of(&rt, rt.alloc(), setting), Some(all_called(300)));
 }
 
 // No worker makes as many fills as tell of room: who waits for it is told that the queue is empty.
 #[test]
 fn sixteen_workers_fill_three_hundred_keys(rt: HostRuntime) {
-    let setting = Setting {
-        workers: 16,
-        keys: 300,
-        slow: Slow::Always,
-        ..ALONE
-    };
-    assert_eq!(rt; report_of(&rt, rt.alloc(), setting), Some(all_called(300)));
+    let setting = ALONE.with_threads(16, 1).with_keys(1, 300);
+    let report = report_of(&rt, rt.alloc(), setting.with_slow(Slow::Always));
+    assert_eq!(rt; report, Some(all_called(300)));
 }
 
 // What is the same in every run: the asks, the strangers and what is left, and whether each flight was called for.
@@ -249,42 +264,24 @@ fn same_each_run<R: Threads + Wait + Sync>(
 
 #[test]
 fn sixteen_workers_serve_sixteen_connections(rt: HostRuntime) {
-    let setting = Setting {
-        workers: 16,
-        conns: 16,
-        keys: 250,
-        ..ALONE
-    };
-    assert_eq!(rt;
-        same_each_run(&rt, rt.alloc(), setting),
-        Some((4000, 0, 0, true))
-    );
+    let setting = ALONE.with_threads(16, 16).with_keys(1, 250);
+    let seen = same_each_run(&rt, rt.alloc(), setting);
+    assert_eq!(rt; seen, Some((4000, 0, 0, true)));
 }
 
 #[test]
 fn all_that_wait_for_a_fill_are_woken(rt: HostRuntime) {
-    let setting = Setting {
-        conns: 16,
-        rounds: 20,
-        slow: Slow::Always,
-        ..ALONE
-    };
-    assert_eq!(rt;
-        same_each_run(&rt, rt.alloc(), setting),
-        Some((320, 0, 0, true))
-    );
+    let setting = ALONE.with_threads(1, 16).with_keys(20, 1);
+    let seen = same_each_run(&rt, rt.alloc(), setting.with_slow(Slow::Always));
+    assert_eq!(rt; seen, Some((320, 0, 0, true)));
 }
 
 #[test]
 fn no_lock_is_held_while_the_source_is_called(rt: HostRuntime) {
     let setting = Setting {
-        workers: 2,
-        keys: 2,
         together: 2,
-        ..ALONE
+        ..ALONE.with_threads(2, 1).with_keys(1, 2)
     };
-    assert_eq!(rt;
-        same_each_run(&rt, rt.alloc(), setting),
-        Some((2, 0, 0, true))
-    );
+    let seen = same_each_run(&rt, rt.alloc(), setting);
+    assert_eq!(rt; seen, Some((2, 0, 0, true)));
 }
