@@ -9,12 +9,16 @@ Its last line is `rows N failures 0`; where a row fails, so does the program.
 import os
 import re
 import resource
+import signal
 import socket
 import subprocess
 import sys
 import tempfile
 
+from common import free_port
+
 PROGRAM = sys.argv[1] if len(sys.argv) > 1 else "crates/peer_front/out/peer_front"
+ON_TERM = os.path.join(os.path.dirname(os.path.abspath(__file__)), "../examples/service/end_on_term.sh")
 
 
 def taken_address():
@@ -160,6 +164,20 @@ def ended_at_once(words, files=20000):
     return done.returncode, done.stderr.decode()
 
 
+def told_to_end(sent):
+    """What a server under `end_on_term.sh` prints that is sent this signal behind a reply, and its status."""
+    address = ("127.0.0.1", free_port())
+    words = [ON_TERM, PROGRAM, "--until-eof", "--demo", "--listen", "%s:%d" % address]
+    run = subprocess.Popen(words, stdout=subprocess.PIPE, stderr=subprocess.DEVNULL)
+    run.stdout.readline()
+    with socket.create_connection(address, 10) as client:
+        client.sendall(b"GET /_groupcache/echo/k HTTP/1.1\r\nHost: h\r\n\r\n")
+        client.recv(1000)
+        run.send_signal(sent)
+        printed, _ = run.communicate(timeout=30)
+    return printed, run.returncode
+
+
 def hides_port(told):
     return re.sub(r"127\.0\.0\.1:[1-9]\d*", "ADDR", told)
 
@@ -193,7 +211,13 @@ for words in TAKEN_WORDS:
         failures += 1
         print("words", words, "printed", line)
 
+for sent in (signal.SIGTERM, signal.SIGINT):
+    printed, ended = told_to_end(sent)
+    if ended != 0 or printed != b"asked 1 hits 0 led 1 joined 0 calls 1 rehits 0 left 0\n":
+        failures += 1
+        print("sent", sent, "printed", printed, "status", ended)
+
 for name in (GOOD, BAD, TWICE, LARGE, ECHO):
     os.unlink(name)
-print("rows", len(ROWS) + len(STARTS) + len(FEW_FILES) + len(TAKEN_WORDS), "failures", failures)
+print("rows", len(ROWS) + len(STARTS) + len(FEW_FILES) + len(TAKEN_WORDS) + 2, "failures", failures)
 sys.exit(1 if failures else 0)
