@@ -250,7 +250,9 @@ def try_unit():
         return
     with tempfile.TemporaryDirectory() as folder:
         unit = os.path.join(folder, "peer_front.service")
-        text = open(os.path.join(HERE, "..", "service", "peer_front.service")).read()
+        service = os.path.abspath(os.path.join(HERE, "..", "service"))
+        text = open(os.path.join(service, "peer_front.service")).read()
+        text = text.replace("/usr/local/bin/end_on_term.sh", os.path.join(service, "end_on_term.sh"))
         with open(unit, "w") as file:
             file.write(text.replace("/usr/local/bin/peer_front", PROGRAM))
         told = subprocess.run(["systemd-analyze", "verify", unit], capture_output=True, text=True)
