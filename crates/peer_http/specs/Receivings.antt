@@ -9,6 +9,7 @@ use Rattle.http1.specs.Decoder.{Completes}
 use Rattle.peer_http.specs.Asks.{Awaits}
 use Rattle.peer_http.specs.Replies.{Interims, IsReply}
 use Rattle.peer_http.specs.declared.fault.Fault.{Fault}
+use Rattle.peer_http.specs.declared.fault.ReplyFault.{ReplyFault}
 use Rattle.peer_http.specs.declared.stage.Stage.{Stage}
 use Rattle.peer_http.specs.declared.stage.Stage.TheVariants as stage
 
@@ -46,3 +47,10 @@ TakesContent old new unread unread' value value' (Ok false) =
     ((came : List ℕ) (status : ℕ) → IsInContent came status old unread value → IsInContent came status new unread' value')
     × ((d : Decoder) → old.reading ≡ Reads.Body d → new.reading ≡ Reads.Body UntilClose → unread' ≡ [])
 TakesContent old new unread unread' value value' (Err f) = Unit {0}
+
+-- what was read of a body, of bytes that begin with a reply: the whole of it, or all that is there, which is the whole where it
+-- runs until the end of the connection
+abbrev pub ReadsBody : List ℕ → ℕ → Client → List ℕ → Result Bool ReplyFault → Type 0
+ReadsBody came status c value (Ok true) = ∥ IsStanding came status value ∥₁
+ReadsBody came status c value (Ok false) = ∥ (c.reading ≡ Reads.Body UntilClose → IsReply came status value) ∥₁
+ReadsBody came status c value (Err f) = Unit {0}

@@ -2,9 +2,9 @@
 //!
 //! It stands on `heads` and `content`, and on a history of the bytes that came, which only contracts see.
 //! It promises of a reply that is given that the bytes that came begin with it.
-ghost use Rattle.std.specs.Prelude.{◌≡◌, ◌≢◌, ◌≤◌, ◌++◌, [], length, Err, IfOk, IfSome, IsTrue};
+ghost use Rattle.std.specs.Prelude.{◌≡◌, ◌≢◌, ◌≤◌, ◌++◌, [], length, true, Err, IfOk, IfSome, IsTrue, Ok};
 ghost use Rattle.peer_http.specs.Asks.{Awaits};
-ghost use Rattle.peer_http.specs.Receivings.{IsReadTo, IsStanding};
+ghost use Rattle.peer_http.specs.Receivings.{IsReadTo, IsStanding, ReadsBody};
 ghost use Rattle.peer_http.specs.Replies.{IsReply};
 ghost use Rattle.peer_http.specs.declared.stage.Stage.TheVariants as at;
 ghost use Rattle.peer_http.specs.declared.fault.ReplyFault.TheVariants as told;
@@ -123,6 +123,37 @@ impl Receiving {
         }
     }
 
+    // Takes what came of the body of the reply of this status, and says whether that was the whole of it. Nothing more is
+    // taken unless more has to come.
+    fn read_body(&mut self, status: u16) -> Result<bool, ReplyFault>
+        requires { self.old.stage ≡ at.Content status }
+        ensures came { self.new.came.bytes ≡ self.old.came.bytes }
+        ensures most { self.new.most ≡ self.old.most }
+        ensures silent { result ≢ Err told.Silent }
+        ensures over { result ≡ Ok true → self.new.stage ≡ at.Over }
+        ensures reads { ReadsBody self.new.came.bytes status self.new.client self.new.value.items result }
+    {
+        let mut spans = [EMPTY_HEADER_SPAN; FIELDS];
+        let taken = take_content(
+            &mut self.client,
+            &mut self.intake,
+            &mut spans,
+            &mut self.value,
+            self.most,
+        );
+        match taken {
+            Ok(false) => Ok(false),
+            Ok(true) => {
+                self.stage = Stage::Over;
+                Ok(true)
+            }
+            Err(fault) => {
+                self.stage = Stage::Over;
+                Err(content_fault(fault, status))
+            }
+        }
+    }
+
     // Takes what came of the body, and gives the reply, once that is the whole of it.
     fn read_content(&mut self) -> Result<Option<Reply>, ReplyFault>
         ensures came { self.new.came.bytes ≡ self.old.came.bytes }
@@ -134,24 +165,10 @@ impl Receiving {
         let Stage::Content(status) = self.stage else {
             return Ok(None);
         };
-        let mut spans = [EMPTY_HEADER_SPAN; FIELDS];
-        let taken = take_content(
-            &mut self.client,
-            &mut self.intake,
-            &mut spans,
-            &mut self.value,
-            self.most,
-        );
-        match taken {
-            Ok(true) => {
-                self.stage = Stage::Over;
-                Ok(Some(self.give(status)))
-            }
+        match self.read_body(status) {
+            Ok(true) => Ok(Some(self.give(status))),
             Ok(false) => Ok(None),
-            Err(fault) => {
-                self.stage = Stage::Over;
-                Err(content_fault(fault, status))
-            }
+            Err(fault) => Err(fault),
         }
     }
 
@@ -201,20 +218,13 @@ impl Receiving {
         let Stage::Content(status) = self.stage else {
             return Err(self.cut());
         };
-        let mut spans = [EMPTY_HEADER_SPAN; FIELDS];
-        let taken = take_content(
-            &mut self.client,
-            &mut self.intake,
-            &mut spans,
-            &mut self.value,
-            self.most,
-        );
+        let body = self.read_body(status);
         self.stage = Stage::Over;
-        match taken {
+        match body {
             Ok(true) => Ok(self.give(status)),
             Ok(false) if ends_here(&mut self.client) => Ok(self.give(status)),
             Ok(false) => Err(content_fault(Fault::Lost, status)),
-            Err(fault) => Err(content_fault(fault, status)),
+            Err(fault) => Err(fault),
         }
     }
 }
