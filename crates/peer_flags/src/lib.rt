@@ -4,12 +4,14 @@
 //! sentence that names it; and never more connections or values under way than were asked for.
 #![tactic(auto)]
 
+mod flags;
 mod options;
 mod room;
 mod size;
 #[cfg(test)]
 mod tests;
 
-pub use options::{BadWord, Options, PageAddress, WordFault, command};
+pub use flags::command;
+pub use options::{BadWord, Options, PageAddress, WordFault};
 pub use room::Room;
 pub use size::{bytes_of, number_of};

@@ -1,5 +1,6 @@
 //! Tests of the words that the program is called with: what each bad one prints.
-use crate::options::{Options, command};
+use crate::flags::command;
+use crate::options::Options;
 use crate::room::Room;
 use crate::size::bytes_of;
 use std::alloc::Global;
