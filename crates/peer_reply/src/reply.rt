@@ -6,6 +6,7 @@ ghost use Rattle.peer_reply.specs.Texts.{crlf, connection_field, fault_reply, an
 use crate::fault::Fault;
 use crate::head::{HeadRoom, INTERNAL_ERROR, VALUE, write_head};
 use crate::opening::Opening;
+use crate::wish::ReplyForm;
 use peer_source::{Fill, Outcome, Source};
 use std::marker::Model;
 
@@ -35,23 +36,22 @@ fn reply_of<'a>(
     opening: Opening,
     value: &'a [u8],
     ending: &'static [u8],
-    closing: bool,
-    bare: bool,
+    form: ReplyForm,
 ) -> Reply<'a>
     requires start { length start.now ≤ 160 }
     requires content { length (opening_bytes opening) + length value.now + length ending.now < 2 ^ 64 }
     ensures { let content = opening_bytes opening ++ value.now ++ ending.now in
-        result ≡ start.now ++ decimal (length content) ++ crlf ++ connection_field closing ++ crlf ++ cond bare [] content }
+        result ≡ start.now ++ decimal (length content) ++ crlf ++ connection_field form.closing ++ crlf ++ cond form.bare [] content }
 {
     let length = opening.as_slice().len() + value.len() + ending.len();
-    write_head(room, start, length as u64, closing);
+    write_head(room, start, length as u64, form.closing);
     let mut reply = Reply {
         head: room.as_slice(),
         opening,
         value,
         ending,
     };
-    if bare {
+    if form.bare {
         reply.opening = Opening::Text(b"");
         reply.value = b"";
         reply.ending = b"";
@@ -81,17 +81,10 @@ impl<'a> Reply<'a> {
     ) -> Reply<'a>
         ensures { result ≡ fault_reply closing bare fault.now }
     {
+        let form = ReplyForm { closing, bare };
         let line = fault.line();
         let opening = Opening::Text(line.text);
-        reply_of(
-            room,
-            line.start,
-            opening,
-            fault.name(),
-            line.ending,
-            closing,
-            bare,
-        )
+        reply_of(room, line.start, opening, fault.name(), line.ending, form)
     }
 
     /// The reply to what the source answered, none where memory was refused. Its head is written into the room.
@@ -103,6 +96,7 @@ impl<'a> Reply<'a> {
     ) -> Option<Reply<'a>>
         ensures { result ≡ option_map (answer_reply closing bare) fill.now.answer }
     {
+        let form = ReplyForm { closing, bare };
         let reply = match fill.outcome() {
             Outcome::Found(value) => reply_of(
                 room,
@@ -110,8 +104,7 @@ impl<'a> Reply<'a> {
                 Opening::of_value(value.len()),
                 value.as_slice(),
                 b"",
-                closing,
-                bare,
+                form,
             ),
             Outcome::Failed(text) => reply_of(
                 room,
@@ -119,8 +112,7 @@ impl<'a> Reply<'a> {
                 Opening::Text(b""),
                 text.as_slice(),
                 b"\n",
-                closing,
-                bare,
+                form,
             ),
             Outcome::NoMemory => return None,
         };
