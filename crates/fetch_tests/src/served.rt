@@ -96,7 +96,7 @@ fn serve_clients<
         rt,
         move || -> Option<Report>
             requires { Allows (S.answers source) plan }
-        { serve_fetching(rt, rt.alloc(), source, listener, settings, plan).ok() },
+        { serve_fetching(rt, rt.alloc(), source, listener, settings, Some(plan)).ok() },
         move || -> Option<bool> {
             let asked = ask_all(rt, rt.alloc(), address);
             settings.stop.stop();

@@ -140,7 +140,27 @@ fn over_pool<S: Source, L: Ledger + Send + Sync, H: Host>(
 }
 
 /// Serves the listener's clients until so many connections as the settings say were accepted and have ended, or until it
-/// was told to stop, and gives the pool's report.
+/// was told to stop, and gives the pool's report. Where there is a plan, threads that fill fetch the values of its groups,
+/// each with hundreds under way. They call the source for all others, and so do loops that fill, for all groups.
+pub fn serve_fetching<
+    S: Source,
+    H: Net<Listener = TcpListener, Stream = TcpStream> + Threads + Wait + Clock + Sync,
+>(
+    rt: &H,
+    alloc: Global,
+    source: S,
+    listener: TcpListener,
+    settings: &Settings<'_>,
+    plan: Option<FetchPlan<'_>>,
+) -> Result<Report, ServerFault>
+    requires allows { IfSome plan (Allows (S.answers source)) }
+    ensures { ServesWith (fill_seats settings.now) settings.now.loops (S.count source) result }
+{
+    let orders = Orders { settings, plan };
+    over_pool::<S, Brand, H>(rt, alloc, source, listener, orders, Blank::new(16))
+}
+
+/// The same without a plan: all values are had by calls of the source.
 pub fn serve_loops<
     S: Source,
     H: Net<Listener = TcpListener, Stream = TcpStream> + Threads + Wait + Clock + Sync,
@@ -153,32 +173,5 @@ pub fn serve_loops<
 ) -> Result<Report, ServerFault>
     ensures { ServesWith (fill_seats settings.now) settings.now.loops (S.count source) result }
 {
-    let orders = Orders {
-        settings,
-        plan: None,
-    };
-    over_pool::<S, Brand, H>(rt, alloc, source, listener, orders, Blank::new(16))
-}
-
-/// The same, but threads that fill fetch the values of the plan's groups, each with hundreds under way. They call the source
-/// for all others, and so do loops that fill, for all groups.
-pub fn serve_fetching<
-    S: Source,
-    H: Net<Listener = TcpListener, Stream = TcpStream> + Threads + Wait + Clock + Sync,
->(
-    rt: &H,
-    alloc: Global,
-    source: S,
-    listener: TcpListener,
-    settings: &Settings<'_>,
-    plan: FetchPlan<'_>,
-) -> Result<Report, ServerFault>
-    requires allows { Allows (S.answers source) plan }
-    ensures { ServesWith (fill_seats settings.now) settings.now.loops (S.count source) result }
-{
-    let orders = Orders {
-        settings,
-        plan: Some(plan),
-    };
-    over_pool::<S, Brand, H>(rt, alloc, source, listener, orders, Blank::new(16))
+    serve_fetching(rt, alloc, source, listener, settings, None)
 }
