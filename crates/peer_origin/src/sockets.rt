@@ -90,7 +90,7 @@ impl<'a, H: Network> Sockets<'a, H> {
         &self,
         stream: Arc<TcpStream>,
     ) -> Option<Connection<StreamReader<'a, H>, StreamWriter<'a, H>>>
-        ensures calls { IfSome result (λ c. c.reader.calls ≡ 0) }
+        ensures calls { IfSome result (λ c. c.reader.counts.calls ≡ 0) }
         ensures failures { IfSome result (λ c. c.writer.failures ≡ 0) }
     {
         let other = stream.clone().ok()?;

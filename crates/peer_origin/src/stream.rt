@@ -2,7 +2,7 @@
 ghost use Rattle.std.specs.Prelude.{◌≡◌, ◌<◌, ◌≤◌, length, None, IfSome};
 
 use crate::deadline::Deadline;
-use peer_view::{PeerRead, PeerWrite, ReadFailed, WriteFailed};
+use peer_view::{PeerRead, PeerWrite, ReadCounts, ReadFailed, WriteFailed};
 use std::io;
 use std::io::{ErrorKind, Read, Write};
 use std::net::TcpStream;
@@ -14,51 +14,18 @@ fn is_timeout(error: &io::Error) -> bool {
     matches!(error.kind(), ErrorKind::WouldBlock | ErrorKind::TimedOut)
 }
 
-/// A reader of what an origin sends by the deadline.
+// What an origin sends by the deadline.
 #[derive(Drop)]
-pub struct StreamReader<'a, H> {
+struct Input<'a, H> {
     stream: Arc<TcpStream>,
     deadline: &'a Deadline<'a, H>,
     late: bool,
-    calls: u64,
-    ends: u64,
-    failures: u64,
-    ghost ends_counted: { ends ≤ calls },
-    ghost failures_counted: { failures ≤ calls },
 }
 
-impl<'a, H: Clock> StreamReader<'a, H> {
-    /// A reader that was not called yet.
-    pub fn new(stream: Arc<TcpStream>, deadline: &'a Deadline<'a, H>) -> StreamReader<'a, H>
-        ensures calls { result.calls ≡ 0 }
-    {
-        StreamReader {
-            stream,
-            deadline,
-            late: false,
-            calls: 0,
-            ends: 0,
-            failures: 0,
-        }
-    }
-
-    /// Whether a read failed for its time.
-    pub fn is_late(&self) -> bool {
-        self.late
-    }
-
-    /// The stream, once the reader has served.
-    pub fn into_stream(self) -> Arc<TcpStream> {
-        let StreamReader { stream, .. } = self;
-        stream
-    }
-
+impl<'a, H: Clock> Input<'a, H> {
     // The bytes that come next, or none where the stream failed or the time is over.
     fn receive(&mut self, room: &mut [u8]) -> Option<usize>
-        ensures bound { IfSome result (λ n. n ≤ length room.new) }
-        ensures calls { self.new.calls ≡ self.old.calls }
-        ensures ends { self.new.ends ≡ self.old.ends }
-        ensures failures { self.new.failures ≡ self.old.failures }
+        ensures { IfSome result (λ n. n ≤ length room.new) }
     {
         let Some(left) = self.deadline.left() else {
             self.late = true;
@@ -76,30 +43,54 @@ impl<'a, H: Clock> StreamReader<'a, H> {
     }
 }
 
+/// A reader of what an origin sends by the deadline.
+#[derive(Drop)]
+pub struct StreamReader<'a, H> {
+    input: Input<'a, H>,
+    counts: ReadCounts,
+}
+
+impl<'a, H: Clock> StreamReader<'a, H> {
+    /// A reader that was not called yet.
+    pub fn new(stream: Arc<TcpStream>, deadline: &'a Deadline<'a, H>) -> StreamReader<'a, H>
+        ensures calls { result.counts.calls ≡ 0 }
+    {
+        StreamReader {
+            input: Input {
+                stream,
+                deadline,
+                late: false,
+            },
+            counts: ReadCounts::none(),
+        }
+    }
+
+    /// Whether a read failed for its time.
+    pub fn is_late(&self) -> bool {
+        self.input.late
+    }
+
+    /// The stream, once the reader has served.
+    pub fn into_stream(self) -> Arc<TcpStream> {
+        let StreamReader { input, .. } = self;
+        let Input { stream, .. } = input;
+        stream
+    }
+}
+
 impl<'a, H: Clock> PeerRead for StreamReader<'a, H> {
     ghost given = { λ r. None };
 
-    ghost calls = { λ r. r.calls };
+    ghost calls = { λ r. r.counts.calls };
 
-    ghost ends = { λ r. r.ends };
+    ghost ends = { λ r. r.counts.ends };
 
-    ghost failures = { λ r. r.failures };
+    ghost failures = { λ r. r.counts.failures };
 
     /// Waits for bytes by the deadline.
     fn read(&mut self, room: &mut [u8]) -> Result<usize, ReadFailed> {
-        self.calls += 1;
-        match self.receive(room) {
-            Some(n) => {
-                if n == 0 && !room.is_empty() {
-                    self.ends += 1;
-                }
-                Ok(n)
-            }
-            None => {
-                self.failures += 1;
-                Err(ReadFailed)
-            }
-        }
+        let given = self.input.receive(room);
+        self.counts.count(given, room)
     }
 }
 

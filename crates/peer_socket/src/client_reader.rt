@@ -2,7 +2,7 @@
 ghost use Rattle.std.specs.Prelude.{◌≡◌, ◌≤◌, length, None, IfSome};
 
 use crate::client::{Client, is_timeout};
-use peer_view::{PeerRead, ReadFailed};
+use peer_view::{PeerRead, ReadCounts, ReadFailed};
 use std::io::Read;
 use std::time::{Clock, Instant};
 
@@ -87,60 +87,43 @@ impl<'a, H: Clock> Input<'a, H> {
 #[derive(Drop)]
 pub struct ClientReader<'a, H> {
     input: Input<'a, H>,
-    calls: u64,
-    ends: u64,
-    failures: u64,
-    ghost ends_counted: { ends ≤ calls },
-    ghost failures_counted: { failures ≤ calls },
+    counts: ReadCounts,
 }
 
 impl<'a, H: Clock> ClientReader<'a, H> {
     /// A reader that was not called yet.
     pub fn new(client: &'a Client<'a, H>) -> ClientReader<'a, H>
-        ensures calls { result.calls ≡ 0 }
-        ensures ends { result.ends ≡ 0 }
-        ensures failures { result.failures ≡ 0 }
+        ensures calls { result.counts.calls ≡ 0 }
+        ensures ends { result.counts.ends ≡ 0 }
+        ensures failures { result.counts.failures ≡ 0 }
     {
         ClientReader {
             input: Input {
                 client,
                 unanswered: None,
             },
-            calls: 0,
-            ends: 0,
-            failures: 0,
+            counts: ReadCounts::none(),
         }
     }
 
     /// Whether the client told its end.
     pub fn has_ended(&self) -> bool {
-        self.ends > 0
+        self.counts.ends > 0
     }
 }
 
 impl<'a, H: Clock> PeerRead for ClientReader<'a, H> {
     ghost given = { λ r. None };
 
-    ghost calls = { λ r. r.calls };
+    ghost calls = { λ r. r.counts.calls };
 
-    ghost ends = { λ r. r.ends };
+    ghost ends = { λ r. r.counts.ends };
 
-    ghost failures = { λ r. r.failures };
+    ghost failures = { λ r. r.counts.failures };
 
     /// Waits for bytes as long as the client may be silent.
     fn read(&mut self, room: &mut [u8]) -> Result<usize, ReadFailed> {
-        self.calls += 1;
-        match self.input.receive(room) {
-            Some(n) => {
-                if n == 0 && !room.is_empty() {
-                    self.ends += 1;
-                }
-                Ok(n)
-            }
-            None => {
-                self.failures += 1;
-                Err(ReadFailed)
-            }
-        }
+        let given = self.input.receive(room);
+        self.counts.count(given, room)
     }
 }

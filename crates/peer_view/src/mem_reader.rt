@@ -5,6 +5,7 @@ ghost use Rattle.peer_view.specs.Moves.{moved, failure_count, end_count};
 ghost use Rattle.peer_view.specs.Pieces.{given_of, left_of, piece_at, first_piece, after_read, pieces_of, GivesPiece};
 
 use crate::front::copy_front;
+use crate::read_counts::ReadCounts;
 use crate::reader::{PeerRead, ReadFailed};
 use std::marker::Model;
 
@@ -16,13 +17,10 @@ pub struct MemReader {
     index: usize,
     offset: usize,
     fails: bool,
-    calls: u64,
-    ends: u64,
-    failures: u64,
+    counts: ReadCounts,
 }
 
 impl Model for MemReader {
-    ghost use Rattle.std.specs.Prelude.{◌≤◌};
     ghost use Rattle.peer_view.specs.Pieces.{Tape, given_of, left_of};
 
     ghost Value = { Tape };
@@ -31,12 +29,10 @@ impl Model for MemReader {
       given = given_of r.pieces.items r.index r.offset;
       left = left_of r.pieces.items r.index r.offset;
       fails = r.fails;
-      calls = r.calls;
-      ends = r.ends;
-      failures = r.failures;
+      calls = r.counts.calls;
+      ends = r.counts.ends;
+      failures = r.counts.failures;
     } };
-
-    ghost invariant = { λ r. (r.ends ≤ r.calls) × (r.failures ≤ r.calls) };
 }
 
 /// A place in a list of pieces: the index of a piece, and how much of it was given.
@@ -100,9 +96,7 @@ impl MemReader {
             index: 0,
             offset: 0,
             fails,
-            calls: 0,
-            ends: 0,
-            failures: 0,
+            counts: ReadCounts::none(),
         }
     }
 }
@@ -126,7 +120,6 @@ impl PeerRead for MemReader {
         ensures piece { GivesPiece (length room.old) (moved result room.new) self.old self.new }
         ensures fails { IsErr result ↔ ((0 < length room.old) × (self.old.left ≡ []) × IsTrue self.old.fails) }
     {
-        self.calls += 1;
         let at = next_place(
             &self.pieces,
             Place {
@@ -138,16 +131,13 @@ impl PeerRead for MemReader {
             let n = give(&self.pieces, at, room);
             self.index = at.index;
             self.offset = at.offset + n;
-            return Ok(n);
+            return self.counts.count(Some(n), room);
         }
-        if room.is_empty() {
-            return Ok(0);
-        }
-        if self.fails {
-            self.failures += 1;
-            return Err(ReadFailed);
-        }
-        self.ends += 1;
-        Ok(0)
+        let given = if self.fails && !room.is_empty() {
+            None
+        } else {
+            Some(0)
+        };
+        self.counts.count(given, room)
     }
 }

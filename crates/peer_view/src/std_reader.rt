@@ -3,6 +3,7 @@ ghost use Rattle.std.specs.Prelude.{◌≡◌, ℕ, ◌+◌, ◌-◌, ◌^◌, �
 ghost use Rattle.std.specs.Io.KnownBytes.{Appends, ReadConsumes};
 ghost use Rattle.peer_view.specs.Moves.{moved, failure_count, end_count};
 
+use crate::read_counts::ReadCounts;
 use crate::reader::{PeerRead, ReadFailed};
 use std::io::Read;
 
@@ -10,11 +11,7 @@ use std::io::Read;
 #[derive(Drop)]
 pub struct StdReader<R> {
     inner: R,
-    calls: u64,
-    ends: u64,
-    failures: u64,
-    ghost ends_counted: { ends ≤ calls },
-    ghost failures_counted: { failures ≤ calls },
+    counts: ReadCounts,
 }
 
 impl<R: Read> StdReader<R> {
@@ -29,9 +26,7 @@ impl<R: Read> StdReader<R> {
     {
         StdReader {
             inner,
-            calls: 0,
-            ends: 0,
-            failures: 0,
+            counts: ReadCounts::none(),
         }
     }
 
@@ -39,12 +34,7 @@ impl<R: Read> StdReader<R> {
     pub fn into_inner(self) -> R
         ensures { result ≡ reader_inner self }
     {
-        let StdReader {
-            inner,
-            calls: _,
-            ends: _,
-            failures: _,
-        } = self;
+        let StdReader { inner, counts: _ } = self;
         inner
     }
 }
@@ -52,34 +42,23 @@ impl<R: Read> StdReader<R> {
 impl<R: Read> PeerRead for StdReader<R> {
     ghost given = { λ r. None };
 
-    ghost calls = { λ r. r.calls };
+    ghost calls = { λ r. r.counts.calls };
 
-    ghost ends = { λ r. r.ends };
+    ghost ends = { λ r. r.counts.ends };
 
-    ghost failures = { λ r. r.failures };
+    ghost failures = { λ r. r.counts.failures };
 
     /// Calls the wrapped reader once.
     fn read(&mut self, room: &mut [u8]) -> Result<usize, ReadFailed>
-        requires { self.old.calls < 2 ^ 64 - 1 }
+        requires { self.old.counts.calls < 2 ^ 64 - 1 }
         ensures bound { IfOk result (λ n. n ≤ length room.new) }
         ensures bytes { Appends None None (moved result room.new) }
-        ensures called { self.new.calls ≡ self.old.calls + 1 }
-        ensures end_told { self.new.ends ≡ self.old.ends + end_count result room.new }
-        ensures failed { self.new.failures ≡ self.old.failures + failure_count result }
+        ensures called { self.new.counts.calls ≡ self.old.counts.calls + 1 }
+        ensures end_told { self.new.counts.ends ≡ self.old.counts.ends + end_count result room.new }
+        ensures failed { self.new.counts.failures ≡ self.old.counts.failures + failure_count result }
         ensures inner { ReadConsumes (R.remaining self.old.inner) (R.remaining self.new.inner) result room.new }
     {
-        self.calls += 1;
-        match self.inner.read(room) {
-            Ok(n) => {
-                if n == 0 && !room.is_empty() {
-                    self.ends += 1;
-                }
-                Ok(n)
-            }
-            Err(_) => {
-                self.failures += 1;
-                Err(ReadFailed)
-            }
-        }
+        let given = self.inner.read(room).ok();
+        self.counts.count(given, room)
     }
 }
