@@ -56,18 +56,11 @@ fn main(rt: HostRuntime) -> ExitCode {
 // Does what the words ask for.
 fn run<
     R: Read + Send + Drop + 'static,
-    H: AllocGlobal
-        + Input<Reader = R>
-        + Print
-        + Eprint
-        + Files
-        + RandomSource
-        + Net<Listener = TcpListener, Stream = TcpStream>
-        + Threads
-        + Wait
-        + Clock
-        + Sync,
->(rt: &H, matches: &ArgMatches<'_>) -> Exit {
+    H: Net<Listener = TcpListener, Stream = TcpStream> + Threads + Wait + Clock + Sync,
+>(rt: &H, matches: &ArgMatches<'_>) -> Exit
+where
+    H: AllocGlobal + Input<Reader = R> + Print + Eprint + Files + RandomSource,
+{
     let options = match Options::of(matches) {
         Ok(options) => options,
         Err(bad) => {

@@ -9,7 +9,7 @@ use crate::troubles::tell_troubles;
 use peer_fetch::FetchPlan;
 use peer_fill::Report;
 use peer_host::Host;
-use peer_loop::{ServerFault, Settings, serve_fetching, serve_loops};
+use peer_loop::{ServerFault, Settings, serve_fetching};
 use peer_source::Source;
 use std::net::TcpListener;
 use std::sync::Wait;
@@ -39,10 +39,7 @@ fn serve_planned<S: Source, H: AllocGlobal + Host>(
         settings,
         plan,
     } = service;
-    match plan {
-        Some(plan) => serve_fetching(rt, rt.alloc(), source, listener, settings, plan),
-        None => serve_loops(rt, rt.alloc(), source, listener, settings),
-    }
+    serve_fetching(rt, rt.alloc(), source, listener, settings, plan)
 }
 
 // Serves while this work is done in a thread of its own, and has the work end behind the server.

@@ -14,12 +14,6 @@ use std::fs::Files;
 // The groups for demonstrations.
 const DEMO_GROUPS: [&str; 3] = ["echo", "square", "fill"];
 
-// Says that a group is served twice.
-fn refuse_twice<H: AllocGlobal + Eprint>(rt: &H, word: &str) -> Exit {
-    let _ = eprintln!(rt; "peer_front: {word}: a group of this name is served already");
-    BAD_WORD
-}
-
 // The table that is asked for, if one is.
 fn table_of<H: AllocGlobal + Eprint + Files>(
     rt: &H,
@@ -66,6 +60,35 @@ fn has_demo_group(table: &Option<TableSource>) -> bool {
     }
 }
 
+// Says that a group is served twice, where one is.
+fn check_twice<H: AllocGlobal + Eprint>(
+    rt: &H,
+    options: &Options<'_>,
+    table: &Option<TableSource>,
+    words: &[&str],
+) -> Result<(), Exit> {
+    let word = match first_twice(options, table, words) {
+        Some(word) => word,
+        None if options.demo && has_demo_group(table) => "--demo",
+        None => return Ok(()),
+    };
+    let _ = eprintln!(rt; "peer_front: {word}: a group of this name is served already");
+    Err(BAD_WORD)
+}
+
+// Says that there are no groups, or too many.
+fn check_count<H: AllocGlobal + Eprint>(rt: &H, groups: usize) -> Result<(), Exit> {
+    match groups {
+        0 => Err(refuse(
+            rt,
+            &"nothing to serve: give GROUP=URL, --table FILE or --demo",
+            BAD_WORD,
+        )),
+        1..=64 => Ok(()),
+        _ => Err(refuse(rt, &"there are more than 64 groups", BAD_WORD)),
+    }
+}
+
 /// How services are asked.
 pub fn fetch_settings(options: &Options<'_>) -> FetchSettings {
     FetchSettings {
@@ -101,22 +124,10 @@ pub fn source_of<'a, H: AllocGlobal + Eprint + Files + Network + Sync>(
         Err(bad) => return Err(refuse(rt, &bad, BAD_WORD)),
     };
     let table = table_of(rt, options)?;
-    if let Some(word) = first_twice(options, &table, words) {
-        return Err(refuse_twice(rt, word));
-    }
-    if options.demo && has_demo_group(&table) {
-        return Err(refuse_twice(rt, "--demo"));
-    }
+    check_twice(rt, options, &table, words)?;
     let Some(source) = join(rt, failures, options, table, origins) else {
         return Err(refuse(rt, &"out of memory", OUT_OF_MEMORY));
     };
-    match source.group_count() {
-        0 => Err(refuse(
-            rt,
-            &"nothing to serve: give GROUP=URL, --table FILE or --demo",
-            BAD_WORD,
-        )),
-        1..=64 => Ok(source),
-        _ => Err(refuse(rt, &"there are more than 64 groups", BAD_WORD)),
-    }
+    check_count(rt, source.group_count())?;
+    Ok(source)
 }

@@ -114,16 +114,14 @@ struct Bound {
 }
 
 // Serves a table, or the source for demonstrations where there is none, at an address.
-fn serve<
-    H: AllocGlobal
-        + Print
-        + RandomSource
-        + Net<Listener = TcpListener, Stream = TcpStream>
-        + Threads
-        + Wait
-        + Clock
-        + Sync,
->(rt: &H, table: Option<TableSource>, words: ServerWords<'_>) -> Exit {
+fn serve<H: Net<Listener = TcpListener, Stream = TcpStream> + Threads + Wait + Clock + Sync>(
+    rt: &H,
+    table: Option<TableSource>,
+    words: ServerWords<'_>,
+) -> Exit
+where
+    H: AllocGlobal + Print + RandomSource,
+{
     let Ok(seed) = RandomState::new(rt) else {
         return READ_FAILED;
     };
