@@ -5,8 +5,8 @@ use Rattle.peer_source.specs.Answers.{Filled}
 use Rattle.peer_source.specs.Caches.{Cache, found_fill, fill_of}
 
 -- the cache in each place is that of the group with this number
-abbrev pub EachInPlace : List Cache → Type 0
-EachInPlace caches = (i : ℕ) → ForSome (slice_get caches i) (λ c. c.group ≡ i)
+pub record EachInPlace (caches : List Cache) : Type 0 where
+  pub in_place : (i : ℕ) → ForSome (slice_get caches i) (λ c. c.group ≡ i)
 
 -- it is the fill of a value that was found for this group and key
 abbrev pub IsFoundFor : ℕ → List ℕ → Filled → Type 0

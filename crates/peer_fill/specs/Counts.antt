@@ -2,18 +2,29 @@
 use Rattle.std.specs.Prelude.{◌≡◌, ◌+◌, ℕ}
 use Rattle.peer_fill.specs.declared.counts.AskCounts.{AskCounts}
 use Rattle.peer_fill.specs.declared.counts.FillCounts.{FillCounts}
+use Rattle.peer_fill.specs.declared.counts.Found.{Found}
+use Rattle.peer_fill.specs.declared.counts.Found.TheVariants.{Value, Flight}
 
 -- nothing was asked
 abbrev pub no_asks : AskCounts
 no_asks = record { asked = 0; hits = 0; led = 0; joined = 0; strangers = 0 }
 
--- one claim more that was ready
-abbrev pub with_hit : AskCounts → AskCounts
-with_hit asks = record asks { asked = asks.asked + 1; hits = asks.hits + 1 }
+-- 1 where a value was found, and where a flight was
+abbrev pub hits_of : Found → ℕ
+hits_of Value = 1
+hits_of Flight = 0
 
--- one flight more that was joined
-abbrev pub with_joined : AskCounts → AskCounts
-with_joined asks = record asks { asked = asks.asked + 1; joined = asks.joined + 1 }
+abbrev pub joins_of : Found → ℕ
+joins_of Value = 0
+joins_of Flight = 1
+
+-- one ask more, which found this
+abbrev pub with_found : Found → AskCounts → AskCounts
+with_found found asks = record asks {
+  asked = asks.asked + 1;
+  hits = asks.hits + hits_of found;
+  joined = asks.joined + joins_of found;
+}
 
 -- no job was taken
 abbrev pub no_fills : FillCounts

@@ -1,10 +1,11 @@
 -- How the seats of a pool are taken in: what the totals have then, of parts, of counts, and of what was pushed and popped.
-use Rattle.std.specs.Prelude.{◌≡◌, ◌+◌, [], ◌++◌, List}
+use Rattle.std.specs.Prelude.{◌≡◌, ◌+◌, [], List}
 use Rattle.peer_source.specs.declared.source.Source as Source
 use Rattle.std.specs.declared.sync.ledger.Ledger as Ledger
 use Rattle.crossbeam_queue.specs.Passes.{view}
 use Rattle.peer_fill.specs.Counts.{no_fills, AddsAsks, AddsFills}
-use Rattle.peer_fill.specs.Seats.{asks_of, fills_of, conn_parts, fill_parts, pushed_of, popped_of}
+use Rattle.peer_fill.specs.Jobs.{AreJoined}
+use Rattle.peer_fill.specs.Seats.{asks_of, fills_of, conn_parts, fill_parts}
 use Rattle.peer_fill.specs.Totals.{ArePushedBy, ArePoppedBy, IsTotalOfConns, IsTotalOfFills}
 use Rattle.peer_fill.specs.declared.seats.ConnSeat.{ConnSeat}
 use Rattle.peer_fill.specs.declared.seats.FillSeat.{FillSeat}
@@ -17,8 +18,7 @@ module _ {S L : Type 0} {g : Source.Ghosts S} where
     pub fill_parts : new.fill_parts ≡ old.fill_parts
     pub asks : AddsAsks old.asks (asks_of seat) new.asks
     pub fills : new.fills ≡ old.fills
-    pub pushed : (view new.pass).pushed ≡ (view old.pass).pushed ++ pushed_of seat
-    pub popped : (view new.pass).popped ≡ (view old.pass).popped
+    pub pass : AreJoined (view old.pass) (view seat.pass) (view new.pass)
 
   -- the totals of these seats of connections, which are all, and of no worker's
   pub record GathersConns (seats : List (ConnSeat S L g)) (all : Totals S L g) : Type 0 where
@@ -36,8 +36,7 @@ module _ {S L : Type 0} {g : Source.Ghosts S} {h : Ledger.Ghosts L} where
     pub fill_parts : new.fill_parts ≡ old.fill_parts + fill_parts seat
     pub asks : new.asks ≡ old.asks
     pub fills : AddsFills old.fills (fills_of seat) new.fills
-    pub pushed : (view new.pass).pushed ≡ (view old.pass).pushed
-    pub popped : (view new.pass).popped ≡ (view old.pass).popped ++ popped_of seat
+    pub pass : AreJoined (view old.pass) (view seat.pass) (view new.pass)
 
   -- the same totals, with those of these seats of workers, which are all
   pub record GathersFills (seats : List (FillSeat S L g h)) (old new : Totals S L g) : Type 0 where

@@ -42,6 +42,10 @@ pub record Popped (v : Hand) (number : ℕ) (w : Hand) : Type 0 where
   pub above : All (λ x. x.rank < rank) v.popped
   pub new : w ≡ popped_by v (ranked_at rank number)
 
+-- the third has the parts of both others, and did what both did
+abbrev pub AreJoined : Hand → Hand → Hand → Type 0
+AreJoined v w both = both ≡ hand (v.parts + w.parts) (v.pushed ++ w.pushed) (v.popped ++ w.popped)
+
 -- 1 where a job is left that was not pushed
 abbrev pub left_count : Option ℕ → ℕ
 left_count None = 0

@@ -7,6 +7,7 @@ ghost use Rattle.peer_flight.specs.SingleFlight.{place_of};
 ghost use Rattle.peer_fill.specs.Seats.{asks_of, left_of, IsUnchanged};
 
 use crate::caches::Caches;
+use crate::counts::Found;
 use crate::jobs::Job;
 use crate::pool::Pool;
 use crate::seats::{ConnSeat, MAX_COUNT};
@@ -20,7 +21,7 @@ use std::sync::ledger::Ledger;
 
 impl<S: Source, L: Ledger> ConnSeat<S, L> {
     ghost use Rattle.peer_fill.specs.Caches.{kept_fill};
-    ghost use Rattle.peer_fill.specs.Claiming.{GivesClaim};
+    ghost use Rattle.peer_fill.specs.Claiming.{MayGive};
     ghost use Rattle.peer_fill.specs.Seats.{IsSameConn};
     ghost use Rattle.peer_flight.specs.declared.claim.Claim.TheVariants.{Ready};
 
@@ -33,10 +34,7 @@ impl<S: Source, L: Ledger> ConnSeat<S, L> {
     ) -> Result<Option<Claim<S>>, AllocError>
         requires most { (asks_of self.old).asked < 2 ^ 56 }
         ensures own { IfOk result (λ found. found ≡ option_map Ready (kept_fill caches.old.each.items group.number key.now)) }
-        ensures claim { IfOk result (λ found. IfSome found
-            (GivesClaim (place_of group.number key.now) (asks_of self.old) (asks_of self.new))) }
-        ensures none { IfOk result (λ found. IfNone found (asks_of self.new ≡ asks_of self.old)) }
-        ensures refused { OnErr result (asks_of self.new ≡ asks_of self.old) }
+        ensures gives { MayGive (place_of group.number key.now) (asks_of self.old) (asks_of self.new) result }
         ensures seat { IsSameConn self.old self.new }
         ensures left { left_of self.new ≡ left_of self.old }
     {
@@ -44,13 +42,13 @@ impl<S: Source, L: Ledger> ConnSeat<S, L> {
         let Some(fill) = found else {
             return Ok(None);
         };
-        self.count_hit();
+        self.count(Found::Value);
         Ok(Some(Claim::Ready(fill)))
     }
 }
 
 impl<S: Source, L: Ledger> Pool<S, L> {
-    ghost use Rattle.peer_fill.specs.Claiming.{GivesClaim, KeepsSeat};
+    ghost use Rattle.peer_fill.specs.Claiming.{GivesClaim, KeepsSeat, MayGive};
     ghost use Rattle.peer_fill.specs.Pools.{source_of, IsConnSeatOf};
 
     /// The first half of `ask`: a claim on the value that the group's cache keeps for the key, where it keeps one. `want`
@@ -102,7 +100,7 @@ impl<S: Source, L: Ledger> Pool<S, L> {
         match ask {
             Err(fault) => Err(fault),
             Ok(Ask::Joined(flight)) => {
-                seat.count_joined();
+                seat.count(Found::Flight);
                 Ok(Claim::Pending(flight))
             }
             Ok(Ask::Led(flight, right)) => {
@@ -126,16 +124,13 @@ impl<S: Source, L: Ledger> Pool<S, L> {
         requires most { (asks_of seat.old).asked < 2 ^ 56 }
         ensures seat { KeepsSeat self.now seat.old seat.new }
         ensures left { left_of seat.new ≡ left_of seat.old }
-        ensures claim { IfOk result (λ found. IfSome found
-            (GivesClaim (place_of group.number key.now) (asks_of seat.old) (asks_of seat.new))) }
-        ensures none { IfOk result (λ found. IfNone found (asks_of seat.new ≡ asks_of seat.old)) }
-        ensures refused { OnErr result (asks_of seat.new ≡ asks_of seat.old) }
+        ensures gives { MayGive (place_of group.number key.now) (asks_of seat.old) (asks_of seat.new) result }
     {
         let found = lock(rt, &self.table).join(group, key)?;
         let Some(flight) = found else {
             return Ok(None);
         };
-        seat.count_joined();
+        seat.count(Found::Flight);
         Ok(Some(Claim::Pending(flight)))
     }
 

@@ -3,6 +3,7 @@
 //! It stands on the flights of `peer_flight` and the answers of `peer_source`. It promises that a seat counts a call for each
 //! job that it is given, and that only an answer that the source may give is set.
 ghost use Rattle.std.specs.Prelude.{◌≡◌, ◌+◌, ◌≤◌, IfSome};
+ghost use Rattle.peer_flight.specs.SingleFlight.{place_of};
 ghost use Rattle.peer_fill.specs.Seats.{fills_of, fill_parts};
 
 use crate::gate::Gate;
@@ -105,11 +106,9 @@ impl<S: Source, L: Ledger> Pool<S, L> {
         ensures parts { fill_parts seat.new ≡ fill_parts seat.old }
         ensures counts { fills_of seat.new ≡ fills_of seat.old }
     {
-        seat.make_room();
         let TakenJob { right, key } = job;
-        let group = right.flight().group();
-        let fill = self.call(rt, alloc, group, key, &mut seat.evicted);
-        self.put_and_land(rt, right, fill, gate);
+        let fill = Fill::run(alloc, &self.source, right.flight().group(), key);
+        self.settle(rt, seat, right, fill, gate);
     }
 
     /// Sets the fill of the job's flight: this answer. A value that was found is kept, unless memory refuses that. Those who
@@ -128,10 +127,26 @@ impl<S: Source, L: Ledger> Pool<S, L> {
         ensures parts { fill_parts seat.new ≡ fill_parts seat.old }
         ensures counts { fills_of seat.new ≡ fills_of seat.old }
     {
-        seat.make_room();
         let TakenJob { right, key } = job;
-        let group = right.flight().group();
-        let fill = Fill::of_answer(group, key, outcome);
+        let fill = Fill::of_answer(right.flight().group(), key, outcome);
+        self.settle(rt, seat, right, fill, gate);
+    }
+
+    // Keeps what the fill of the flight found, sets it, and lands the flight.
+    fn settle<R: Wait, G: Gate>(
+        &self,
+        rt: &R,
+        seat: &mut FillSeat<S, L>,
+        right: FillRight<S>,
+        fill: Fill<S>,
+        gate: &G,
+    )
+        requires place { place_of fill.group fill.key ≡ right.place }
+        requires answer { IfSome fill.answer (S.answers (source_of self.now) fill.group fill.key) }
+        ensures same { (seat.new.pass ≡ seat.old.pass) × (fill_parts seat.new ≡ fill_parts seat.old) }
+        ensures counts { fills_of seat.new ≡ fills_of seat.old }
+    {
+        seat.make_room();
         self.keep(rt, &fill, &mut seat.evicted);
         self.put_and_land(rt, right, fill, gate);
     }

@@ -30,6 +30,7 @@ impl<S: Source> Caches<S> {
     }
 
     /// The fill of the value that is kept for the group and the key. A group without a cache has none.
+    #[tactic(auto, using(crate::proofs::Placing::in_place_set))]
     pub fn get(&mut self, group: GroupId, key: &[u8]) -> Result<Option<Fill<S>>, AllocError>
         ensures own { IfOk result (λ found. found ≡ kept_fill self.old.each.items group.number key.now) }
         ensures found { IfOk result (λ found. IfSome found (IsFoundFor group.number key.now)) }
@@ -52,6 +53,7 @@ impl<S: Source> Caches<S> {
     }
 
     /// Keeps a value that was found, in the cache of its group.
+    #[tactic(auto, using(crate::proofs::Placing::in_place_set))]
     pub fn add(&mut self, fill: &Fill<S>, evicted: &mut Evicted) -> Result<(), AllocError> {
         let Some(cache) = self.each.get_mut(fill.group().number) else {
             return Ok(());

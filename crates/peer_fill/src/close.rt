@@ -54,7 +54,7 @@ pub(crate) fn gather_conns<S: Source, L: Ledger>(
     };
     let mut totals = Totals::of(first);
     while let Some(seat) = conns.pop() {
-        totals = totals.add_conn(jobs, seat);
+        totals.add_conn(jobs, seat);
     }
     totals
 }
@@ -73,7 +73,7 @@ pub(crate) fn gather_fills<S: Source, L: Ledger>(
     ensures gathers { GathersFills fills.items totals result }
 {
     while let Some(seat) = fills.pop() {
-        totals = totals.add_fill(jobs, seat);
+        totals.add_fill(jobs, seat);
     }
     totals
 }

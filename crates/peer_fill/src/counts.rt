@@ -1,6 +1,6 @@
 //! What the seats of a pool count.
-ghost use Rattle.std.specs.Prelude.{◌≡◌, ◌+◌, ◌<◌, ◌^◌};
-ghost use Rattle.peer_fill.specs.Counts.{no_asks, no_fills, AddsAsks, AddsFills};
+ghost use Rattle.std.specs.Prelude.{◌≡◌, ◌+◌, ◌<◌, ◌≤◌, ◌^◌};
+ghost use Rattle.peer_fill.specs.Counts.{no_asks, no_fills, with_found, AddsAsks};
 
 /// What connections counted.
 #[derive(Clone, Copy, Debug)]
@@ -26,6 +26,15 @@ pub struct FillCounts {
     pub rehits: u64,
 }
 
+/// What an ask found that led no flight.
+#[derive(Clone, Copy, Debug)]
+pub enum Found {
+    /// A value that was kept.
+    Value,
+    /// A flight that was open, which was joined.
+    Flight,
+}
+
 impl AskCounts {
     // Nothing was asked.
     pub(crate) fn none() -> AskCounts
@@ -37,6 +46,19 @@ impl AskCounts {
             led: 0,
             joined: 0,
             strangers: 0,
+        }
+    }
+
+    // Counts an ask that found this.
+    pub(crate) fn count(&mut self, found: Found)
+        requires asked { self.old.asked < 2 ^ 56 }
+        requires within { self.old.hits + self.old.joined ≤ self.old.asked }
+        ensures { self.new ≡ with_found found self.old }
+    {
+        self.asked += 1;
+        match found {
+            Found::Value => self.hits += 1,
+            Found::Flight => self.joined += 1,
         }
     }
 
@@ -67,18 +89,6 @@ impl FillCounts {
         FillCounts {
             calls: 0,
             rehits: 0,
-        }
-    }
-
-    // Both together.
-    pub(crate) fn plus(self, other: FillCounts) -> FillCounts
-        requires calls { self.calls + other.calls < 2 ^ 64 }
-        requires rehits { self.rehits + other.rehits < 2 ^ 64 }
-        ensures { AddsFills self other result }
-    {
-        FillCounts {
-            calls: self.calls + other.calls,
-            rehits: self.rehits + other.rehits,
         }
     }
 }

@@ -1,19 +1,28 @@
-//! How the parts of a pool are dealt out to its seats.
+//! How a pool's queue and ledger are opened, and their parts dealt out to its seats.
 ghost use Rattle.std.specs.Prelude.{◌≡◌, ◌<◌, ◌≤◌, [], All, IfOk, vec_len};
 ghost use Rattle.crossbeam_queue.specs.Passes.{view, IsPassOf};
 ghost use Rattle.peer_fill.specs.Counts.{no_asks, no_fills};
 ghost use Rattle.peer_fill.specs.Jobs.{hand};
 ghost use Rattle.peer_fill.specs.Seats.{asks_of, fills_of, HaveAllConns, HaveAllFills};
 
-use crate::jobs::{Hand, Job, Jobs, OnePart};
+use crate::jobs::{Half, Hand, Job, Jobs, OnePart, empty_queue};
 use crate::seats::{ConnSeat, FillSeat};
 use crossbeam_queue::Pass;
 use peer_source::Source;
 use std::alloc::{AllocError, Global};
-use std::sync::ledger::{Ledger, Share};
+use std::sync::ledger::{Blank, Book, Ledger, Share};
 
-/// Deals 16 parts of the queue out to the seats of the workers: one each, and the last has the rest.
-pub fn deal_fills<S: Source, L: Ledger>(
+/// The queue of a pool, the book of its ledger, and its seats.
+#[derive(Drop)]
+pub struct Dealt<S: Source, L: Ledger> {
+    pub jobs: Jobs<S>,
+    pub book: Book<L>,
+    pub fills: Vec<FillSeat<S, L>>,
+    pub conns: Vec<ConnSeat<S, L>>,
+}
+
+// Deals 16 parts of the queue out to the seats of the workers: one each, and the last has the rest.
+fn deal_fills<S: Source, L: Ledger>(
     alloc: Global,
     jobs: &Jobs<S>,
     mut pass: Pass<Job<S>, Hand>,
@@ -37,8 +46,8 @@ pub fn deal_fills<S: Source, L: Ledger>(
     Ok(seats)
 }
 
-/// Deals 16 parts of the queue and of the ledger out to the seats of the connections.
-pub fn deal_conns<S: Source, L: Ledger>(
+// Deals 16 parts of the queue and of the ledger out to the seats of the connections.
+fn deal_conns<S: Source, L: Ledger>(
     alloc: Global,
     jobs: &Jobs<S>,
     mut pass: Pass<Job<S>, Hand>,
@@ -63,4 +72,34 @@ pub fn deal_conns<S: Source, L: Ledger>(
     }
     seats.push(ConnSeat::new(pass, share, left))?;
     Ok(seats)
+}
+
+/// Opens the queue and the ledger, and deals all their parts out.
+pub fn deal_all<S: Source, L: Ledger>(
+    alloc: Global,
+    workers: usize,
+    conns: usize,
+    blank: Blank,
+) -> Result<Dealt<S, L>, AllocError>
+    requires workers { (0 < workers) × (workers ≤ 16) }
+    requires conns { (0 < conns) × (conns ≤ 16) }
+    requires blank { (blank.name ≡ L.name) × (blank.parts ≡ L.parts) × (blank.parts ≡ 16) }
+    ensures book { IfOk result (λ dealt. dealt.book.total ≡ 0) }
+    ensures fills { IfOk result (λ dealt. vec_len dealt.fills ≡ workers) }
+    ensures conns { IfOk result (λ dealt. vec_len dealt.conns ≡ conns) }
+    ensures own { IfOk result (λ d. All (λ s. IsPassOf d.jobs s.pass) d.fills.items × All (λ s. IsPassOf d.jobs s.pass) d.conns.items) }
+    ensures fresh { IfOk result (λ d. All (λ s. fills_of s ≡ no_fills) d.fills.items × All (λ s. asks_of s ≡ no_asks) d.conns.items) }
+    ensures all { IfOk result (λ dealt. HaveAllFills dealt.fills.items × HaveAllConns dealt.conns.items) }
+{
+    let (jobs, mut pass) = empty_queue(alloc)?;
+    let rest = jobs.another::<Half>(&mut pass);
+    let (book, share) = blank.open::<L>();
+    let fills = deal_fills(alloc, &jobs, rest, workers)?;
+    let conns = deal_conns(alloc, &jobs, pass, share, conns)?;
+    Ok(Dealt {
+        jobs,
+        book,
+        fills,
+        conns,
+    })
 }

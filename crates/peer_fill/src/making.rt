@@ -82,25 +82,6 @@ impl<S: Source, L: Ledger> Pool<S, L> {
         evicted.clear();
     }
 
-    // What a call of the source gives. A value that it finds is kept, unless memory refuses that.
-    pub(crate) fn call<R: Wait>(
-        &self,
-        rt: &R,
-        alloc: Global,
-        group: GroupId,
-        key: ByteView,
-        evicted: &mut Evicted,
-    ) -> Fill<S>
-        ensures group { result.group ≡ group.number }
-        ensures key { result.key ≡ key }
-        ensures answer { IfSome result.answer (S.answers (source_of self.now) group.number key) }
-        ensures empty { evicted.new.items ≡ [] }
-    {
-        let fill = Fill::run(alloc, &self.source, group, key);
-        self.keep(rt, &fill, evicted);
-        fill
-    }
-
     // The fill that a cache keeps, where it keeps one, and else what a call of the source gives.
     pub(crate) fn make(
         &self,

@@ -6,8 +6,8 @@ ghost use Rattle.peer_fill.specs.Seats.{HaveAllConns, HaveAllFills};
 use crate::caches::Caches;
 use crate::close::{CloseFault, Report, gather_conns, gather_fills};
 use crate::closed::Closed;
-use crate::deal::{deal_conns, deal_fills};
-use crate::jobs::{Half, Jobs, empty_queue};
+use crate::deal::deal_all;
+use crate::jobs::Jobs;
 use crate::open::{OpenFault, Opened, check_numbers};
 use crate::parts::{has_all_conns, has_all_fills};
 use crate::seats::{ConnSeat, FillSeat};
@@ -65,21 +65,21 @@ impl<S: Source, L: Ledger> Pool<S, L> {
         let groups = source.group_count();
         check_numbers(workers, conns, groups)?;
         let caches = Caches::new(alloc, groups, cache_bytes, seed)?;
-        let (jobs, mut pass) = empty_queue(alloc)?;
-        let rest = jobs.another::<Half>(&mut pass);
-        let (book, share) = blank.open::<L>();
-        let fills = deal_fills(alloc, &jobs, rest, workers)?;
-        let conns = deal_conns(alloc, &jobs, pass, share, conns)?;
+        let dealt = deal_all::<S, L>(alloc, workers, conns, blank)?;
         let pool = Pool {
             source,
-            jobs,
-            table: Mutex::new(Counted::new(alloc, book)),
+            jobs: dealt.jobs,
+            table: Mutex::new(Counted::new(alloc, dealt.book)),
             caches: Mutex::new(caches),
             signals: Signals::new(),
             stopping: CachePadded::new(AtomicBool::new(false)),
             ledger_parts: HasSixteenParts::new(),
         };
-        Ok(Opened { pool, fills, conns })
+        Ok(Opened {
+            pool,
+            fills: dealt.fills,
+            conns: dealt.conns,
+        })
     }
 
     /// The names of the source's groups.

@@ -4,7 +4,7 @@ ghost use Rattle.crossbeam_queue.specs.Passes.{view};
 ghost use Rattle.peer_fill.specs.Counts.{no_asks, no_fills, taken_of};
 ghost use Rattle.peer_fill.specs.Jobs.{hand, left_count, Rises};
 
-use crate::counts::{AskCounts, FillCounts};
+use crate::counts::{AskCounts, FillCounts, Found};
 use crate::jobs::{Hand, Job};
 use crossbeam_queue::Pass;
 use peer_source::{Evicted, Source};
@@ -59,7 +59,7 @@ pub struct FillSeat<S: Source, L: Ledger> {
 
 impl<S: Source, L: Ledger> ConnSeat<S, L> {
     ghost use Rattle.peer_fill.specs.Seats.{asks_of, conn_parts, left_of, IsSameConn};
-    ghost use Rattle.peer_fill.specs.Counts.{with_hit, with_joined};
+    ghost use Rattle.peer_fill.specs.Counts.{with_found};
 
     // A seat that has asked nothing.
     pub(crate) fn new(pass: Pass<Job<S>, Hand>, share: Share<L>, parts: u64) -> ConnSeat<S, L>
@@ -123,26 +123,14 @@ impl<S: Source, L: Ledger> ConnSeat<S, L> {
         self.asks.strangers
     }
 
-    // Counts a claim that was ready.
-    pub(crate) fn count_hit(&mut self)
+    // Counts an ask that found this.
+    pub(crate) fn count(&mut self, found: Found)
         requires { (asks_of self.old).asked < 2 ^ 56 }
-        ensures counts { asks_of self.new ≡ with_hit (asks_of self.old) }
+        ensures counts { asks_of self.new ≡ with_found found (asks_of self.old) }
         ensures seat { IsSameConn self.old self.new }
         ensures left { left_of self.new ≡ left_of self.old }
     {
-        self.asks.asked += 1;
-        self.asks.hits += 1;
-    }
-
-    // Counts a flight that it joined.
-    pub(crate) fn count_joined(&mut self)
-        requires { (asks_of self.old).asked < 2 ^ 56 }
-        ensures counts { asks_of self.new ≡ with_joined (asks_of self.old) }
-        ensures seat { IsSameConn self.old self.new }
-        ensures left { left_of self.new ≡ left_of self.old }
-    {
-        self.asks.asked += 1;
-        self.asks.joined += 1;
+        self.asks.count(found);
     }
 
     /// Raises the strangers, to 2^56 at most.

@@ -77,59 +77,29 @@ impl<S: Source, L: Ledger> Totals<S, L> {
     }
 
     // Takes in a connection's seat.
-    pub(crate) fn add_conn(self, jobs: &Jobs<S>, seat: ConnSeat<S, L>) -> Totals<S, L>
-        requires pass { IsPassOf jobs.now self.pass × IsPassOf jobs.now seat.pass }
-        requires room { self.conn_parts + conn_parts seat ≤ 16 }
-        ensures pass { IsPassOf jobs.now result.pass }
-        ensures adds { AddsConn self seat result }
+    pub(crate) fn add_conn(&mut self, jobs: &Jobs<S>, seat: ConnSeat<S, L>)
+        requires pass { IsPassOf jobs.now self.old.pass × IsPassOf jobs.now seat.pass }
+        requires room { self.old.conn_parts + conn_parts seat ≤ 16 }
+        ensures pass { IsPassOf jobs.now self.new.pass }
+        ensures adds { AddsConn self.old seat self.new }
     {
-        let Totals {
-            mut pass,
-            mut share,
-            conn_parts,
-            fill_parts,
-            asks,
-            fills,
-            left,
-        } = self;
-        jobs.absorb::<OnePart>(&mut pass, seat.pass);
-        share.merge(seat.share);
-        Totals {
-            pass,
-            share,
-            conn_parts: conn_parts + seat.parts,
-            fill_parts,
-            asks: asks.plus(seat.asks),
-            fills,
-            left: left + count_left(seat.left),
-        }
+        jobs.absorb::<OnePart>(&mut self.pass, seat.pass);
+        self.share.merge(seat.share);
+        self.conn_parts += seat.parts;
+        self.asks = self.asks.plus(seat.asks);
+        self.left += count_left(seat.left);
     }
 
     // Takes in a worker's seat.
-    pub(crate) fn add_fill(self, jobs: &Jobs<S>, seat: FillSeat<S, L>) -> Totals<S, L>
-        requires pass { IsPassOf jobs.now self.pass × IsPassOf jobs.now seat.pass }
-        requires room { self.fill_parts + fill_parts seat ≤ 16 }
-        ensures pass { IsPassOf jobs.now result.pass }
-        ensures adds { AddsFill self seat result }
+    pub(crate) fn add_fill(&mut self, jobs: &Jobs<S>, seat: FillSeat<S, L>)
+        requires pass { IsPassOf jobs.now self.old.pass × IsPassOf jobs.now seat.pass }
+        requires room { self.old.fill_parts + fill_parts seat ≤ 16 }
+        ensures pass { IsPassOf jobs.now self.new.pass }
+        ensures adds { AddsFill self.old seat self.new }
     {
-        let Totals {
-            mut pass,
-            share,
-            conn_parts,
-            fill_parts,
-            asks,
-            fills,
-            left,
-        } = self;
-        jobs.absorb::<OnePart>(&mut pass, seat.pass);
-        Totals {
-            pass,
-            share,
-            conn_parts,
-            fill_parts: fill_parts + seat.parts,
-            asks,
-            fills: fills.plus(seat.fills),
-            left,
-        }
+        jobs.absorb::<OnePart>(&mut self.pass, seat.pass);
+        self.fill_parts += seat.parts;
+        self.fills.calls += seat.fills.calls;
+        self.fills.rehits += seat.fills.rehits;
     }
 }

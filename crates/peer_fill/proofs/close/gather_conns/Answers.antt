@@ -1,7 +1,8 @@
-use Rattle.std.proofs.Common.{arith, rules, ◌∙◌}
+use Rattle.std.proofs.Common.{ap, arith, rules, ◌∙◌}
 use Rattle.crossbeam_queue.specs.Passes.{IsPassOf}
+use Rattle.peer_fill.specs.declared.jobs.Hand.{Hand}
 use Rattle.peer_fill.specs.Seats.{pushed_of}
-use Rattle.peer_fill.proofs.Gathering.{first_taken, next_taken}
+use Rattle.peer_fill.proofs.Gathering.{first_taken, next_taken, none_more}
 use Rattle.peer_fill.proofs.Lasts.{sum_last, of_last, of_front}
 use Rattle.peer_fill.proofs.close.gather_conns.Goals as goal
 
@@ -23,8 +24,8 @@ loop-seat-init g c =
       popped = rw k.pass c.in-Some.first.popped;
     }
 
-pub add_conn-totals-requires-clause-pass : goal.add_conn-totals-requires-clause-pass
-add_conn-totals-requires-clause-pass g c κs within = (
+pub add_conn-requires-clause-pass : goal.add_conn-requires-clause-pass
+add_conn-requires-clause-pass g c κs within = (
   c.loop-seat.invariant.own,
   of_last (λ s. IsPassOf c.args.jobs.now s.pass) _ _ _ c.in-Some-pop.ensures.items
       c.loop-seat.invariant.others,
@@ -33,7 +34,7 @@ add_conn-totals-requires-clause-pass g c κs within = (
 pub loop-seat-preserved : goal.loop-seat-preserved
 loop-seat-preserved g c =
     let e = c.in-Some-pop.ensures.items in
-    let k = c.add_conn-totals.ensures in
+    let k = c.add_conn.ensures in
     let i = c.loop-seat.invariant in
     record {
       own = k.pass;
@@ -45,6 +46,6 @@ loop-seat-preserved g c =
       led = omega (arith, k.adds.asks.led, i.led, sum_last (λ s. s.asks.led) _ _ _ e);
       joined = omega (arith, k.adds.asks.joined, i.joined, sum_last (λ s. s.asks.joined) _ _ _ e);
       strangers = omega (arith, k.adds.asks.strangers, i.strangers, sum_last (λ s. s.asks.strangers) _ _ _ e);
-      pushed = λ w. next_taken pushed_of _ _ _ _ _ w _ e k.adds.pushed (i.pushed w);
-      popped = k.adds.popped ∙ i.popped;
+      pushed = λ w. next_taken pushed_of _ _ _ _ _ w _ e (ap (λ (y : Hand). y.pushed) k.adds.pass) (i.pushed w);
+      popped = none_more _ _ _ (ap (λ (y : Hand). y.popped) k.adds.pass) c.in-Some-pop.seat.popped ∙ i.popped;
     }

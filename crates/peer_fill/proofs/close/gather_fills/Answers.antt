@@ -1,14 +1,15 @@
-use Rattle.std.proofs.Common.{arith, rules, ◌∙◌}
+use Rattle.std.proofs.Common.{ap, arith, rules, ◌∙◌}
 use Rattle.crossbeam_queue.specs.Passes.{IsPassOf}
+use Rattle.peer_fill.specs.declared.jobs.Hand.{Hand}
 use Rattle.peer_fill.specs.Seats.{popped_of}
-use Rattle.peer_fill.proofs.Gathering.{next_taken}
+use Rattle.peer_fill.proofs.Gathering.{next_taken, none_more}
 use Rattle.peer_fill.proofs.Lasts.{sum_last, of_front}
 use Rattle.peer_fill.proofs.close.gather_fills.Goals as goal
 
 pub loop-seat-preserved : goal.loop-seat-preserved
 loop-seat-preserved g c =
     let e = c.in-Some.ensures.items in
-    let k = c.add_fill-totals.ensures in
+    let k = c.add_fill.ensures in
     let i = c.loop-seat.invariant in
     record {
       own = k.pass;
@@ -18,6 +19,6 @@ loop-seat-preserved g c =
       asks = search rules;
       calls = omega (arith, k.adds.fills.calls, i.calls, sum_last (λ s. s.fills.calls) _ _ _ e);
       rehits = omega (arith, k.adds.fills.rehits, i.rehits, sum_last (λ s. s.fills.rehits) _ _ _ e);
-      pushed = k.adds.pushed ∙ i.pushed;
-      popped = λ w. next_taken popped_of _ _ _ _ _ w _ e k.adds.popped (i.popped w);
+      pushed = none_more _ _ _ (ap (λ (y : Hand). y.pushed) k.adds.pass) c.in-Some.seat.pushed ∙ i.pushed;
+      popped = λ w. next_taken popped_of _ _ _ _ _ w _ e (ap (λ (y : Hand). y.popped) k.adds.pass) (i.popped w);
     }
