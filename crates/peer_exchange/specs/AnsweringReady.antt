@@ -1,5 +1,5 @@
 -- What an exchange answered: the first tickets that waited, and those among them that were made good.
-use Rattle.std.specs.Prelude.{◌≡◌, ◌≤◌, ℕ, ◌+◌, ◌^◌, ◌⊎◌, min, length, true, List, [], ◌∷◌, ◌++◌, Result, Ok, Err, OnOk}
+use Rattle.std.specs.Prelude.{◌≡◌, ◌≤◌, ℕ, ◌+◌, ◌^◌, ◌⊎◌, min, length, true, cond, List, [], ◌∷◌, ◌++◌, Result, Ok, Err, OnOk}
 use Rattle.std.specs.VecDeque.{deque_len}
 use Rattle.peer_fill.specs.declared.counts.AskCounts.{AskCounts}
 use Rattle.peer_lane.specs.declared.ticket.Ticket.{Ticket}
@@ -37,8 +37,8 @@ module _ {S : Type 0} where
 
   -- the first ticket was answered, and a stranger counted exactly where it was made good; or it waits, or it was given up
   abbrev pub AnswersFirst : ExchangeState S → ExchangeState S → AskCounts → AskCounts → Result Answered GivenUp → Type 0
-  AnswersFirst old new asks asks' (Ok answered.Put) = AnswersTicket 0 old new asks asks' × (new.intake.stage ≡ old.intake.stage)
-  AnswersFirst old new asks asks' (Ok answered.MadeGood) = AnswersTicket 1 old new asks asks' × (new.intake.stage ≡ old.intake.stage)
+  AnswersFirst old new asks asks' (Ok (answered.Put made_good)) =
+      AnswersTicket (cond made_good 1 0) old new asks asks' × (new.intake.stage ≡ old.intake.stage)
   AnswersFirst old new asks asks' (Ok answered.Waits) = (new.waiting.items ≡ old.waiting.items) × (asks' ≡ asks)
       × (new.intake.stage ≡ old.intake.stage) × IsAnsweredThrough new
       × (unsent new ≡ unsent old) × (new.window.tickets ≡ old.window.tickets)

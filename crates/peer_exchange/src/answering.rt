@@ -55,8 +55,7 @@ impl<S: Source> ExchangeState<S> {
     {
         loop {
             match self.answer_first(pool, seat) {
-                Ok(Answered::Put) => {}
-                Ok(Answered::MadeGood) => {}
+                Ok(Answered::Put { .. }) => {}
                 Ok(Answered::Waits) => return Ok(()),
                 Err(why) => return Err(why),
             }
@@ -83,22 +82,14 @@ impl<S: Source> ExchangeState<S> {
         };
         let before = self.outgoing.out.len();
         match self.outgoing.answer(pool, ticket) {
-            Ok(Answered::Put) => {
+            Ok(Answered::Put { made_good }) => {
+                seat.add_strangers(u64::from(made_good));
                 drop_first(&mut self.waiting);
                 self.window.put(self.outgoing.out.len() - before);
-                Ok(Answered::Put)
-            }
-            Ok(Answered::MadeGood) => {
-                seat.add_strangers(1);
-                drop_first(&mut self.waiting);
-                self.window.put(self.outgoing.out.len() - before);
-                Ok(Answered::MadeGood)
+                Ok(Answered::Put { made_good })
             }
             Ok(Answered::Waits) => Ok(Answered::Waits),
-            Err(AllocError) => {
-                self.give_up(GivenUp::Memory);
-                Err(GivenUp::Memory)
-            }
+            Err(AllocError) => Err(self.give_up(GivenUp::Memory)),
         }
     }
 }

@@ -176,8 +176,7 @@ impl<S: Source> ExchangeState<S> {
             return Ok(false);
         }
         if self.waiting.reserve(1).is_err() {
-            self.give_up(GivenUp::Memory);
-            return Err(GivenUp::Memory);
+            return Err(self.give_up(GivenUp::Memory));
         }
         match ask_first(rt, pool, seat, names, &self.intake, places) {
             Asked::Ticket(ticket, len) => {
@@ -192,10 +191,7 @@ impl<S: Source> ExchangeState<S> {
                 self.waits_for_job = true;
                 Ok(false)
             }
-            Asked::Refused(why) => {
-                self.give_up(why);
-                Err(why)
-            }
+            Asked::Refused(why) => Err(self.give_up(why)),
         }
     }
 

@@ -100,10 +100,7 @@ impl<S: Source> ExchangeState<S> {
     {
         match self.intake.receive(bytes) {
             Ok(n) => Ok(n),
-            Err(AllocError) => {
-                self.give_up(GivenUp::Memory);
-                Err(GivenUp::Memory)
-            }
+            Err(AllocError) => Err(self.give_up(GivenUp::Memory)),
         }
     }
 
@@ -137,8 +134,9 @@ impl<S: Source> ExchangeState<S> {
         self.outgoing.out.drop_front(n);
     }
 
-    /// Gives up: tickets that wait get no reply.
-    pub(crate) fn give_up(&mut self, why: GivenUp)
+    /// Gives up, and says why: tickets that wait get no reply.
+    pub(crate) fn give_up(&mut self, why: GivenUp) -> GivenUp
+        ensures why { result ≡ why }
         ensures upholds { GivesUp (allows S.allowed) self.old self.new }
         ensures stage { IsGivenUpFor self.new.intake.stage why }
         ensures window { self.new.window.tickets ≡ self.old.window.tickets }
@@ -146,6 +144,7 @@ impl<S: Source> ExchangeState<S> {
         self.intake.give_up(why);
         self.waiting.clear();
         self.waits_for_job = false;
+        why
     }
 
     /// How many bytes it holds for the client: those that are to be sent, and those that came for the tickets that wait.

@@ -7,28 +7,11 @@ use Rattle.peer_exchange.proofs.exchange_state.ExchangeState.answer_ready.Goals 
 pub loop-why-init : goal.loop-why-init
 loop-why-init g c = record { seat = seat_kept c.requires; keeps = λ numbers. keeps_none _; answers = answers_none _ _ c.args.seat.now.most_strangers; stage = refl }
 
-pub loop-why-preserved-in-Ok-Put : goal.loop-why-preserved-in-Ok-Put
-loop-why-preserved-in-Ok-Put g c =
-    let i = c.loop-why.invariant in
-    let put = c.answer_first.ensures in
-    let one = rw c.in-Ok-Put.field-0-is at c.in-Ok-Put.ensures.answers in
-    record {
-      seat = seat_then i.seat put.seat;
-      keeps = λ numbers. keeps_then (i.keeps numbers) (put.keeps numbers);
-      answers = answers_one i.answers one.0;
-      stage = one.1 ∙ i.stage;
-    }
-
-pub loop-why-smaller-in-Ok-Put : goal.loop-why-smaller-in-Ok-Put
-loop-why-smaller-in-Ok-Put g c =
-    let one = rw c.in-Ok-Put.field-0-is at c.in-Ok-Put.ensures.answers in
-    omega (arith, one.0.len)
-
 pub loop-why-preserved : goal.loop-why-preserved
 loop-why-preserved g c =
     let i = c.loop-why.invariant in
     let put = c.answer_first.ensures in
-    let one = rw c.in-Ok-MadeGood.field-0-is at c.in-Ok-MadeGood.ensures.answers in
+    let one = rw c.in-Ok-Put.field-0-is at c.in-Ok-Put.ensures.answers in
     record {
       seat = seat_then i.seat put.seat;
       keeps = λ numbers. keeps_then (i.keeps numbers) (put.keeps numbers);
@@ -38,7 +21,7 @@ loop-why-preserved g c =
 
 pub loop-why-smaller : goal.loop-why-smaller
 loop-why-smaller g c =
-    let one = rw c.in-Ok-MadeGood.field-0-is at c.in-Ok-MadeGood.ensures.answers in
+    let one = rw c.in-Ok-Put.field-0-is at c.in-Ok-Put.ensures.answers in
     omega (arith, one.0.len)
 
 pub returns-in-Ok-Waits : goal.returns-in-Ok-Waits
