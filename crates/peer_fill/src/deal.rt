@@ -85,8 +85,7 @@ pub fn deal_all<S: Source, L: Ledger>(
     requires conns { (0 < conns) × (conns ≤ 16) }
     requires blank { (blank.name ≡ L.name) × (blank.parts ≡ L.parts) × (blank.parts ≡ 16) }
     ensures book { IfOk result (λ dealt. dealt.book.total ≡ 0) }
-    ensures fills { IfOk result (λ dealt. vec_len dealt.fills ≡ workers) }
-    ensures conns { IfOk result (λ dealt. vec_len dealt.conns ≡ conns) }
+    ensures numbers { IfOk result (λ dealt. (vec_len dealt.fills ≡ workers) × (vec_len dealt.conns ≡ conns)) }
     ensures own { IfOk result (λ d. All (λ s. IsPassOf d.jobs s.pass) d.fills.items × All (λ s. IsPassOf d.jobs s.pass) d.conns.items) }
     ensures fresh { IfOk result (λ d. All (λ s. fills_of s ≡ no_fills) d.fills.items × All (λ s. asks_of s ≡ no_asks) d.conns.items) }
     ensures all { IfOk result (λ dealt. HaveAllFills dealt.fills.items × HaveAllConns dealt.conns.items) }
