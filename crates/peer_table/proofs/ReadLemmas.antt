@@ -3,7 +3,7 @@ use Rattle.std.proofs.Common.{◌≡◌, ℕ, ◌+◌, ◌<◌, ◌≤◌, List,
 use Rattle.std.proofs.KnownBytes.{Appends-nil, Appends-trans}
 use Rattle.std.specs.Io.KnownBytes.{Appends}
 use Rattle.peer_view.specs.ReadWrite.{Reading}
-use Rattle.peer_table.specs.Reads.{Gave, GaveAll, IsReadFault, IsTooLarge}
+use Rattle.peer_table.specs.Reads.{Gave, GaveAll, IsTooLarge}
 use Rattle.peer_table.specs.Tables.{MAX_TEXT}
 
 -- a reader after one more call
