@@ -2,7 +2,7 @@
 use Rattle.std.proofs.Common.{◌≡◌, ◌≢◌, ℕ, zero, suc, ◌+◌, ◌*◌, ◌-◌, ◌<◌, ◌≤◌, List, ◌∷◌, ◌++◌, length, take, drop, get_or, slice_range}
 use Rattle.std.proofs.Common.{refl, sym, ◌∙◌, ap, arith, append_assoc, length-append, length-drop, drop-cons}
 use Rattle.std.proofs.Math.Seq.{drop-append_seam, take-add}
-use Rattle.std.proofs.lemmas.List.{take-append-le, take-take, drop-take, length-take-le}
+use Rattle.std.proofs.lemmas.List.{take_rest, take-append-le, take-take, drop-take, length-take-le}
 use Rattle.std.proofs.lemmas.List.Folds.{drop_split}
 use Rattle.memchr.specs.Find.{OccursAt, NoneBefore, Nowhere}
 use Rattle.memchr.proofs.lemmas.MatchLemmas.{OccursAt-part, OccursAt-from_part}
@@ -118,6 +118,11 @@ pub no_blank_line : (t : List ℕ) (s : ℕ) → IsPastPairs t s → Nowhere (Oc
 no_blank_line t s h none b r x =
     let l = lies_at t b r s h x in
     none l.k (omega arith) (omega (arith, l.occurs.fits)) l.occurs
+
+-- the same of the text behind the pairs as it is searched
+pub no_blank_rest : (t : List ℕ) (s : ℕ) → IsPastPairs t s
+    → Nowhere (OccursAt (take (length t - s) (drop s t)) blank_line) 0 (length (take (length t - s) (drop s t)) + 1) → HasNoBlock t
+no_blank_rest t s h none = no_blank_line t s h (rw (take_rest t s) at none)
 
 -- the first blank line is too far away
 pub far_blank_line : (t : List ℕ) (s k : ℕ) → IsPastPairs t s → NoneBefore (OccursAt (drop s t) blank_line) 0 (length (drop s t) + 1) k
