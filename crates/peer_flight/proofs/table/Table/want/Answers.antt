@@ -65,9 +65,9 @@ pub returns-clause-stands : goal.returns-clause-stands
 returns-clause-stands g c =
     let old = get place_eq c.args.self.now.flights in
     let new = get place_eq c.insert.new.self in
-    let place = c.in_ok-place.place in
-    let of : place ≡ place_of c.args.group.number c.args.key.now = c.in_ok-place.ensures in
-    ap new (sym of) ∙ entry_at old new place (Some c.in_ok-flight.share) c.in-Ok.ensures.updates.0 ∙ ap Some c.in_ok-flight.ensures.share
+    ap new (sym c.in_ok-place.ensures)
+    ∙ entry_at old new c.in_ok-place.place (Some c.in_ok-flight.share) c.in-Ok.ensures.updates.0
+    ∙ ap Some c.in_ok-flight.ensures.share
 
 pub returns-in-Some-clause-stands : goal.returns-in-Some-clause-stands
 returns-in-Some-clause-stands g c =
