@@ -48,6 +48,12 @@ module _ (flights : List Flight) (c : Connection) (t : Ticket) (rest : List Tick
       let new : Connection = record c { waiting = waiting; written = written } in
       seen_so new (subst (λ o. RepliesBy o c rest t new) (sym (brings.outcome ∙ ap outcome_by some)) (inl (λ i. record c { waiting = left i; written = more i })))
 
+-- the same of a connection that is seen as another value
+pub end_seen_as : (flights : List Flight) (c seen : Connection) → c ≡ seen → (t : Ticket) (rest : List Ticket) (fill : Filled) → c.ended ≡ false
+    → c.waiting ≡ t ∷ rest → Brings flights t fill → fill.answer ≡ None → SeesOutcome flights seen (record c { ended = true })
+end_seen_as flights c seen is t rest fill on first brings none =
+    subst (λ x. SeesOutcome flights x (record c { ended = true })) is (end_seen flights c t rest fill on first brings none)
+
 -- what a fill answers may be the outcome of a flight of its place
 pub may_bring : (allowed : ℕ → List ℕ → Answer → Type 0) (p : Place) (answer : Option Answer) → ∥ IfSome answer (allowed p.group p.key) ∥₁ → MayBring allowed p (outcome_by answer)
 may_bring allowed p None law = tt

@@ -1,29 +1,20 @@
-use Rattle.std.proofs.Common.{◌≡◌, true, [], ◌∷◌, ◌++◌, Option, Some, None, get_or, ap, sym, subst, ◌∙◌, refl}
+use Rattle.std.proofs.Common.{◌≡◌, [], ◌∷◌, ◌++◌, Option, Some, None, get_or, ap, sym, subst, ◌∙◌, refl}
 use Rattle.std.proofs.lemmas.Bool.{ltb-true}
 use Rattle.peer_source.specs.Answers.{Answer, Filled}
 use Rattle.peer_source.specs.Outcomes.{answer_of}
 use Rattle.peer_flight.specs.World.{Connection}
 use Rattle.peer_flight.specs.Events.{SeesOutcome}
 use Rattle.flight_world.specs.Views.{hand_of, Brings}
-use Rattle.flight_world.proofs.Seeing.{answer_there, end_seen, answer_seen, first_of}
+use Rattle.flight_world.proofs.Seeing.{answer_there, end_seen_as, answer_seen, first_of}
 use Rattle.flight_world.proofs.connection.Connection.see_outcome.Goals as goal
 
 pub returns-in-NoMemory-clause-seen : goal.returns-in-NoMemory-clause-seen
 returns-in-NoMemory-clause-seen g c =
-    let was : Connection = record {
-      arrived = c.self.inside.arrived.items;
-      hand = hand_of c.self.inside.hand;
-      lane = c.self.inside.lane.items;
-      waiting = c.self.inside.waiting.items;
-      written = c.self.inside.written.items;
-      ended = c.self.inside.ended;
-    } in
     let t = c.in-Some.ticket.now in
     let fill = c.in-Some-brought.fill.now in
     let first = first_of c.self.inside.waiting.items t (ltb-true _ _ (sym c.in-Some.ensures.item.0)) c.in-Some.ensures.lookup in
     let none : fill.answer ≡ None = sym c.outcome.ensures.answer ∙ ap answer_of c.in-NoMemory.is in
-    subst (λ x. SeesOutcome c.args.flights.now x (record was { ended = true })) c.self.view_is
-    (end_seen c.args.flights.now was t first.0 fill c.if-self.false first.1 c.in-Some-brought.ensures none)
+    end_seen_as c.args.flights.now _ _ c.self.view_is t first.0 fill c.if-self.false first.1 c.in-Some-brought.ensures none
 
 pub returns-clause-seen : goal.returns-clause-seen
 returns-clause-seen g c =
