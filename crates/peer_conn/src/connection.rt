@@ -13,12 +13,12 @@ ghost use Rattle.peer_conn.specs.ReaderSides.{TakesRequests};
 ghost use Rattle.peer_conn.specs.WriterSides.{AnswersTickets};
 ghost use Rattle.peer_conn.specs.Strangers.{CountsFew};
 
-use crate::end::{Served, end_of, refused};
-use crate::halves::{Halves, new_halves};
+use crate::end::{Served, end_of};
+use crate::halves::{LinkedHalves, new_linked_halves};
 use crate::reader_side::{ReaderSide, StoppedReader};
 use crate::writer_side::WriterSide;
 use peer_fill::{ConnSeat, Pool};
-use peer_lane::{Signal, lane};
+use peer_lane::Signal;
 use peer_source::{FunctionalSource, Source};
 use peer_view::{PeerRead, PeerWrite};
 use std::alloc::Global;
@@ -33,13 +33,7 @@ use std::thread::{Promise, Scope, Threads};
 ///
 /// It needs a worker of the pool (`Pool::run_worker`) in another thread, until it returns: without one it waits for ever
 /// for the first fill.
-pub fn serve_connection<
-    S: Source,
-    L: Ledger + Send + Sync,
-    R: PeerRead + Send + Drop,
-    W: PeerWrite + Drop,
-    H: Threads + Wait + Sync,
->(
+pub fn serve_connection<S: Source, L: Ledger + Send + Sync, R, W, H: Threads + Wait + Sync>(
     rt: &H,
     alloc: Global,
     pool: &Pool<S, L>,
@@ -48,6 +42,9 @@ pub fn serve_connection<
     writer: W,
     reads: u64,
 ) -> (Served<R, W>, ConnSeat<S, L>)
+where
+    R: PeerRead + Send + Drop,
+    W: PeerWrite + Drop,
     requires seat { IsConnSeatOf pool.now seat }
     requires calls { R.calls reader + reads < 2 ^ 64 }
     requires failures { W.failures writer < 2 ^ 64 - 1 }
@@ -58,26 +55,21 @@ pub fn serve_connection<
     ensures writes_replies { CallWrites R.PeerRead W.PeerWrite reader writer result.0 (S.number_of (source_of pool.now))
         (allows S.allowed) }
 {
-    let halves = match new_halves(alloc, reader, writer, reads) {
-        Ok(halves) => halves,
+    let LinkedHalves { halves, put, taken } = match new_linked_halves(
+        alloc, reader, writer, reads,
+    ) {
+        Ok(linked) => linked,
         Err(served) => return (served, seat),
-    };
-    let Halves {
-        requests,
-        responses,
-    } = halves;
-    let Ok((put, taken)) = lane(alloc) else {
-        return (refused(requests.reader, responses.out.writer), seat);
     };
     let reader = ReaderSide {
         seat,
         lane: put,
-        requests,
+        requests: halves.requests,
     };
     let writer = WriterSide {
         alloc,
         lane: taken,
-        responses,
+        responses: halves.responses,
         strangers: 0,
     };
     serve_sides(rt, pool, reader, writer)
@@ -85,13 +77,7 @@ pub fn serve_connection<
 
 /// `serve_connection`, whose replies are those of the one answer for each group and key: what is written is a prefix of
 /// the replies to what was read, whatever other connections, workers and schedules do.
-pub fn serve_connection_functional<
-    S: FunctionalSource,
-    L: Ledger + Send + Sync,
-    R: PeerRead + Send + Drop,
-    W: PeerWrite + Drop,
-    H: Threads + Wait + Sync,
->(
+pub fn serve_connection_functional<S: FunctionalSource, L: Ledger + Send + Sync, R, W, H>(
     rt: &H,
     alloc: Global,
     pool: &Pool<S, L>,
@@ -100,6 +86,10 @@ pub fn serve_connection_functional<
     writer: W,
     reads: u64,
 ) -> (Served<R, W>, ConnSeat<S, L>)
+where
+    H: Threads + Wait + Sync,
+    R: PeerRead + Send + Drop,
+    W: PeerWrite + Drop,
     requires seat { IsConnSeatOf pool.now seat }
     requires calls { R.calls reader + reads < 2 ^ 64 }
     requires failures { W.failures writer < 2 ^ 64 - 1 }
@@ -112,18 +102,15 @@ pub fn serve_connection_functional<
 }
 
 // Serves, where nothing was read, put or written yet.
-fn serve_sides<
-    S: Source,
-    L: Ledger + Send + Sync,
-    R: PeerRead + Send + Drop,
-    W: PeerWrite + Drop,
-    H: Threads + Wait + Sync,
->(
+fn serve_sides<S: Source, L: Ledger + Send + Sync, R, W, H: Threads + Wait + Sync>(
     rt: &H,
     pool: &Pool<S, L>,
     reader: ReaderSide<S, L, R>,
     writer: WriterSide<S, W>,
 ) -> (Served<R, W>, ConnSeat<S, L>)
+where
+    R: PeerRead + Send + Drop,
+    W: PeerWrite + Drop,
     requires seat { IsConnSeatOf pool.now reader.seat }
     requires sides { AreNewSides reader writer }
     ensures seat { KeepsSeat pool.now reader.seat result.1 }
@@ -179,15 +166,7 @@ fn read_side<S: Source, L: Ledger, R: PeerRead + Drop, H: Wait>(
 
 // Reads in a thread of its own and writes in this one. Where no thread can be had, the reader is stopped before its first
 // read.
-fn run_within<
-    's,
-    E,
-    S: Source,
-    L: Ledger + Send + Sync,
-    R: PeerRead + Send + Drop + 's,
-    W: PeerWrite + Drop,
-    H: Threads + Wait + Sync,
->(
+fn run_within<'s, E, S: Source, L: Ledger + Send + Sync, R, W, H: Threads + Wait + Sync>(
     scope: &Scope<'s, E>,
     rt: &'s H,
     pool: &'s Pool<S, L>,
@@ -195,6 +174,9 @@ fn run_within<
     reader: ReaderSide<S, L, R>,
     mut writer: WriterSide<S, W>,
 ) -> (StoppedReader<S, L, R>, WriterSide<S, W>)
+where
+    R: PeerRead + Send + Drop + 's,
+    W: PeerWrite + Drop,
     requires { IsConnSeatOf pool.now reader.seat }
     ensures read { TakesRequests (S.number_of (source_of pool.now)) pool.now reader result.0.side result.0.stop }
     ensures wrote { AnswersTickets (allows S.allowed) writer result.1 }
@@ -222,19 +204,16 @@ fn run_within<
 }
 
 // The same, in a scope of its own.
-fn run_sides<
-    S: Source,
-    L: Ledger + Send + Sync,
-    R: PeerRead + Send + Drop,
-    W: PeerWrite + Drop,
-    H: Threads + Wait + Sync,
->(
+fn run_sides<S: Source, L: Ledger + Send + Sync, R, W, H: Threads + Wait + Sync>(
     rt: &H,
     pool: &Pool<S, L>,
     signal: &Signal,
     reader: ReaderSide<S, L, R>,
     writer: WriterSide<S, W>,
 ) -> (StoppedReader<S, L, R>, WriterSide<S, W>)
+where
+    R: PeerRead + Send + Drop,
+    W: PeerWrite + Drop,
     requires { IsConnSeatOf pool.now reader.seat }
     ensures read { TakesRequests (S.number_of (source_of pool.now)) pool.now reader result.0.side result.0.stop }
     ensures wrote { AnswersTickets (allows S.allowed) writer result.1 }

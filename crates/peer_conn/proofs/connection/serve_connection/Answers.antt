@@ -1,4 +1,3 @@
-use Rattle.std.proofs.Common.{◌∙◌}
 use Rattle.peer_fill.specs.Pools.{source_of}
 use Rattle.peer_conn.proofs.EndLemmas.{connects_sides, connects_refused}
 use Rattle.peer_conn.proofs.HeadlineLemmas.{written_allowed}
@@ -8,24 +7,14 @@ pub returns-in-Err-clause-connects : goal.returns-in-Err-clause-connects
 returns-in-Err-clause-connects g c =
     let err = c.in-Err.ensures.err in connects_refused g.R.PeerRead g.W.PeerWrite err.reader err.writer err.end
 
-pub returns-in_default-clause-connects : goal.returns-in_default-clause-connects
-returns-in_default-clause-connects g c =
-    let none = c.refused.ensures in let new = c.in-Ok.ensures.ok in
-    connects_refused g.R.PeerRead g.W.PeerWrite (none.reader ∙ new.requests.reader) (none.writer ∙ new.responses.writer) none.end
-
 pub returns-clause-connects : goal.returns-clause-connects
-returns-clause-connects g c = let new = c.in-Ok.ensures.ok in connects_sides new.requests new.responses c.serve_sides.ensures.serves
+returns-clause-connects g c = let new = c.in-Ok.ensures.halves in connects_sides new.requests new.responses c.serve_sides.ensures.serves
 
 -- each group and key has an answer, which is allowed: so what is written is a front of replies to all wishes
 pub returns-in-Err-clause-writes_replies : goal.returns-in-Err-clause-writes_replies
 returns-in-Err-clause-writes_replies g c =
     let source = g.met.S.Source g.world.𝓛 g.world.𝓜 g.world.𝓡 (λ s h. h, λ h. h, λ h. h, λ h. h) in
     written_allowed (source.answered (source_of c.args.pool.now)) (source.within (source_of c.args.pool.now)) (returns-in-Err-clause-connects g c).serves
-
-pub returns-in_default-clause-writes_replies : goal.returns-in_default-clause-writes_replies
-returns-in_default-clause-writes_replies g c =
-    let source = g.met.S.Source g.world.𝓛 g.world.𝓜 g.world.𝓡 (λ s h. h, λ h. h, λ h. h, λ h. h) in
-    written_allowed (source.answered (source_of c.args.pool.now)) (source.within (source_of c.args.pool.now)) (returns-in_default-clause-connects g c).serves
 
 pub returns-clause-writes_replies : goal.returns-clause-writes_replies
 returns-clause-writes_replies g c =
