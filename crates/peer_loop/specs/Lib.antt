@@ -1,3 +1,4 @@
+pub mod Crews
 pub mod Dealings
 pub mod Parts
 pub mod Reports

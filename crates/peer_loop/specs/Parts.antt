@@ -27,11 +27,6 @@ module _ {S L : Type 0} {g : Source.Ghosts S} {h : Ledger.Ghosts L} where
   abbrev pub KeepsParts : LoopSeats S L g h → LoopSeats S L g h → Type 0
   KeepsParts old new = (conn_parts new.conn ≡ conn_parts old.conn) × (filling_parts new.fill ≡ filling_parts old.fill)
 
-  -- the lists have room for the seats of so many loops, and of so many threads that fill
-  abbrev pub HaveRoom : ℕ → ℕ → Seats S L g h → Type 0
-  HaveRoom loops fillers seats = (vec_len seats.conns + loops ≤ vec_capacity seats.conns)
-      × (vec_len seats.fills + loops + fillers ≤ vec_capacity seats.fills)
-
   -- the lists have the same room
   abbrev pub KeepsRoom : Seats S L g h → Seats S L g h → Type 0
   KeepsRoom old new = (vec_capacity new.conns ≡ vec_capacity old.conns) × (vec_capacity new.fills ≡ vec_capacity old.fills)

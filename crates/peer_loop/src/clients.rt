@@ -7,22 +7,19 @@ use crate::client::Client;
 use crate::facts::Facts;
 use crate::wait_lists::WaitLists;
 use mio::event::Event;
-use mio::net::TcpStream;
 use mio::{Registry, Token};
-use peer_exchange::Exchange;
 use peer_source::Source;
 use slab::Slab;
 use std::alloc::{AllocError, Global};
 use std::collections::VecDeque;
-use std::time::Duration;
 
 /// The clients, each under its key.
 #[derive(Drop)]
 pub struct Clients<'a, S: Source, F: Facts<S>> {
     /// All of them.
     pub each: Slab<Client<'a, S, F>>,
-    // Those that are to have a turn, each once.
-    ready: VecDeque<usize>,
+    /// Those that are to have a turn, each once.
+    pub ready: VecDeque<usize>,
     // Those that wait for room in the queue of jobs.
     for_room: VecDeque<usize>,
     // Those that wait for a fill.
@@ -30,8 +27,6 @@ pub struct Clients<'a, S: Source, F: Facts<S>> {
 }
 
 impl<'a, S: Source, F: Facts<S>> Clients<'a, S, F> {
-    ghost use Rattle.std.specs.Prelude.{◌≡◌, Some};
-
     /// There is none.
     pub fn new(alloc: Global) -> Clients<'a, S, F> {
         Clients {
@@ -53,42 +48,16 @@ impl<'a, S: Source, F: Facts<S>> Clients<'a, S, F> {
     }
 
     /// Adds a client, and says whether memory and the system allow it.
-    pub fn add(
-        &mut self,
-        registry: &Registry,
-        stream: TcpStream,
-        exchange: Exchange<'a, S>,
-        now: Duration,
-    ) -> bool
-        requires { F.source ≡ Some exchange.names }
-    {
-        if self.reserve().is_err() {
-            return false;
-        }
-        let mut client = Client::new(stream, exchange, now);
+    pub fn add(&mut self, registry: &Registry, mut client: Client<'a, S, F>) -> bool {
+        let has_room = self.reserve().is_ok();
         let token = Token(self.each.vacant_key());
-        client.register(registry, token).is_ok() && self.each.insert(client).is_ok()
+        has_room && client.register(registry, token).is_ok() && self.each.insert(client).is_ok()
     }
 
     /// Takes a client out, and off the list of those that wait for a fill.
     pub fn remove(&mut self, key: usize) -> Option<Client<'a, S, F>> {
         self.unlist(key);
         self.each.try_remove(key)
-    }
-
-    /// Whether one is to have a turn.
-    pub fn is_ready(&self) -> bool {
-        !self.ready.is_empty()
-    }
-
-    /// How many are to have a turn.
-    pub fn ready_count(&self) -> usize {
-        self.ready.len()
-    }
-
-    /// The next that is to have a turn.
-    pub fn next_ready(&mut self) -> Option<usize> {
-        self.ready.pop_front()
     }
 
     /// Puts a client behind those that are to have a turn.

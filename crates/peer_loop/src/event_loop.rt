@@ -95,7 +95,9 @@ impl<'a, S: Source, F: Facts<S>> EventLoop<'a, S, F> {
 
     // Whether there is something to do by now.
     fn is_awake<L: Ledger>(&self, seat: &LoopSeat<'a, S, L, F>) -> bool {
-        self.turns.clients.is_ready() || self.turns.shared.mailbox.is_told() || seat.has_jobs()
+        !self.turns.clients.ready.is_empty()
+            || self.turns.shared.mailbox.is_told()
+            || seat.has_jobs()
     }
 
     // Whether nothing is left to do, and nothing comes any more.

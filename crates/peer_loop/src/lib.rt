@@ -11,6 +11,7 @@ mod bells;
 mod client;
 mod client_state;
 mod clients;
+mod crew;
 mod dealing;
 mod event_loop;
 mod facts;

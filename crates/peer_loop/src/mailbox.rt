@@ -83,13 +83,15 @@ pub struct Mailbox {
 impl Mailbox {
     /// The mailbox of the loop that has this poll. None where memory or the system refuses it.
     pub fn new(alloc: Global, poll: &Poll) -> Option<Mailbox> {
+        let arrived = ArrayQueue::new(alloc, MAX_ARRIVED).ok()?;
+        let waker = Waker::new(poll.registry(), WOKEN).ok()?;
         Some(Mailbox {
-            waker: Waker::new(poll.registry(), WOKEN).ok()?,
+            waker,
             asleep: CachePadded::new(AtomicBool::new(false)),
             wants_room: AtomicBool::new(false),
             wanted: Default::default(),
             told: Default::default(),
-            arrived: ArrayQueue::new(alloc, MAX_ARRIVED).ok()?,
+            arrived,
             closing: AtomicBool::new(false),
             stopping: AtomicBool::new(false),
         })

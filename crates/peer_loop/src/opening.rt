@@ -9,7 +9,7 @@ use crate::listening::Listening;
 use crate::mailbox::Mailbox;
 use crate::mailboxes::Mailboxes;
 use crate::occupancy::Occupancy;
-use crate::settings::{Orders, Settings};
+use crate::settings::Orders;
 use mio::{Events, Poll};
 use peer_fetch::FetchParts;
 use std::alloc::Global;
@@ -31,69 +31,108 @@ pub struct ServerParts<'a> {
     pub listening: Listening,
 }
 
-// What a loop needs beside its seats, and its mailbox. None where memory or a descriptor was refused.
-fn open_loop<H: Net>(rt: &H, alloc: Global) -> Option<(LoopParts, Mailbox)> {
+// Adds what a loop needs beside its seats, and its mailbox. None where memory or a descriptor was refused.
+fn open_loop<H: Net>(
+    rt: &H,
+    alloc: Global,
+    loops: &mut Vec<LoopParts>,
+    mailboxes: &mut Mailboxes,
+) -> Option<()> {
     let poll = Poll::new(rt).ok()?;
+    mailboxes.each.push(Mailbox::new(alloc, &poll)?).ok()?;
     let events = Events::with_capacity(alloc, MAX_EVENTS).ok()?;
-    let mailbox = Mailbox::new(alloc, &poll)?;
     let buffer = vec![in alloc; 0; MAX_READ].ok()?;
     let waits = Waits { poll, events };
-    Some((LoopParts { waits, buffer }, mailbox))
+    loops.push(LoopParts { waits, buffer }).ok()
 }
 
-// What loops need beside their seats, and a mailbox for each. None where memory or a descriptor was refused.
-fn open_loops<H: Net>(rt: &H, alloc: Global, count: usize) -> Option<(Vec<LoopParts>, Mailboxes)> {
-    let mut loops = Vec::new(alloc);
-    let mut each = Vec::new(alloc);
-    for _ in 0..count {
-        let (parts, mailbox) = open_loop(rt, alloc)?;
-        loops.push(parts).ok()?;
-        each.push(mailbox).ok()?;
-    }
-    Some((loops, Mailboxes { each }))
-}
-
-// What threads that fetch need beside their seats, and a bell for each. None where memory or the system refuses it.
-fn open_fetchers<H: Net>(
+// The same for so many loops.
+fn open_loops<H: Net>(
     rt: &H,
     alloc: Global,
     count: usize,
-    origins: usize,
-) -> Option<(Vec<FetchParts>, Bells)> {
-    let mut fetchers = Vec::new(alloc);
-    let mut each = Vec::new(alloc);
+    loops: &mut Vec<LoopParts>,
+    mailboxes: &mut Mailboxes,
+) -> Option<()> {
     for _ in 0..count {
-        let (parts, bell) = FetchParts::new(rt, alloc, origins)?;
-        fetchers.push(parts).ok()?;
-        each.push(bell).ok()?;
+        open_loop(rt, alloc, loops, mailboxes)?;
     }
-    Some((fetchers, Bells { each }))
+    Some(())
 }
 
-// What the threads need beside their seats, and their mailboxes and bells. None where memory or the system refuses it.
-fn open_threads<'a, H: Net>(
+// Adds what threads need that fetch as these orders say, and their bells. None where memory or the system refuses it.
+fn open_fetchers<H: Net>(
     rt: &H,
     alloc: Global,
-    orders: Orders<'a>,
-) -> Option<(ThreadParts<'a>, Mailboxes, Bells)>
-    ensures { IfSome result (λ opened. opened.0.fillers.plan ≡ orders.entry.plan) }
-{
-    let (loops, mailboxes) = open_loops(rt, alloc, orders.settings.loops)?;
+    orders: Orders<'_>,
+    fetchers: &mut Vec<FetchParts>,
+    bells: &mut Bells,
+) -> Option<()> {
     let (count, origins) = orders.fetchers();
-    let (fetchers, bells) = open_fetchers(rt, alloc, count, origins)?;
-    let fillers = FillerParts {
-        fillers: orders.settings.fillers,
-        fetchers,
-        plan: orders.plan,
-    };
-    Some((ThreadParts { loops, fillers }, mailboxes, bells))
+    for _ in 0..count {
+        let (parts, bell) = FetchParts::new(rt, alloc, origins)?;
+        bells.each.push(bell).ok()?;
+        fetchers.push(parts).ok()?;
+    }
+    Some(())
 }
 
-// By what the thread that accepts is woken. None where the system refuses it, or where another server is to be ended so.
-fn open_occupancy(poll: &Poll, settings: &Settings<'_>) -> Option<Occupancy> {
-    let occupancy = Occupancy::new(poll, settings.connections, settings.memory)?;
-    settings.stop.watch(poll)?;
-    Some(occupancy)
+// Adds what all threads need that serve as these orders say, and has the server end by its stop. None where memory or the
+// system refuses it, or where another server is to be ended so.
+fn open_threads<H: Net>(
+    rt: &H,
+    alloc: Global,
+    orders: Orders<'_>,
+    parts: &mut ServerParts<'_>,
+) -> Option<()>
+    ensures { parts.new.threads.fillers.plan ≡ parts.old.threads.fillers.plan }
+{
+    let mailboxes = &mut parts.shared.mailboxes;
+    open_loops(
+        rt,
+        alloc,
+        orders.settings.loops,
+        &mut parts.threads.loops,
+        mailboxes,
+    )?;
+    let fetchers = &mut parts.threads.fillers.fetchers;
+    open_fetchers(rt, alloc, orders, fetchers, &mut parts.shared.bells)?;
+    orders.settings.stop.watch(&parts.listening.poll)
+}
+
+// What a server needs whose threads have nothing yet. None where memory or a descriptor was refused.
+fn open_listening<'a, H: Net>(
+    rt: &H,
+    alloc: Global,
+    listener: TcpListener,
+    orders: Orders<'a>,
+) -> Option<ServerParts<'a>>
+    ensures { IfSome result (λ parts. parts.threads.fillers.plan ≡ orders.entry.plan) }
+{
+    let listening = Listening::new(rt, alloc, listener)?;
+    let settings = orders.settings;
+    let occupancy = Occupancy::new(&listening.poll, settings.connections, settings.memory)?;
+    let fillers = FillerParts {
+        fillers: settings.fillers,
+        fetchers: Vec::new(alloc),
+        plan: orders.plan,
+    };
+    Some(ServerParts {
+        threads: ThreadParts {
+            loops: Vec::new(alloc),
+            fillers,
+        },
+        shared: Shared {
+            mailboxes: Mailboxes {
+                each: Vec::new(alloc),
+            },
+            bells: Bells {
+                each: Vec::new(alloc),
+            },
+            occupancy,
+        },
+        listening,
+    })
 }
 
 /// What a server needs that serves as these orders say. None where memory or a descriptor was refused.
@@ -105,17 +144,7 @@ pub fn open_parts<'a, H: Net>(
 ) -> Option<ServerParts<'a>>
     ensures { IfSome result (λ parts. parts.threads.fillers.plan ≡ orders.entry.plan) }
 {
-    let (threads, mailboxes, bells) = open_threads(rt, alloc, orders)?;
-    let listening = Listening::new(rt, alloc, listener)?;
-    let occupancy = open_occupancy(&listening.poll, orders.settings)?;
-    let shared = Shared {
-        mailboxes,
-        bells,
-        occupancy,
-    };
-    Some(ServerParts {
-        threads,
-        shared,
-        listening,
-    })
+    let mut parts = open_listening(rt, alloc, listener, orders)?;
+    open_threads(rt, alloc, orders, &mut parts)?;
+    Some(parts)
 }

@@ -1,10 +1,10 @@
-//! How the threads of a server are started: one for each loop, and one for each seat that fills beside them.
-ghost use Rattle.std.specs.Prelude.{◌≡◌, All, IfSome, Some};
+//! How one thread of a server is started, that of a loop or one that fills, and what it does.
+ghost use Rattle.std.specs.Prelude.{◌≡◌, IfSome, Some};
 ghost use Rattle.peer_fill.specs.Pools.{source_of, IsFillSeatOf};
 ghost use Rattle.peer_fill.specs.Seats.{fill_parts};
 ghost use Rattle.peer_fetch.specs.Threads.{Allows};
 ghost use Rattle.peer_loop.specs.Parts.{AreOf, KeepsParts};
-ghost use Rattle.peer_loop.specs.Dealings.{IsFillWorkOf, RunFillers, RunLoops};
+ghost use Rattle.peer_loop.specs.Dealings.{IsFillWorkOf};
 
 use crate::dealing::{FillWork, LoopParts, LoopWork};
 use crate::event_loop::EventLoop;
@@ -27,13 +27,6 @@ pub type LoopHandle<'a, S, L> = PromisedHandle<LoopSeats<S, L>, KeepsLoop<'a, S,
 
 /// A thread that fills.
 pub type FillHandle<'a, S, L> = PromisedHandle<FillSeat<S, L>, Keeps<'a, S, L, FillSeat<S, L>>>;
-
-/// All threads of a server.
-#[derive(Drop)]
-pub struct Started<'a, S: Source, L: Ledger> {
-    pub serving: Vec<LoopHandle<'a, S, L>>,
-    pub working: Vec<FillHandle<'a, S, L>>,
-}
 
 // Runs a loop whose contracts know its source.
 fn run_known<S: Source, L: Ledger, F: Facts<S>, H: Host>(
@@ -78,8 +71,8 @@ fn run_loop<S: Source, L: Ledger, H: Host>(
     run_known::<S, L, Brand, H>(rt, alloc, pool, seats, parts, own)
 }
 
-// Starts the thread of a loop. None where it was refused.
-fn start_loop<'s, E, S: Source, L: Ledger + Send + Sync, H: Host>(
+/// Starts the thread of a loop. None where it was refused.
+pub fn spawn_loop<'s, E, S: Source, L: Ledger + Send + Sync, H: Host>(
     scope: &Scope<'s, E>,
     rt: &'s H,
     alloc: Global,
@@ -97,33 +90,11 @@ fn start_loop<'s, E, S: Source, L: Ledger + Send + Sync, H: Host>(
         ensures of { AreOf pool.entry.now result }
         ensures parts { KeepsParts seats result }
     { run_loop(rt, alloc, pool, seats, parts, site) };
-    match scope.spawn_with(promise, serve) {
-        Ok(handle) => Some(handle),
-        Err(_) => None,
-    }
+    scope.spawn_with(promise, serve).ok()
 }
 
-// Starts the threads of all loops. None where memory or a thread was refused.
-fn start_loops<'s, E, S: Source, L: Ledger + Send + Sync, H: Host>(
-    scope: &Scope<'s, E>,
-    rt: &'s H,
-    alloc: Global,
-    pool: &'s Pool<S, L>,
-    mut works: Vec<LoopWork<'s, S, L>>,
-) -> Option<Vec<LoopHandle<'s, S, L>>>
-    requires { All (λ w. AreOf pool.now w.seats) works.items }
-    ensures { IfSome result (RunLoops pool.now works.entry) }
-{
-    let mut serving = Vec::with_capacity(alloc, works.len()).ok()?;
-    while let Some(work) = works.pop() {
-        let handle = start_loop(scope, rt, alloc, pool, work)?;
-        serving.push_reserved(handle);
-    }
-    Some(serving)
-}
-
-// Starts a thread that fills. None where it was refused.
-fn start_filler<'s, E, S: Source, L: Ledger + Send + Sync, H: Host>(
+/// Starts a thread that fills. None where it was refused.
+pub fn spawn_filler<'s, E, S: Source, L: Ledger + Send + Sync, H: Host>(
     scope: &Scope<'s, E>,
     rt: &'s H,
     alloc: Global,
@@ -146,46 +117,5 @@ fn start_filler<'s, E, S: Source, L: Ledger + Send + Sync, H: Host>(
         ensures seat { IsFillSeatOf pool.entry.now result }
         ensures parts { fill_parts result ≡ fill_parts seat }
     { run_filler(rt, alloc, pool, seat, fetcher, &gate) };
-    match scope.spawn_with(promise, fill) {
-        Ok(handle) => Some(handle),
-        Err(_) => None,
-    }
-}
-
-// Starts all threads that fill. None where memory or a thread was refused.
-fn start_fillers<'s, E, S: Source, L: Ledger + Send + Sync, H: Host>(
-    scope: &Scope<'s, E>,
-    rt: &'s H,
-    alloc: Global,
-    pool: &'s Pool<S, L>,
-    mut works: Vec<FillWork<'s, S, L>>,
-) -> Option<Vec<FillHandle<'s, S, L>>>
-    requires { All (IsFillWorkOf pool.now) works.items }
-    ensures { IfSome result (RunFillers pool.now works.entry) }
-{
-    let mut working = Vec::with_capacity(alloc, works.len()).ok()?;
-    while let Some(work) = works.pop() {
-        let handle = start_filler(scope, rt, alloc, pool, work)?;
-        working.push_reserved(handle);
-    }
-    Some(working)
-}
-
-/// Starts the threads that fill, and then the loops. None where memory or a thread was refused.
-pub fn start<'s, E, S: Source, L: Ledger + Send + Sync, H: Host>(
-    scope: &Scope<'s, E>,
-    rt: &'s H,
-    alloc: Global,
-    pool: &'s Pool<S, L>,
-    loops: Vec<LoopWork<'s, S, L>>,
-    fillers: Vec<FillWork<'s, S, L>>,
-) -> Option<Started<'s, S, L>>
-    requires loops { All (λ w. AreOf pool.now w.seats) loops.items }
-    requires fillers { All (IsFillWorkOf pool.now) fillers.items }
-    ensures loops { IfSome result (λ started. RunLoops pool.now loops.entry started.serving) }
-    ensures fillers { IfSome result (λ started. RunFillers pool.now fillers.entry started.working) }
-{
-    let working = start_fillers(scope, rt, alloc, pool, fillers)?;
-    let serving = start_loops(scope, rt, alloc, pool, loops)?;
-    Some(Started { serving, working })
+    scope.spawn_with(promise, fill).ok()
 }

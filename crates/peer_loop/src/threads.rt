@@ -2,14 +2,12 @@
 ghost use Rattle.std.specs.Prelude.{◌≡◌, IfSome};
 ghost use Rattle.peer_fill.specs.Pools.{source_of};
 ghost use Rattle.peer_fetch.specs.Threads.{Allows};
-ghost use Rattle.peer_fill.specs.Lists.{AreSeatsOf, ComeBack, HaveParts};
-ghost use Rattle.peer_loop.specs.Dealings.{AreDealt, dealt_conns, dealt_fills};
+ghost use Rattle.peer_fill.specs.Lists.{AreSeatsOf, ComeBack};
 
 use crate::acceptor::Acceptor;
-use crate::dealing::{Dealt, ThreadParts, deal};
-use crate::loop_seats::join_loops;
-use crate::starting::{Started, start};
-use peer_fill::{Pool, Seats, join_seats};
+use crate::crew::Crew;
+use crate::dealing::{Hands, ThreadParts};
+use peer_fill::{Pool, Seats};
 use peer_host::Host;
 use peer_source::Source;
 use std::alloc::Global;
@@ -19,53 +17,48 @@ use std::thread::Scope;
 
 // Starts the threads, accepts clients once all of them run, and joins all. None where a thread or memory was refused: then no
 // client was accepted, and those that were started end.
-fn serve_dealt<'s, E, S: Source, L: Ledger + Send + Sync, H: Host>(
+fn serve_crew<'s, E, S: Source, L: Ledger + Send + Sync, H: Host>(
     scope: &Scope<'s, E>,
     rt: &'s H,
     alloc: Global,
     pool: &'s Pool<S, L>,
-    dealt: Dealt<'s, S, L>,
+    hands: Hands<'s, S, L>,
     mut acceptor: Acceptor<'_>,
 ) -> Option<Seats<S, L>>
-    requires { AreDealt pool.now dealt }
-    ensures { IfSome result (HaveParts pool.now (dealt_conns dealt.entry) (dealt_fills dealt.entry)) }
+    requires of { AreSeatsOf pool.now hands.seats }
+    requires allows { IfSome hands.parts.fillers.plan (Allows (S.answers (source_of pool.now))) }
+    ensures { IfSome result (ComeBack pool.now hands.entry.seats) }
 {
-    let Dealt {
-        loops,
-        fillers,
-        left: mut seats,
-    } = dealt;
-    let Some(Started { serving, working }) = start(scope, rt, alloc, pool, loops, fillers) else {
+    let mut crew = Crew::new(alloc, pool, hands);
+    if crew.start(scope, rt).is_none() {
         acceptor.site.close();
         pool.stop();
         return None;
-    };
+    }
     acceptor.run(rt);
-    join_loops(rt, pool, serving, &mut seats);
-    pool.stop();
-    acceptor.site.bells.stop();
-    join_seats(rt, pool, working, &mut seats.fills);
-    Some(seats)
+    Some(crew.join(rt))
 }
 
 // The same, in a scope of its own.
-fn run_threads<S: Source, L: Ledger + Send + Sync, H: Host>(
+fn run_crew<S: Source, L: Ledger + Send + Sync, H: Host>(
     rt: &H,
     alloc: Global,
     pool: &Pool<S, L>,
-    dealt: Dealt<'_, S, L>,
+    hands: Hands<'_, S, L>,
     acceptor: Acceptor<'_>,
 ) -> Option<Seats<S, L>>
-    requires { AreDealt pool.now dealt }
-    ensures { IfSome result (HaveParts pool.now (dealt_conns dealt.entry) (dealt_fills dealt.entry)) }
+    requires of { AreSeatsOf pool.now hands.seats }
+    requires allows { IfSome hands.parts.fillers.plan (Allows (S.answers (source_of pool.now))) }
+    ensures { IfSome result (ComeBack pool.now hands.entry.seats) }
 {
     thread::scope(
         thread::scope_env(),
         rt,
         move |scope| -> Option<Seats<S, L>>
-            requires { AreDealt pool.now dealt }
-            ensures { IfSome result (HaveParts pool.entry.now (dealt_conns dealt.entry) (dealt_fills dealt.entry)) }
-        { serve_dealt(scope, rt, alloc, pool, dealt, acceptor) },
+            requires of { AreSeatsOf pool.now hands.seats }
+            requires allows { IfSome hands.parts.fillers.plan (Allows (S.answers (source_of pool.now))) }
+            ensures { IfSome result (ComeBack pool.entry.now hands.entry.seats) }
+        { serve_crew(scope, rt, alloc, pool, hands, acceptor) },
     )
 }
 
@@ -83,6 +76,10 @@ pub fn use_threads<S: Source, L: Ledger + Send + Sync, H: Host>(
     requires allows { IfSome parts.fillers.plan (Allows (S.answers (source_of pool.now))) }
     ensures { IfSome result (ComeBack pool.now seats) }
 {
-    let dealt = deal(alloc, pool, seats, parts, acceptor.site)?;
-    run_threads(rt, alloc, pool, dealt, acceptor)
+    let hands = Hands {
+        site: acceptor.site,
+        seats,
+        parts,
+    };
+    run_crew(rt, alloc, pool, hands, acceptor)
 }

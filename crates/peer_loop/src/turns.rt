@@ -3,6 +3,7 @@
 //! It stands on the clients and their lists (`Clients`), and on the seats of the loop. It promises that the seats stay those
 //! of the pool, with their parts.
 
+use crate::client::Client;
 use crate::client_state::ClientState;
 use crate::clients::Clients;
 use crate::facts::Facts;
@@ -58,8 +59,8 @@ impl<'a, S: Source, F: Facts<S>> Turns<'a, S, F> {
             let Some(stream) = self.shared.mailbox.next_stream(rt) else {
                 return;
             };
-            let exchange = seat.exchange(self.alloc);
-            if self.stopped || !self.clients.add(registry, stream, exchange, self.now) {
+            let client = Client::new(stream, seat.exchange(self.alloc), self.now);
+            if self.stopped || !self.clients.add(registry, client) {
                 self.shared.site.occupancy.leave();
             }
         }
@@ -105,17 +106,25 @@ impl<'a, S: Source, F: Facts<S>> Turns<'a, S, F> {
         }
     }
 
-    // Gives a client its turn.
-    fn turn<L: Ledger, H: Wait>(&mut self, rt: &H, seat: &mut LoopSeat<'a, S, L, F>, key: usize)
+    // Gives a client its turn. What it waits for behind that, none where there is no such client.
+    fn turn<L: Ledger, H: Wait>(
+        &mut self,
+        rt: &H,
+        seat: &mut LoopSeat<'a, S, L, F>,
+        key: usize,
+    ) -> Option<ClientState>
         ensures pool { seat.new.pool.now ≡ seat.old.pool.now }
         ensures parts { KeepsParts seat.old.seats seat.new.seats }
     {
-        let Some(client) = self.clients.each.get_mut(key) else {
-            return;
-        };
+        let client = self.clients.each.get_mut(key)?;
         client.is_ready = false;
         let state = client.turn(rt, seat, self.now, self.shared.site.occupancy);
         client.count_held(self.shared.site.occupancy);
+        Some(state)
+    }
+
+    // Lists a client by what it waits for behind its turn, or lets it go.
+    fn settle(&mut self, key: usize, state: ClientState) {
         match state {
             ClientState::Idle => self.clients.unlist(key),
             ClientState::Awaits(number) => self.list(key, number),
@@ -133,11 +142,13 @@ impl<'a, S: Source, F: Facts<S>> Turns<'a, S, F> {
         ensures pool { seat.new.pool.now ≡ seat.old.pool.now }
         ensures parts { KeepsParts seat.old.seats seat.new.seats }
     {
-        for _ in 0..self.clients.ready_count() {
-            let Some(key) = self.clients.next_ready() else {
+        for _ in 0..self.clients.ready.len() {
+            let Some(key) = self.clients.ready.pop_front() else {
                 return;
             };
-            self.turn(rt, seat, key);
+            if let Some(state) = self.turn(rt, seat, key) {
+                self.settle(key, state);
+            }
         }
     }
 

@@ -1,7 +1,8 @@
 use Rattle.std.proofs.Common.{◌≡◌, arith}
 use Rattle.peer_fill.specs.Seats.{conn_parts}
-use Rattle.peer_fill.proofs.Lasts.{of_front, sum_last}
+use Rattle.peer_fill.proofs.Lasts.{of_front}
 use Rattle.peer_loop.specs.Parts.{filling_parts}
+use Rattle.peer_loop.proofs.CrewLemmas.{comes_back}
 use Rattle.peer_loop.proofs.loop_seats.join_loops.Goals as goal
 
 pub loop-handle-preserved : goal.loop-handle-preserved
@@ -16,20 +17,8 @@ loop-handle-preserved g c =
       of = record { conns = conn.conns; fills = fill.fills };
       conn_room = omega (arith, c.in-Some.ensures.cases, conn.len, conn.room, i.conn_room);
       fill_room = omega (arith, c.in-Some.ensures.cases, fill.len, fill.room, i.fill_room);
-      conn = omega (
-        arith,
-        conn.parts,
-        c.join-conn.ensures.1.0,
-        i.conn,
-        sum_last (λ h. conn_parts h.promise.seats.value.conn) _ _ _ last,
-      );
-      fill = omega (
-        arith,
-        fill.parts,
-        c.join-conn.ensures.1.1,
-        i.fill,
-        sum_last (λ h. filling_parts h.promise.seats.value.fill) _ _ _ last,
-      );
+      conn = comes_back (λ h. conn_parts h.promise.seats.value.conn) _ _ _ _ _ _ _ last conn.parts c.join-conn.ensures.1.0 i.conn;
+      fill = comes_back (λ h. filling_parts h.promise.seats.value.fill) _ _ _ _ _ _ _ last fill.parts c.join-conn.ensures.1.1 i.fill;
       len = omega (arith, c.in-Some.ensures.cases, fill.len, i.len);
       room = omega (arith, fill.room, i.room);
     }
