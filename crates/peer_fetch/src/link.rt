@@ -1,21 +1,16 @@
 //! A connection to an origin, and the value that is under way on it.
-ghost use Rattle.std.specs.Prelude.{◌≤◌, length, IfOk, IfSome};
-ghost use Rattle.peer_view.specs.Sinks.{MAX_VALUE};
-ghost use Rattle.peer_fetch.specs.Values.{IsFoundBy};
 
 use crate::done::Done;
 use crate::fetching::Answer;
+use crate::stream::{Readiness, would_block};
+use crate::transfer::{Halt, receive, send};
 use crate::under_way::UnderWay;
 use mio::event::Event;
 use mio::net::TcpStream;
 use peer_origin::{Failure, FetchFault};
 use peer_source::Source;
-use std::io;
-use std::io::{ErrorKind, Read, Write};
+use std::io::ErrorKind;
 use std::time::Duration;
-
-// How often is read or written for one value before others have their turn: with a buffer of 64 KiB a value of 1 MiB.
-const ROUNDS: u32 = 16;
 
 /// How a connection stands after its turn.
 #[derive(Drop)]
@@ -34,22 +29,6 @@ pub enum Turn<'a, S: Source> {
     Cut(UnderWay<'a, S>, Failure),
 }
 
-// Why a turn ends without an answer.
-#[derive(Clone, Copy)]
-enum Halt {
-    Waits,
-    Busy,
-    Failed(Failure),
-}
-
-// What the system reported of a stream, and no call has found otherwise since.
-#[derive(Clone, Copy)]
-struct Readiness {
-    readable: bool,
-    // The origin sends no more.
-    read_closed: bool,
-}
-
 /// A connection.
 #[derive(Drop)]
 pub struct Link<'a, S: Source> {
@@ -66,16 +45,6 @@ pub struct Link<'a, S: Source> {
     pub was_kept: bool,
     /// Whether it is on the list of those that are to have a turn.
     pub is_ready: bool,
-}
-
-// Whether a call of a stream would have to wait.
-fn would_block(error: &io::Error) -> bool {
-    error.kind() == ErrorKind::WouldBlock
-}
-
-// Whether a call of a stream was interrupted.
-fn was_interrupted(error: &io::Error) -> bool {
-    error.kind() == ErrorKind::Interrupted
 }
 
 // How far a stream is that began to connect.
@@ -98,88 +67,6 @@ fn progress_of(stream: &TcpStream) -> Connecting {
     }
 }
 
-// Sends what is to be sent. None once all is.
-fn send<S: Source>(stream: &mut TcpStream, under: &mut UnderWay<'_, S>) -> Option<Halt> {
-    for _ in 0..ROUNDS {
-        if under.is_sent() {
-            return None;
-        }
-        match stream.write(under.unsent()) {
-            Ok(0) => return Some(Halt::Failed(under.cut())),
-            Ok(n) => under.sent(n),
-            Err(error) if would_block(&error) => return Some(Halt::Waits),
-            Err(error) if was_interrupted(&error) => {}
-            Err(_) => return Some(Halt::Failed(under.cut())),
-        }
-    }
-    Some(Halt::Busy)
-}
-
-// Reads what has come. `Some(0)` is the end of the stream, and none is nothing that has come.
-fn read(
-    stream: &mut TcpStream,
-    room: &mut [u8],
-    readiness: &mut Readiness,
-) -> io::Result<Option<usize>>
-    ensures { IfOk result (λ came. IfSome came (λ n. n ≤ length room.new)) }
-{
-    match stream.read(room) {
-        Ok(n) => {
-            // Less than there was room for is all that has come.
-            readiness.readable = n == room.len() || readiness.read_closed;
-            Ok(Some(n))
-        }
-        Err(error) if would_block(&error) => {
-            readiness.readable = false;
-            Ok(None)
-        }
-        Err(error) if was_interrupted(&error) => Ok(None),
-        Err(error) => Err(error),
-    }
-}
-
-// Takes in what was read, no byte being the end of the connection. None where there is no answer yet.
-fn take_in<S: Source>(under: &mut UnderWay<'_, S>, bytes: &[u8]) -> Result<Option<Answer>, Failure>
-    requires { length under.old.fetching.request.items ≤ under.old.fetching.sent }
-    ensures within { IfOk result (λ came. IfSome came (λ a. IfOk a.value (λ v. length v.items ≤ MAX_VALUE))) }
-    ensures found { IfOk result (λ came. IfSome came (λ a. IfOk a.value (IsFoundBy under.new.fetching))) }
-{
-    if bytes.is_empty() {
-        let answer = under.end()?;
-        return Ok(Some(answer));
-    }
-    under.receive(bytes)
-}
-
-// Receives what comes, once all is sent.
-fn receive<S: Source>(
-    stream: &mut TcpStream,
-    under: &mut UnderWay<'_, S>,
-    buffer: &mut [u8],
-    readiness: &mut Readiness,
-) -> Result<Answer, Halt>
-    ensures within { IfOk result (λ a. IfOk a.value (λ v. length v.items ≤ MAX_VALUE)) }
-    ensures found { IfOk result (λ a. IfOk a.value (IsFoundBy under.new.fetching)) }
-{
-    for _ in 0..ROUNDS {
-        if !readiness.readable || !under.is_sent() {
-            return Err(Halt::Waits);
-        }
-        let Ok(came) = read(stream, buffer, readiness) else {
-            return Err(Halt::Failed(under.cut()));
-        };
-        let Some(n) = came else {
-            continue;
-        };
-        match take_in(under, &buffer[..n]) {
-            Ok(None) => {}
-            Ok(Some(answer)) => return Ok(answer),
-            Err(failure) => return Err(Halt::Failed(failure)),
-        }
-    }
-    Err(Halt::Busy)
-}
-
 impl<'a, S: Source> Link<'a, S> {
     /// A stream that begins to connect to an origin, for a value. It is given up at `due`.
     pub fn new(
@@ -193,10 +80,7 @@ impl<'a, S: Source> Link<'a, S> {
             stream,
             under: Some(under),
             connect_due: Some(due),
-            readiness: Readiness {
-                readable: false,
-                read_closed: false,
-            },
+            readiness: Readiness::unknown(),
             origin,
             next_address,
             was_kept: false,
@@ -206,10 +90,7 @@ impl<'a, S: Source> Link<'a, S> {
 
     /// Notes what was reported.
     pub fn note(&mut self, event: &Event) {
-        self.readiness.readable |= event.is_readable()
-            || event.is_read_closed()
-            || event.is_error();
-        self.readiness.read_closed |= event.is_read_closed() || event.is_error();
+        self.readiness.note(event);
     }
 
     /// Whether no value is under way, and another one may be asked for: nothing came, not even the end.

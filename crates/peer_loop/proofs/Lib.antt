@@ -1,1 +1,1 @@
-mod CrewLemmas
+mod StartLemmas

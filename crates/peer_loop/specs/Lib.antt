@@ -1,4 +1,4 @@
-pub mod Crews
+pub mod StartedThreads
 pub mod Dealings
 pub mod Parts
 pub mod Reports

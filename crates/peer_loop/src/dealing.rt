@@ -38,7 +38,7 @@ pub struct ThreadParts<'a> {
 
 /// What all threads of a server are handed.
 #[derive(Drop)]
-pub struct Hands<'a, S: Source, L: Ledger> {
+pub struct AllWork<'a, S: Source, L: Ledger> {
     pub site: Site<'a>,
     pub seats: Seats<S, L>,
     pub parts: ThreadParts<'a>,

@@ -4,8 +4,8 @@ use crate::client_state::ClientState;
 use crate::limits::{MAX_SKIPPED, ROUNDS_OF_TURN};
 use mio::event::Event;
 use mio::net::TcpStream;
-use std::io;
-use std::io::{ErrorKind, Read};
+use peer_fetch::{was_interrupted, would_block};
+use std::io::Read;
 
 /// What the system reported, and no call has found otherwise since.
 #[derive(Clone, Copy)]
@@ -32,16 +32,6 @@ impl Readiness {
         self.writable |= event.is_writable() || event.is_error();
         self.read_closed |= event.is_read_closed();
     }
-}
-
-/// Whether a call of a stream would have to wait.
-pub fn would_block(error: &io::Error) -> bool {
-    error.kind() == ErrorKind::WouldBlock
-}
-
-/// Whether a call of a stream was interrupted, and is to be made again.
-pub fn was_interrupted(error: &io::Error) -> bool {
-    error.kind() == ErrorKind::Interrupted
 }
 
 /// Reads for nothing, as a lingering close does, adds what was read to what was skipped, and says what is waited for.

@@ -5,8 +5,8 @@ ghost use Rattle.peer_fetch.specs.Threads.{Allows};
 ghost use Rattle.peer_fill.specs.Lists.{AreSeatsOf, ComeBack};
 
 use crate::acceptor::Acceptor;
-use crate::crew::Crew;
-use crate::dealing::{Hands, ThreadParts};
+use crate::dealing::{AllWork, ThreadParts};
+use crate::server_threads::ServerThreads;
 use peer_fill::{Pool, Seats};
 use peer_host::Host;
 use peer_source::Source;
@@ -17,48 +17,48 @@ use std::thread::Scope;
 
 // Starts the threads, accepts clients once all of them run, and joins all. None where a thread or memory was refused: then no
 // client was accepted, and those that were started end.
-fn serve_crew<'s, E, S: Source, L: Ledger + Send + Sync, H: Host>(
+fn serve_scoped<'s, E, S: Source, L: Ledger + Send + Sync, H: Host>(
     scope: &Scope<'s, E>,
     rt: &'s H,
     alloc: Global,
     pool: &'s Pool<S, L>,
-    hands: Hands<'s, S, L>,
+    work: AllWork<'s, S, L>,
     mut acceptor: Acceptor<'_>,
 ) -> Option<Seats<S, L>>
-    requires of { AreSeatsOf pool.now hands.seats }
-    requires allows { IfSome hands.parts.fillers.plan (Allows (S.answers (source_of pool.now))) }
-    ensures { IfSome result (ComeBack pool.now hands.entry.seats) }
+    requires of { AreSeatsOf pool.now work.seats }
+    requires allows { IfSome work.parts.fillers.plan (Allows (S.answers (source_of pool.now))) }
+    ensures { IfSome result (ComeBack pool.now work.entry.seats) }
 {
-    let mut crew = Crew::new(alloc, pool, hands);
-    if crew.start(scope, rt).is_none() {
+    let mut threads = ServerThreads::new(alloc, pool, work);
+    if threads.start(scope, rt).is_none() {
         acceptor.site.close();
         pool.stop();
         return None;
     }
     acceptor.run(rt);
-    Some(crew.join(rt))
+    Some(threads.join(rt))
 }
 
 // The same, in a scope of its own.
-fn run_crew<S: Source, L: Ledger + Send + Sync, H: Host>(
+fn serve_handed<S: Source, L: Ledger + Send + Sync, H: Host>(
     rt: &H,
     alloc: Global,
     pool: &Pool<S, L>,
-    hands: Hands<'_, S, L>,
+    work: AllWork<'_, S, L>,
     acceptor: Acceptor<'_>,
 ) -> Option<Seats<S, L>>
-    requires of { AreSeatsOf pool.now hands.seats }
-    requires allows { IfSome hands.parts.fillers.plan (Allows (S.answers (source_of pool.now))) }
-    ensures { IfSome result (ComeBack pool.now hands.entry.seats) }
+    requires of { AreSeatsOf pool.now work.seats }
+    requires allows { IfSome work.parts.fillers.plan (Allows (S.answers (source_of pool.now))) }
+    ensures { IfSome result (ComeBack pool.now work.entry.seats) }
 {
     thread::scope(
         thread::scope_env(),
         rt,
         move |scope| -> Option<Seats<S, L>>
-            requires of { AreSeatsOf pool.now hands.seats }
-            requires allows { IfSome hands.parts.fillers.plan (Allows (S.answers (source_of pool.now))) }
-            ensures { IfSome result (ComeBack pool.entry.now hands.entry.seats) }
-        { serve_crew(scope, rt, alloc, pool, hands, acceptor) },
+            requires of { AreSeatsOf pool.now work.seats }
+            requires allows { IfSome work.parts.fillers.plan (Allows (S.answers (source_of pool.now))) }
+            ensures { IfSome result (ComeBack pool.entry.now work.entry.seats) }
+        { serve_scoped(scope, rt, alloc, pool, work, acceptor) },
     )
 }
 
@@ -76,10 +76,10 @@ pub fn use_threads<S: Source, L: Ledger + Send + Sync, H: Host>(
     requires allows { IfSome parts.fillers.plan (Allows (S.answers (source_of pool.now))) }
     ensures { IfSome result (ComeBack pool.now seats) }
 {
-    let hands = Hands {
+    let work = AllWork {
         site: acceptor.site,
         seats,
         parts,
     };
-    run_crew(rt, alloc, pool, hands, acceptor)
+    serve_handed(rt, alloc, pool, work, acceptor)
 }

@@ -2,7 +2,7 @@ use Rattle.std.proofs.Common.{◌≡◌, arith}
 use Rattle.peer_fill.specs.Seats.{conn_parts}
 use Rattle.peer_fill.proofs.Lasts.{of_front}
 use Rattle.peer_loop.specs.Parts.{filling_parts}
-use Rattle.peer_loop.proofs.CrewLemmas.{comes_back}
+use Rattle.peer_loop.proofs.StartLemmas.{comes_back}
 use Rattle.peer_loop.proofs.loop_seats.join_loops.Goals as goal
 
 pub loop-handle-preserved : goal.loop-handle-preserved

@@ -7,9 +7,9 @@ ghost use Rattle.std.specs.Prelude.{◌≡◌, IfSome};
 ghost use Rattle.peer_fetch.specs.Threads.{Allows};
 ghost use Rattle.peer_fill.specs.Pools.{source_of};
 ghost use Rattle.peer_fill.specs.Lists.{AreSeatsOf, HaveParts};
-ghost use Rattle.peer_loop.specs.Crews.{crew_conns, crew_fills, Goes, IsCrew, IsNew};
+ghost use Rattle.peer_loop.specs.StartedThreads.{all_conns, all_fills, KeepAll, AreStarting, AreNew};
 
-use crate::dealing::{FillWork, Hands, LoopWork, ThreadParts};
+use crate::dealing::{AllWork, FillWork, LoopWork, ThreadParts};
 use crate::filler::next_fetcher;
 use crate::fillers::Fillers;
 use crate::loop_seats::{join_loops, pop_loop};
@@ -24,7 +24,7 @@ use std::thread::{Scope, Threads};
 
 /// The threads of a server that were started, and what the others are to be handed.
 #[derive(Drop)]
-pub struct Crew<'a, S: Source, L: Ledger> {
+pub struct ServerThreads<'a, S: Source, L: Ledger> {
     pub pool: &'a Pool<S, L>,
     pub site: Site<'a>,
     alloc: Global,
@@ -36,17 +36,21 @@ pub struct Crew<'a, S: Source, L: Ledger> {
     pub working: Vec<FillHandle<'a, S, L>>,
 }
 
-impl<'a, S: Source, L: Ledger + Send + Sync> Crew<'a, S, L> {
+impl<'a, S: Source, L: Ledger + Send + Sync> ServerThreads<'a, S, L> {
     /// No thread was started.
-    pub fn new(alloc: Global, pool: &'a Pool<S, L>, hands: Hands<'a, S, L>) -> Crew<'a, S, L>
-        requires of { AreSeatsOf pool.now hands.seats }
-        requires allows { IfSome hands.parts.fillers.plan (Allows (S.answers (source_of pool.now))) }
-        ensures new { IsNew result }
+    pub fn new(
+        alloc: Global,
+        pool: &'a Pool<S, L>,
+        work: AllWork<'a, S, L>,
+    ) -> ServerThreads<'a, S, L>
+        requires of { AreSeatsOf pool.now work.seats }
+        requires allows { IfSome work.parts.fillers.plan (Allows (S.answers (source_of pool.now))) }
+        ensures new { AreNew result }
         ensures pool { result.pool.now ≡ pool.now }
-        ensures seats { result.seats ≡ hands.entry.seats }
+        ensures seats { result.seats ≡ work.entry.seats }
     {
-        let Hands { site, seats, parts } = hands;
-        Crew {
+        let AllWork { site, seats, parts } = work;
+        ServerThreads {
             pool,
             site,
             alloc,
@@ -59,8 +63,8 @@ impl<'a, S: Source, L: Ledger + Send + Sync> Crew<'a, S, L> {
 
     // Makes room for all threads, and for the seats that they give back. None where memory was refused.
     fn reserve(&mut self) -> Option<()>
-        requires { IsNew self.old }
-        ensures { IfSome result (λ _. Goes self.old self.new) }
+        requires { AreNew self.old }
+        ensures { IfSome result (λ _. KeepAll self.old self.new) }
     {
         self.working.reserve(self.seats.fills.len()).ok()?;
         self.serving.reserve(self.seats.conns.len()).ok()?;
@@ -77,8 +81,8 @@ impl<'a, S: Source, L: Ledger + Send + Sync> Crew<'a, S, L> {
 
     // Starts the thread of a loop. None where there is none for it to be handed, or where memory or a thread was refused.
     fn start_loop<E, H: Host>(&mut self, scope: &Scope<'a, E>, rt: &'a H) -> Option<()>
-        requires { IsCrew self.old }
-        ensures { IfSome result (λ _. Goes self.old self.new) }
+        requires { AreStarting self.old }
+        ensures { IfSome result (λ _. KeepAll self.old self.new) }
     {
         let parts = self.parts.loops.pop()?;
         let number = self.parts.loops.len();
@@ -96,8 +100,8 @@ impl<'a, S: Source, L: Ledger + Send + Sync> Crew<'a, S, L> {
 
     // Starts a thread that fills.
     fn start_filler<E, H: Host>(&mut self, scope: &Scope<'a, E>, rt: &'a H) -> Option<()>
-        requires { IsCrew self.old }
-        ensures { IfSome result (λ _. Goes self.old self.new) }
+        requires { AreStarting self.old }
+        ensures { IfSome result (λ _. KeepAll self.old self.new) }
     {
         let seat = pop_seat(self.pool, &mut self.seats.fills)?;
         let plan = self.parts.fillers.plan;
@@ -120,8 +124,8 @@ impl<'a, S: Source, L: Ledger + Send + Sync> Crew<'a, S, L> {
 
     // Starts the next thread: one that fills, where one is left, and else that of a loop.
     fn start_next<E, H: Host>(&mut self, scope: &Scope<'a, E>, rt: &'a H) -> Option<()>
-        requires { IsCrew self.old }
-        ensures { IfSome result (λ _. Goes self.old self.new) }
+        requires { AreStarting self.old }
+        ensures { IfSome result (λ _. KeepAll self.old self.new) }
     {
         if self.fillers_left() > 0 {
             self.start_filler(scope, rt)
@@ -132,8 +136,8 @@ impl<'a, S: Source, L: Ledger + Send + Sync> Crew<'a, S, L> {
 
     /// Starts the threads that fill, and then the loops. None where memory or a thread was refused.
     pub fn start<E, H: Host>(&mut self, scope: &Scope<'a, E>, rt: &'a H) -> Option<()>
-        requires { IsNew self.old }
-        ensures { IfSome result (λ _. Goes self.old self.new) }
+        requires { AreNew self.old }
+        ensures { IfSome result (λ _. KeepAll self.old self.new) }
     {
         self.reserve()?;
         let count = self.fillers_left().saturating_add(self.parts.loops.len());
@@ -145,10 +149,10 @@ impl<'a, S: Source, L: Ledger + Send + Sync> Crew<'a, S, L> {
 
     /// Waits for all threads, and gives all seats back. The loops end by themselves, and the others are told to.
     pub fn join<H: Threads>(self, rt: &H) -> Seats<S, L>
-        requires { IsCrew self }
-        ensures { HaveParts self.entry.pool.now (crew_conns self.entry) (crew_fills self.entry) result }
+        requires { AreStarting self }
+        ensures { HaveParts self.entry.pool.now (all_conns self.entry) (all_fills self.entry) result }
     {
-        let Crew {
+        let ServerThreads {
             pool,
             site,
             mut seats,

@@ -3,8 +3,8 @@ use Rattle.peer_fill.specs.Seats.{conn_parts}
 use Rattle.peer_fill.proofs.Moving.{all_push}
 use Rattle.peer_fill.proofs.Lasts.{sum_last}
 use Rattle.peer_loop.specs.Parts.{filling_parts}
-use Rattle.peer_loop.proofs.CrewLemmas.{hands_out}
-use Rattle.peer_loop.proofs.crew.Crew.start_loop.Goals as goal
+use Rattle.peer_loop.proofs.StartLemmas.{hands_out}
+use Rattle.peer_loop.proofs.server_threads.ServerThreads.start_loop.Goals as goal
 
 pub returns : goal.returns
 returns g c =

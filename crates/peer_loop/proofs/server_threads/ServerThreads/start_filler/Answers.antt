@@ -2,7 +2,7 @@ use Rattle.std.proofs.Common.{◌≡◌, refl, ap, arith}
 use Rattle.peer_fill.specs.Seats.{fill_parts}
 use Rattle.peer_fill.proofs.Moving.{all_push}
 use Rattle.peer_fill.proofs.Lasts.{sum_last}
-use Rattle.peer_loop.proofs.crew.Crew.start_filler.Goals as goal
+use Rattle.peer_loop.proofs.server_threads.ServerThreads.start_filler.Goals as goal
 
 pub returns : goal.returns
 returns g c =

@@ -1,13 +1,13 @@
--- What a crew keeps in one step and the next, and what one seat does to the parts of all.
+-- What a threads keeps in one step and the next, and what one seat does to the parts of all.
 use Rattle.std.proofs.Common.{◌≡◌, ◌∙◌, ℕ, ◌+◌, List, [], ◌∷◌, ◌++◌, arith, sum_by}
 use Rattle.peer_source.specs.declared.source.Source as Source
 use Rattle.std.specs.declared.sync.ledger.Ledger as Ledger
 use Rattle.peer_fill.proofs.Lasts.{sum_last}
-use Rattle.peer_loop.specs.Crews.{Goes}
-use Rattle.peer_loop.specs.declared.crew.Crew.{Crew}
+use Rattle.peer_loop.specs.StartedThreads.{KeepAll}
+use Rattle.peer_loop.specs.declared.server_threads.ServerThreads.{ServerThreads}
 
 module _ {S L : Type 0} {g : Source.Ghosts S} {h : Ledger.Ghosts L} where
-  pub goes_on : (one two three : Crew S L g h) → Goes one two → Goes two three → Goes one three
+  pub goes_on : (one two three : ServerThreads S L g h) → KeepAll one two → KeepAll two three → KeepAll one three
   goes_on one two three a b = record { is = b.is; pool = b.pool ∙ a.pool; conns = b.conns ∙ a.conns; fills = b.fills ∙ a.fills }
 
 -- the parts of one that is handed out are among those that were handed out
