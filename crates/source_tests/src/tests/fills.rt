@@ -1,12 +1,10 @@
 //! The source for demonstrations, its fills and its names.
-ghost use Rattle.peer_source.specs.Demo.{DemoAnswers, demo_number, demo_answered, demo_numbered};
-ghost use Rattle.peer_source.specs.DemoLaws.{demo_limited};
-
 use crate::tests::inputs::view_of;
-use peer_source::{DemoSource, Fill, GetResult, GroupId, Names, Outcome, Source};
-use peer_view::AllocSink;
+use peer_source::{DemoSource, Fill, GroupId, Names, Outcome, Source};
 use std::alloc::{AllocError, Global};
-use std::sync::atomic::{AtomicU64, Ordering};
+use std::sync::atomic::AtomicU64;
+use std::sync::atomic::Ordering::SeqCst;
+use test_support::{Hook, Hooked};
 
 pub const ECHO: GroupId = GroupId { number: 0 };
 
@@ -20,35 +18,11 @@ struct Counting {
     calls: AtomicU64,
 }
 
-impl Source for Counting {
-    ghost answers = { λ s g k a. DemoAnswers g k a };
-
-    ghost allowed = { DemoAnswers };
-
-    ghost count = { λ s. 3 };
-
-    ghost number_of = { λ s name. demo_number name };
-
-    fn group_count(&self) -> usize {
-        DemoSource.group_count()
+impl Hook for Counting {
+    fn may_call(&self, _alloc: Global, _key: &[u8]) -> bool {
+        self.calls.fetch_add(1, SeqCst);
+        true
     }
-
-    fn group(&self, name: &[u8]) -> Option<GroupId> {
-        DemoSource.group(name)
-    }
-
-    fn get(&self, alloc: Global, group: GroupId, key: &[u8], sink: &mut AllocSink) -> GetResult {
-        self.calls.fetch_add(1, Ordering::SeqCst);
-        DemoSource.get(alloc, group, key, sink)
-    }
-
-    ghost within = { λ s g k a h. h };
-
-    ghost limited = { λ g k a h. demo_limited g k a h };
-
-    ghost answered = { λ s g k. demo_answered g k };
-
-    ghost numbered = { λ s name i e. demo_numbered name i e };
 }
 
 /// A fill of the source for demonstrations.
@@ -172,11 +146,14 @@ fn names_tell_the_groups(rt: HostRuntime) {
 
 #[test]
 fn a_fill_calls_the_source_once(rt: HostRuntime) {
-    let source = Counting {
-        calls: AtomicU64::new(0),
+    let source = Hooked {
+        hook: Counting {
+            calls: AtomicU64::new(0),
+        },
     };
+    let calls = &source.hook.calls;
     let fill = Fill::run(rt.alloc(), &source, ECHO, view_of(b"k"));
-    assert_eq!(rt; source.calls.load(Ordering::SeqCst), 1);
+    assert_eq!(rt; calls.load(SeqCst), 1);
     assert!(rt; fill.share().is_ok());
-    assert_eq!(rt; source.calls.load(Ordering::SeqCst), 1);
+    assert_eq!(rt; calls.load(SeqCst), 1);
 }

@@ -142,11 +142,6 @@ fn tells_how_reading_byte_by_byte_failed(rt: HostRuntime) {
     assert!(rt; fault_of_bytes(alloc, text, true, 7) == Ok(Some(TableFault::ReadFault)));
 }
 
-// Whether the one text has no fault, and the other has this one.
-fn is_limit(alloc: Global, most: &[u8], more: &[u8], fault: TableFault) -> bool {
-    fault_of(alloc, most) == Ok(None) && fails(alloc, more, fault) == Ok(true)
-}
-
 // A text of lines with so many groups of one byte.
 fn groups(alloc: Global, count: u8) -> Result<Vec<u8>, AllocError> {
     let mut text = Vec::new(alloc);
@@ -154,14 +149,6 @@ fn groups(alloc: Global, count: u8) -> Result<Vec<u8>, AllocError> {
         text.extend_from_slice(&[100u8.wrapping_add(number), b'\t', b'k', b'\t', b'v', b'\n'])?;
     }
     Ok(text)
-}
-
-#[test]
-fn takes_sixty_four_groups_and_no_more(rt: HostRuntime) {
-    let alloc = rt.alloc();
-    let most = groups(alloc, 64).expect(&rt, "memory");
-    let more = groups(alloc, 65).expect(&rt, "memory");
-    assert!(rt; is_limit(alloc, &most, &more, TableFault::Groups(65)));
 }
 
 // A text of one line with a value of so many bytes.
@@ -172,12 +159,29 @@ fn line_with(alloc: Global, count: usize) -> Result<Vec<u8>, AllocError> {
     Ok(line)
 }
 
+// Whether the one text has no fault, and the other has this one.
+fn is_limit(
+    alloc: Global,
+    most: Result<Vec<u8>, AllocError>,
+    more: Result<Vec<u8>, AllocError>,
+    fault: TableFault,
+) -> Result<bool, AllocError> {
+    Ok(fault_of(alloc, &most?)?.is_none() && fails(alloc, &more?, fault)?)
+}
+
 #[test]
-fn takes_a_value_at_the_limit_and_none_above(rt: HostRuntime) {
+fn takes_what_is_at_a_limit_and_nothing_above(rt: HostRuntime) {
     let alloc = rt.alloc();
-    let most = line_with(alloc, 1_048_576).expect(&rt, "memory");
-    let more = line_with(alloc, 1_048_577).expect(&rt, "memory");
-    assert!(rt; is_limit(alloc, &most, &more, TableFault::Value(1)));
+    for (most, more, fault) in [
+        (groups(alloc, 64), groups(alloc, 65), TableFault::Groups(65)),
+        (
+            line_with(alloc, 1_048_576),
+            line_with(alloc, 1_048_577),
+            TableFault::Value(1),
+        ),
+    ] {
+        assert!(rt; is_limit(alloc, most, more, fault) == Ok(true));
+    }
 }
 
 #[test]
