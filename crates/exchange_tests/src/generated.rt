@@ -4,7 +4,6 @@
 use exchange_drive::{Compared, compare};
 use std::marker::Brand;
 use std::sync::ledger::Blank;
-use std::test::Fail;
 
 // What is expected of so many texts.
 fn all_same(checks: u64) -> Option<Compared> {
@@ -16,24 +15,17 @@ fn all_same(checks: u64) -> Option<Compared> {
 }
 
 #[test]
-fn an_exchange_answers_generated_texts_as_the_model_does(rt: HostRuntime) -> Result<(), Fail> {
-    let compared = compare::<Brand, HostRuntime>(
-        &rt,
-        rt.alloc(),
-        20_261_125,
-        200,
-        0,
-        Blank::new(16),
-    );
-    assert_eq!(rt; compared, all_same(200));
-    Ok(())
-}
-
-#[test]
-fn an_exchange_over_caches_answers_generated_texts_as_the_model_does(
-    rt: HostRuntime,
-) -> Result<(), Fail> {
-    let compared = compare::<Brand, HostRuntime>(&rt, rt.alloc(), 7, 200, 100, Blank::new(16));
-    assert_eq!(rt; compared, all_same(200));
-    Ok(())
+fn an_exchange_answers_generated_texts_as_the_model_does(rt: HostRuntime) {
+    for (seed, cache_bytes) in [(20_261_125, 0), (7, 100)] {
+        let blank = Blank::new(16);
+        let compared = compare::<Brand, HostRuntime>(
+            &rt,
+            rt.alloc(),
+            seed,
+            200,
+            cache_bytes,
+            blank,
+        );
+        assert_eq!(rt; compared, all_same(200), "seed {seed}");
+    }
 }

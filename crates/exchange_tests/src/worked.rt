@@ -1,6 +1,7 @@
 //! Connections as states: what an exchange sends for a text whose bytes come and go in pieces, and how it ends.
 ghost use Rattle.std.specs.Prelude.{◌≡◌};
 
+use crate::moved::sends_moved;
 use exchange_drive::{Driven, Steps};
 use peer_exchange::End;
 use peer_source::DemoSource;
@@ -8,7 +9,7 @@ use std::alloc::{AllocError, Global};
 use std::marker::Brand;
 use std::sync::Wait;
 use std::sync::ledger::{Blank, Ledger};
-use std::test::Fail;
+use std::thread::Threads;
 use stream_model::{ASK_K, ASK_K_LAST, FOUND_K, FOUND_K_LAST, joined, repeated};
 use test_support::open_pool;
 
@@ -23,47 +24,31 @@ const ASK_LONG: &[u8] = b"GET /_groupcache/fill/10000 HTTP/1.1\r\nHost: h\r\n\r\
 const HEAD_LONG: &[u8] =
     b"HTTP/1.1 200 OK\r\nContent-Type: application/x-protobuf\r\nContent-Length: 10003\r\n\r\n\x0A\x90\x4E";
 
+/// All bytes come, and all go.
+pub const WHOLE: Steps = Steps {
+    input: 20_000,
+    output: 2_000_000,
+};
+
 // The ways in which the bytes of a worked text come and go.
 const WAYS: [Steps; 4] = [
-    Steps {
-        input: 20_000,
-        output: 2_000_000,
-    },
-    Steps {
-        input: 1,
-        output: 2_000_000,
-    },
-    Steps {
-        input: 20_000,
-        output: 1,
-    },
+    WHOLE,
+    Steps { input: 1, ..WHOLE },
+    Steps { output: 1, ..WHOLE },
     Steps {
         input: 1,
         output: 1,
     },
 ];
 
-// Two requests, and a third behind one that closes.
-fn sends_worked<L: Ledger, H: Wait>(
-    driven: &mut Driven<'_, L>,
-    rt: &H,
-    alloc: Global,
-) -> Result<bool, AllocError> {
+/// Two requests and a third behind one that closes, and the replies to them.
+pub fn worked(alloc: Global) -> Result<(Vec<u8>, Vec<u8>), AllocError> {
     let text = joined(alloc, &[ASK_K, ASK_K_LAST, ASK_K])?;
-    let replies = joined(alloc, &[FOUND_K, FOUND_K_LAST])?;
-    let mut right = true;
-    for steps in WAYS {
-        right &= driven.sends(rt, alloc, &text, steps, &replies, End::Clean)?;
-    }
-    Ok(right)
+    Ok((text, joined(alloc, &[FOUND_K, FOUND_K_LAST])?))
 }
 
-// Short and long values in turn.
-fn sends_long<L: Ledger, H: Wait>(
-    driven: &mut Driven<'_, L>,
-    rt: &H,
-    alloc: Global,
-) -> Result<bool, AllocError> {
+// Short and long values in turn, and the replies to them.
+fn long(alloc: Global) -> Result<(Vec<u8>, Vec<u8>), AllocError> {
     let long = repeated(alloc, b"x", 10_000)?;
     let text = joined(
         alloc,
@@ -74,6 +59,17 @@ fn sends_long<L: Ledger, H: Wait>(
         alloc,
         &[&longs, FOUND_K, FOUND_K, &longs, &longs, FOUND_K_LAST],
     )?;
+    Ok((text, replies))
+}
+
+// Whether the replies to a text are sent in each way.
+fn sends_each_way<L: Ledger, H: Wait>(
+    driven: &mut Driven<'_, L>,
+    rt: &H,
+    alloc: Global,
+    told: Result<(Vec<u8>, Vec<u8>), AllocError>,
+) -> Result<bool, AllocError> {
+    let (text, replies) = told?;
     let mut right = true;
     for steps in WAYS {
         right &= driven.sends(rt, alloc, &text, steps, &replies, End::Clean)?;
@@ -146,23 +142,24 @@ fn sends_cut<L: Ledger, H: Wait>(
         } else {
             End::Cut
         };
-        right &= driven.sends(rt, alloc, &text[..at], WAYS[0], replies, end)?;
+        right &= driven.sends(rt, alloc, &text[..at], WHOLE, replies, end)?;
     }
     Ok(right)
 }
 
-// Which texts come.
+/// Which texts come.
 #[derive(Clone, Copy)]
-enum Texts {
+pub enum Texts {
     Worked,
     Cut,
     Long,
     More,
     One,
+    Moved,
 }
 
-// Whether the replies to these texts are sent.
-fn are_sent<H: Wait, L: Ledger>(
+// Whether the replies to these texts are sent, in a ledger.
+fn are_sent_over<H: Threads + Wait + Sync, L: Ledger + Send + Sync>(
     rt: &H,
     alloc: Global,
     texts: Texts,
@@ -179,47 +176,33 @@ fn are_sent<H: Wait, L: Ledger>(
         return Ok(false);
     };
     match texts {
-        Texts::Worked => sends_worked(&mut driven, rt, alloc),
+        Texts::Worked => sends_each_way(&mut driven, rt, alloc, worked(alloc)),
         Texts::Cut => sends_cut(&mut driven, rt, alloc),
-        Texts::Long => sends_long(&mut driven, rt, alloc),
+        Texts::Long => sends_each_way(&mut driven, rt, alloc, long(alloc)),
         Texts::More => holds_more(&mut driven, rt, alloc),
         Texts::One => holds_one(&mut driven, rt, alloc),
+        Texts::Moved => sends_moved(driven, rt, alloc),
     }
 }
 
-#[test]
-fn an_exchange_sends_each_reply_once_in_each_way(rt: HostRuntime) -> Result<(), Fail> {
-    let sent = are_sent::<HostRuntime, Brand>(&rt, rt.alloc(), Texts::Worked, Blank::new(16))?;
-    assert!(rt; sent);
-    Ok(())
+/// Whether the replies to these texts are sent.
+pub fn are_sent<H: Threads + Wait + Sync>(
+    rt: &H,
+    alloc: Global,
+    texts: Texts,
+) -> Result<bool, AllocError> {
+    are_sent_over::<H, Brand>(rt, alloc, texts, Blank::new(16))
 }
 
 #[test]
-fn an_exchange_ends_where_the_client_does(rt: HostRuntime) -> Result<(), Fail> {
-    let sent = are_sent::<HostRuntime, Brand>(&rt, rt.alloc(), Texts::Cut, Blank::new(16))?;
-    assert!(rt; sent);
-    Ok(())
-}
-
-#[test]
-fn an_exchange_sends_long_values(rt: HostRuntime) -> Result<(), Fail> {
-    let sent = are_sent::<HostRuntime, Brand>(&rt, rt.alloc(), Texts::Long, Blank::new(16))?;
-    assert!(rt; sent);
-    Ok(())
-}
-
-#[test]
-fn an_exchange_holds_more_behind_short_replies(rt: HostRuntime) -> Result<(), Fail> {
-    let sent = are_sent::<HostRuntime, Brand>(&rt, rt.alloc(), Texts::More, Blank::new(16))?;
-    assert!(rt; sent);
-    Ok(())
-}
-
-#[test]
-fn an_exchange_holds_one_value_for_a_client_that_reads_nothing(
-    rt: HostRuntime,
-) -> Result<(), Fail> {
-    let sent = are_sent::<HostRuntime, Brand>(&rt, rt.alloc(), Texts::One, Blank::new(16))?;
-    assert!(rt; sent);
-    Ok(())
+fn an_exchange_sends_the_replies_to_each_text(rt: HostRuntime) {
+    for (what, texts) in [
+        ("each reply once in each way", Texts::Worked),
+        ("up to the client's end", Texts::Cut),
+        ("long values", Texts::Long),
+        ("more behind short replies", Texts::More),
+        ("one value for a client that reads nothing", Texts::One),
+    ] {
+        assert!(rt; are_sent(&rt, rt.alloc(), texts) == Ok(true), "{what}");
+    }
 }
