@@ -24,64 +24,21 @@ pub struct Plan<'k> {
     pub together: u32,
 }
 
+impl Plan<'_> {
+    /// How many keys it asks for.
+    pub fn asks(&self) -> u64 {
+        (self.texts.len() as u64)
+            .saturating_add(u64::from(self.in_turn))
+            .saturating_add(u64::from(self.together))
+    }
+}
+
 // The value or the text of the error.
 fn text_of<S: Source>(fill: &Fill<S>) -> &[u8] {
     match fill.outcome() {
         Outcome::Found(text) | Outcome::Failed(text) => text.as_slice(),
         Outcome::NoMemory => b"no memory",
     }
-}
-
-// A claim on a key, which the thread is told of.
-fn ask<S: Source, L: Ledger, R: Wait>(
-    rt: &R,
-    alloc: Global,
-    pool: &Pool<S, L>,
-    seat: &mut ConnSeat<S, L>,
-    bell: &FetchBell,
-    key: &[u8],
-) -> Option<Claim<S>>
-    requires seat { IsConnSeatOf pool.now seat.old }
-    ensures { IsConnSeatOf pool.now seat.new }
-{
-    let claim = ask_for(rt, alloc, pool, seat, key);
-    let _ = bell.ring();
-    claim
-}
-
-// Whether the claim is answered with this text.
-fn shows<S: Source, L: Ledger, R: Wait>(
-    rt: &R,
-    pool: &Pool<S, L>,
-    claim: &Option<Claim<S>>,
-    text: &[u8],
-) -> bool {
-    match claim {
-        Some(claim) => text_of(pool.wait_for(rt, claim)) == text,
-        None => false,
-    }
-}
-
-// Asks for each key. The number of the first that is not answered as it is to be, if there is one.
-fn ask_texts<S: Source, L: Ledger, R: Wait>(
-    rt: &R,
-    alloc: Global,
-    pool: &Pool<S, L>,
-    seat: &mut ConnSeat<S, L>,
-    bell: &FetchBell,
-    texts: Texts<'_>,
-) -> Option<usize>
-    requires seat { IsConnSeatOf pool.now seat.old }
-    ensures { IsConnSeatOf pool.now seat.new }
-{
-    for number in 0..texts.len() {
-        let (key, text) = texts[number];
-        let claim = ask(rt, alloc, pool, seat, bell, key);
-        if !shows(rt, pool, &claim, text) {
-            return Some(number);
-        }
-    }
-    None
 }
 
 // The digits of a number, as a key.
@@ -95,55 +52,6 @@ fn digits(number: u32) -> [u8; 6] {
     digits
 }
 
-// Asks for so many numbers, each once the one before it is answered. Whether all are right.
-fn ask_in_turn<S: Source, L: Ledger, R: Wait>(
-    rt: &R,
-    alloc: Global,
-    pool: &Pool<S, L>,
-    seat: &mut ConnSeat<S, L>,
-    bell: &FetchBell,
-    count: u32,
-) -> bool
-    requires seat { IsConnSeatOf pool.now seat.old }
-    ensures { IsConnSeatOf pool.now seat.new }
-{
-    let mut right = true;
-    for number in 0..count {
-        let key = digits(number);
-        let claim = ask(rt, alloc, pool, seat, bell, &key);
-        right &= shows(rt, pool, &claim, &key);
-    }
-    right
-}
-
-// Asks for so many other numbers at once, and waits then. Whether all are right.
-fn ask_together<S: Source, L: Ledger, R: Wait>(
-    rt: &R,
-    alloc: Global,
-    pool: &Pool<S, L>,
-    seat: &mut ConnSeat<S, L>,
-    bell: &FetchBell,
-    count: u32,
-) -> bool
-    requires seat { IsConnSeatOf pool.now seat.old }
-    ensures { IsConnSeatOf pool.now seat.new }
-{
-    let mut claims = Vec::new(alloc);
-    let mut right = true;
-    for number in 0..count {
-        let key = digits(number.saturating_add(500_000));
-        right &= claims.push(ask(rt, alloc, pool, seat, bell, &key)).is_ok();
-    }
-    for number in 0..count {
-        let key = digits(number.saturating_add(500_000));
-        right &= match claims.get(number as usize) {
-            Some(claim) => shows(rt, pool, claim, &key),
-            None => false,
-        };
-    }
-    right
-}
-
 /// What became of a plan: the number of the first text that was wrong, and whether all numbers were right.
 #[derive(Clone, Copy, Debug, PartialEq, Eq)]
 pub struct Answered {
@@ -152,24 +60,107 @@ pub struct Answered {
     pub together: bool,
 }
 
-/// Asks as planned.
-pub fn ask_all<S: Source, L: Ledger, R: Wait>(
-    rt: &R,
-    alloc: Global,
-    pool: &Pool<S, L>,
-    seat: &mut ConnSeat<S, L>,
-    bell: &FetchBell,
-    plan: Plan<'_>,
-) -> Answered
-    requires seat { IsConnSeatOf pool.now seat.old }
-    ensures { IsConnSeatOf pool.now seat.new }
-{
-    let wrong_text = ask_texts(rt, alloc, pool, seat, bell, plan.texts);
-    let in_turn = ask_in_turn(rt, alloc, pool, seat, bell, plan.in_turn);
-    let together = ask_together(rt, alloc, pool, seat, bell, plan.together);
-    Answered {
-        wrong_text,
-        in_turn,
-        together,
+impl Answered {
+    /// Whether all was answered as it is to be.
+    pub fn is_right(&self) -> bool {
+        self.wrong_text.is_none() && self.in_turn && self.together
+    }
+}
+
+/// A client of a pool, and the bell of the thread that fetches.
+#[derive(Drop)]
+pub struct Client<'p, S: Source, L: Ledger, R> {
+    pub rt: &'p R,
+    pub alloc: Global,
+    pub pool: &'p Pool<S, L>,
+    pub bell: &'p FetchBell,
+}
+
+impl<'p, S: Source, L: Ledger, R: Wait> Client<'p, S, L, R> {
+    // A claim on a key, which the thread is told of.
+    fn ask(&self, seat: &mut ConnSeat<S, L>, key: &[u8]) -> Option<Claim<S>>
+        requires { IsConnSeatOf self.now.pool.now seat.old }
+        ensures { IsConnSeatOf self.now.pool.now seat.new }
+    {
+        let claim = ask_for(self.rt, self.alloc, self.pool, seat, key);
+        let _ = self.bell.ring();
+        claim
+    }
+
+    // Whether the claim is answered with this text.
+    fn shows(&self, claim: &Option<Claim<S>>, text: &[u8]) -> bool {
+        match claim {
+            Some(claim) => text_of(self.pool.wait_for(self.rt, claim)) == text,
+            None => false,
+        }
+    }
+
+    // Whether a key that is asked for is answered with this text.
+    fn is_answered(&self, seat: &mut ConnSeat<S, L>, key: &[u8], text: &[u8]) -> bool
+        requires { IsConnSeatOf self.now.pool.now seat.old }
+        ensures { IsConnSeatOf self.now.pool.now seat.new }
+    {
+        let claim = self.ask(seat, key);
+        self.shows(&claim, text)
+    }
+
+    // Asks for each key. The number of the first that is not answered as it is to be, if there is one.
+    fn ask_texts(&self, seat: &mut ConnSeat<S, L>, texts: Texts<'_>) -> Option<usize>
+        requires { IsConnSeatOf self.now.pool.now seat.old }
+        ensures { IsConnSeatOf self.now.pool.now seat.new }
+    {
+        for number in 0..texts.len() {
+            let (key, text) = texts[number];
+            if !self.is_answered(seat, key, text) {
+                return Some(number);
+            }
+        }
+        None
+    }
+
+    // Asks for so many numbers, each once the one before it is answered. Whether all are right.
+    fn ask_in_turn(&self, seat: &mut ConnSeat<S, L>, count: u32) -> bool
+        requires { IsConnSeatOf self.now.pool.now seat.old }
+        ensures { IsConnSeatOf self.now.pool.now seat.new }
+    {
+        let mut right = true;
+        for number in 0..count {
+            let key = digits(number);
+            right &= self.is_answered(seat, &key, &key);
+        }
+        right
+    }
+
+    // Asks for so many other numbers at once, and waits then. Whether all are right.
+    fn ask_together(&self, seat: &mut ConnSeat<S, L>, count: u32) -> bool
+        requires { IsConnSeatOf self.now.pool.now seat.old }
+        ensures { IsConnSeatOf self.now.pool.now seat.new }
+    {
+        let mut claims = Vec::new(self.alloc);
+        let mut right = true;
+        for number in 500_000..500_000u32.saturating_add(count) {
+            let key = digits(number);
+            let claim = self.ask(seat, &key);
+            right &= claims.push((key, claim)).is_ok();
+        }
+        for (key, claim) in &claims {
+            right &= self.shows(claim, key);
+        }
+        right
+    }
+
+    /// Asks as planned.
+    pub fn ask_all(&self, seat: &mut ConnSeat<S, L>, plan: Plan<'_>) -> Answered
+        requires { IsConnSeatOf self.now.pool.now seat.old }
+        ensures { IsConnSeatOf self.now.pool.now seat.new }
+    {
+        let wrong_text = self.ask_texts(seat, plan.texts);
+        let in_turn = self.ask_in_turn(seat, plan.in_turn);
+        let together = self.ask_together(seat, plan.together);
+        Answered {
+            wrong_text,
+            in_turn,
+            together,
+        }
     }
 }

@@ -9,6 +9,8 @@
 #[cfg(test)]
 mod asking;
 #[cfg(test)]
+mod clients;
+#[cfg(test)]
 mod origin;
 #[cfg(test)]
 mod replies;

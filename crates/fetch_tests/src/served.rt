@@ -5,6 +5,7 @@ use crate::origin::{Told, serve};
 use crate::running::{Prepared, patient, prepare};
 use peer_fetch::{FetchPlan, Places};
 use peer_fill::Report;
+use peer_host::{Host, Network};
 use peer_loop::{Fillers, Limits, Settings, Stop, serve_fetching};
 use peer_origin::OriginSource;
 use peer_source::Source;
@@ -33,11 +34,7 @@ fn digits(number: u8) -> [u8; 2] {
 }
 
 // A client that has asked for the key of its number.
-fn ask<H: Net<Listener = TcpListener, Stream = TcpStream> + Wait + Clock>(
-    rt: &H,
-    address: SocketAddr,
-    number: u8,
-) -> Option<TcpStream> {
+fn ask<H: Network>(rt: &H, address: SocketAddr, number: u8) -> Option<TcpStream> {
     let stream = TcpStream::connect(rt, address).ok()?;
     stream.set_read_timeout(Some(Duration::from_secs(50))).ok()?;
     let mut request = *ASK;
@@ -57,11 +54,7 @@ fn is_answered(alloc: Global, stream: &TcpStream, number: u8) -> bool {
 }
 
 // Asks for a key by each client, and then looks at all replies.
-fn ask_all<H: Net<Listener = TcpListener, Stream = TcpStream> + Wait + Clock>(
-    rt: &H,
-    alloc: Global,
-    address: SocketAddr,
-) -> Option<bool> {
+fn ask_all<H: Network>(rt: &H, alloc: Global, address: SocketAddr) -> Option<bool> {
     let mut clients = Vec::new(alloc);
     for number in 0..CLIENTS {
         clients.push(ask(rt, address, number)?).ok()?;
@@ -74,15 +67,7 @@ fn ask_all<H: Net<Listener = TcpListener, Stream = TcpStream> + Wait + Clock>(
 }
 
 // Serves while the clients ask.
-fn serve_clients<
-    S: Source,
-    H: AllocGlobal
-        + Net<Listener = TcpListener, Stream = TcpStream>
-        + Threads
-        + Wait
-        + Clock
-        + Sync,
->(
+fn serve_clients<S: Source, H: Host + AllocGlobal>(
     rt: &H,
     source: S,
     listener: TcpListener,
@@ -114,15 +99,7 @@ fn limits() -> Limits {
 }
 
 // Serves in front of an origin that holds its replies back until as many requests are open as there are clients.
-fn serve_held<
-    S: Source,
-    H: AllocGlobal
-        + Net<Listener = TcpListener, Stream = TcpStream>
-        + Threads
-        + Wait
-        + Clock
-        + Sync,
->(
+fn serve_held<S: Source, H: Host + AllocGlobal>(
     rt: &H,
     source: S,
     origin: TcpListener,
