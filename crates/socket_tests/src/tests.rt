@@ -13,4 +13,5 @@ mod plans;
 mod servers;
 mod serving;
 mod stopping;
+mod visits;
 mod working;

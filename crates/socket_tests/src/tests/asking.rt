@@ -1,6 +1,6 @@
 //! Clients that ask for many keys, one after the other or all at once, of each server: its threads sleep, and are woken.
 
-use super::clients::{ASK_LAST, FOUND_LAST, connect, receive, send};
+use super::clients::{connect, receive, send};
 use super::plans::{Kind, plan_of};
 use super::servers::{beside, beside_both, has_asked};
 use std::alloc::Global;
@@ -13,6 +13,7 @@ use std::sync::atomic::Ordering::SeqCst;
 use std::test::Fail;
 use std::thread;
 use std::time::{Clock, Duration};
+use stream_model::{ASK_K_LAST, FOUND_K_LAST};
 use test_support::{Hook, Hooked};
 
 // The digits of a number below 100,000.
@@ -115,7 +116,7 @@ fn many_requests(alloc: Global, first: u32, count: u32) -> Option<Vec<u8>> {
             .extend_from_slice(b" HTTP/1.1\r\nHost: h\r\n\r\n")
             .ok()?;
     }
-    bytes.extend_from_slice(ASK_LAST).ok()?;
+    bytes.extend_from_slice(ASK_K_LAST).ok()?;
     Some(bytes)
 }
 
@@ -130,7 +131,7 @@ fn all_answered(alloc: Global, clients: &[Option<TcpStream>], requests: &[Vec<u8
     }
     let received = clients.iter().all(|client| match client {
         Some(stream) => match receive(alloc, stream) {
-            Some(bytes) => bytes.len() == 700 * 83 + 98 && bytes.ends_with(FOUND_LAST),
+            Some(bytes) => bytes.len() == 700 * 83 + 98 && bytes.ends_with(FOUND_K_LAST),
             None => false,
         },
         None => false,

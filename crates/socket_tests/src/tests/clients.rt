@@ -7,24 +7,10 @@ use std::sync::Wait;
 use std::test::Fail;
 use std::thread;
 use std::time::{Clock, Duration};
+use stream_model::{ASK_K, ASK_K_LAST, FOUND_K, FOUND_K_LAST};
 
 /// How many seconds a client waits at most for a server that hangs.
 const PATIENCE: u64 = 30;
-
-/// The request for the key `k` of the group `echo`.
-pub const ASK: &[u8] = b"GET /_groupcache/echo/k HTTP/1.1\r\nHost: h\r\n\r\n";
-
-/// The same, and the last of its connection.
-pub const ASK_LAST: &[u8] =
-    b"GET /_groupcache/echo/k HTTP/1.1\r\nHost: h\r\nConnection: close\r\n\r\n";
-
-/// The reply to the one.
-pub const FOUND: &[u8] =
-    b"HTTP/1.1 200 OK\r\nContent-Type: application/x-protobuf\r\nContent-Length: 3\r\n\r\n\x0A\x01k";
-
-/// The reply to the other.
-pub const FOUND_LAST: &[u8] =
-    b"HTTP/1.1 200 OK\r\nContent-Type: application/x-protobuf\r\nContent-Length: 3\r\nConnection: close\r\n\r\n\x0A\x01k";
 
 /// A listener on a free port of the loopback address.
 pub fn listen<H: AllocGlobal + Net<Listener = TcpListener, Stream = TcpStream> + Wait + Clock>(
@@ -61,6 +47,11 @@ pub fn receive(alloc: Global, stream: &TcpStream) -> Option<Vec<u8>> {
     Some(bytes)
 }
 
+/// Whether exactly these bytes come until the server ends.
+pub fn receives(alloc: Global, stream: &TcpStream, text: &[u8]) -> bool {
+    is_text(&receive(alloc, stream), text)
+}
+
 /// What a client receives that sends these bytes.
 pub fn exchange<H: AllocGlobal + Net<Listener = TcpListener, Stream = TcpStream> + Wait + Clock>(
     rt: &H,
@@ -85,21 +76,28 @@ pub fn exchange_and_end<
     receive(rt.alloc(), &stream)
 }
 
+/// Whether a client gets the reply to one request.
+pub fn is_answered(stream: &TcpStream) -> bool {
+    let mut reader = stream;
+    let mut reply = [0; 79];
+    send(stream, ASK_K) && reader.read_exact(&mut reply).is_ok() && reply.as_slice() == FOUND_K
+}
+
 /// A client that has asked once and has its reply.
 pub fn served_client<
     H: AllocGlobal + Net<Listener = TcpListener, Stream = TcpStream> + Wait + Clock,
 >(rt: &H, address: SocketAddr) -> Option<TcpStream> {
     let stream = connect(rt, address)?;
-    if !send(&stream, ASK) {
-        return None;
+    if is_answered(&stream) {
+        Some(stream)
+    } else {
+        None
     }
-    let mut reply = [0; FOUND.len()];
-    let mut reader = &stream;
-    reader.read_exact(&mut reply).ok()?;
-    if reply.as_slice() != FOUND {
-        return None;
-    }
-    Some(stream)
+}
+
+/// Whether a client gets the reply to its last request, and the end.
+pub fn is_answered_last(alloc: Global, stream: &TcpStream) -> bool {
+    send(stream, ASK_K_LAST) && receives(alloc, stream, FOUND_K_LAST)
 }
 
 /// Whether a client that asks for the key `k` of the group `echo` and closes gets its reply.
@@ -107,7 +105,7 @@ pub fn is_served<H: AllocGlobal + Net<Listener = TcpListener, Stream = TcpStream
     rt: &H,
     address: SocketAddr,
 ) -> bool {
-    is_text(&exchange(rt, address, ASK_LAST), FOUND_LAST)
+    is_text(&exchange(rt, address, ASK_K_LAST), FOUND_K_LAST)
 }
 
 /// Sends a byte at a time until the server is gone, and says whether it is before the last.

@@ -1,29 +1,16 @@
 //! Servers on event loops in threads of their own, beside their clients, with settings that only loops have.
 
-use super::plans::{Plan, Waits};
+use super::plans::Plan;
 use super::servers::run_both;
 use peer_fill::Report;
-use peer_loop::{Fillers, Limits, Settings, Stop, serve_loops};
+use peer_loop::{Fillers, Settings, Stop, serve_loops};
 use peer_source::Source;
 use peer_stats::Counters;
 use std::net::{Net, SocketAddr, TcpListener, TcpStream};
 use std::sync::Wait;
 use std::test::Fail;
 use std::thread::Threads;
-use std::time::{Clock, Duration};
-
-// The limits of a server on loops.
-fn limits_of(waits: Waits) -> Limits {
-    Limits {
-        tick: waits.tick,
-        silence: waits.silence,
-        silence_when_full: waits.silence_when_full,
-        request_when_full: waits.request_when_full,
-        unread: waits.unread,
-        linger: waits.linger,
-        pause: Duration::from_millis(1),
-    }
-}
+use std::time::Clock;
 
 /// What a server has from outside.
 #[derive(Drop)]
@@ -52,7 +39,7 @@ pub fn settings_of<'a>(outside: &'a Outside, plan: &Plan) -> Settings<'a> {
         accepts: Some((plan.connections as u64).saturating_mul(plan.rounds)),
         cache_bytes: plan.cache_bytes,
         seed: plan.seed,
-        limits: limits_of(plan.waits),
+        limits: plan.limits,
         counters: &outside.counters,
         stop: &outside.stop,
     }

@@ -1,6 +1,6 @@
 //! Two connections, where the fill of one waits for that of the other, of each server.
 
-use super::clients::{connect, is_text, receive, send};
+use super::clients::{connect, receives, send};
 use super::plans::{Kind, plan_of};
 use super::servers::{beside, has_asked};
 use std::alloc::Global;
@@ -57,8 +57,8 @@ fn ask_both<H: AllocGlobal + Net<Listener = TcpListener, Stream = TcpStream> + W
         return [false; 2];
     }
     [
-        is_text(&receive(rt.alloc(), &other), FOUND_B),
-        is_text(&receive(rt.alloc(), &one), FOUND_A),
+        receives(rt.alloc(), &other, FOUND_B),
+        receives(rt.alloc(), &one, FOUND_A),
     ]
 }
 

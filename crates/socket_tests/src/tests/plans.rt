@@ -1,5 +1,6 @@
 //! Which server is to serve, and how: what a test asks of each of them.
 
+use peer_loop::Limits;
 use std::hash::RandomState;
 use std::io;
 use std::random::RandomSource;
@@ -16,34 +17,23 @@ pub enum Kind {
     Loops,
 }
 
-/// How long clients are waited for.
-#[derive(Clone, Copy)]
-pub struct Waits {
-    /// How often a loop looks at the others.
-    pub tick: Duration,
-    pub silence: Duration,
-    pub silence_when_full: Duration,
-    pub request_when_full: Duration,
-    pub unread: Duration,
-    pub linger: Duration,
-}
-
 /// Limits that a test can wait for. None of them is meant to be met: also a loop that sleeps wakes for its tick only when the
 /// client of the test has long given up.
-pub fn patient() -> Waits {
-    Waits {
+pub fn patient() -> Limits {
+    Limits {
         tick: Duration::from_secs(60),
         silence: Duration::from_secs(60),
         silence_when_full: Duration::from_secs(60),
         request_when_full: Duration::from_secs(60),
         unread: Duration::from_secs(60),
         linger: Duration::from_secs(10),
+        pause: Duration::from_millis(1),
     }
 }
 
 /// The same, looked at so often that one of them can be a short one.
-pub fn attentive() -> Waits {
-    Waits {
+pub fn attentive() -> Limits {
+    Limits {
         tick: Duration::from_millis(20),
         ..patient()
     }
@@ -62,13 +52,13 @@ pub struct Plan {
     pub rounds: u64,
     pub cache_bytes: u64,
     pub seed: RandomState,
-    pub waits: Waits,
+    pub limits: Limits,
 }
 
 impl Plan {
     /// The same server with these limits.
-    pub fn within(self, waits: Waits) -> Plan {
-        Plan { waits, ..self }
+    pub fn within(self, limits: Limits) -> Plan {
+        Plan { limits, ..self }
     }
 
     /// The same server, which serves on so many loops where loops serve.
@@ -99,6 +89,6 @@ pub fn plan_of(
         rounds,
         cache_bytes: 0,
         seed: RandomState::new(rt)?,
-        waits: patient(),
+        limits: patient(),
     })
 }

@@ -2,7 +2,7 @@
 
 use super::clients::listen;
 use super::loop_servers::{Outside, settings_of};
-use super::plans::{Kind, Plan, Waits};
+use super::plans::{Kind, Plan};
 use peer_fill::Report;
 use peer_loop::serve_loops;
 use peer_socket::{Limits, Settings, peer_server, serve_within};
@@ -15,16 +15,16 @@ use std::thread::Threads;
 use std::time::{Clock, Duration};
 
 // The limits of a server in threads.
-fn limits_of(waits: Waits) -> Limits {
+fn limits_of(limits: peer_loop::Limits) -> Limits {
     Limits {
         slice: Duration::from_millis(20),
-        silence: waits.silence,
-        silence_when_full: waits.silence_when_full,
-        request_when_full: waits.request_when_full,
-        unread: waits.unread,
-        linger: waits.linger,
+        silence: limits.silence,
+        silence_when_full: limits.silence_when_full,
+        request_when_full: limits.request_when_full,
+        unread: limits.unread,
+        linger: limits.linger,
         linger_bytes: 1_048_576,
-        pause: Duration::from_millis(1),
+        pause: limits.pause,
     }
 }
 
@@ -36,7 +36,7 @@ fn seats_of(plan: &Plan) -> Settings {
         rounds: plan.rounds,
         cache_bytes: plan.cache_bytes,
         seed: plan.seed,
-        limits: limits_of(plan.waits),
+        limits: limits_of(plan.limits),
     }
 }
 
@@ -116,6 +116,20 @@ where
     run_both(rt, serve, clients)
 }
 
+// What the clients of a server answered, and whether it counted so many requests.
+fn counted<
+    T,
+    C: Fn(SocketAddr) -> T,
+    H: Net<Listener = TcpListener, Stream = TcpStream> + Threads + Wait + Clock + Sync,
+>(rt: &H, kind: Kind, plan: &Plan, asked: u64, clients: &C) -> Result<(T, bool), Fail>
+where
+    H: AllocGlobal,
+    requires { C.IsAlwaysCallable clients.now }
+{
+    let (report, seen) = beside(rt, DemoSource, kind, plan, |address| clients(address))?;
+    Ok((seen, has_asked(&report, asked)))
+}
+
 /// What the clients of a server in threads answered, and those of one on loops: each with whether its server counted so many
 /// requests.
 pub fn beside_both<
@@ -127,23 +141,9 @@ where
     H: AllocGlobal,
     requires { C.IsAlwaysCallable clients }
 {
-    let (threads, one) = beside(
-        rt,
-        DemoSource,
-        Kind::Seats,
-        plan,
-        |address| clients(address),
-    )?;
-    let (loops, other) = beside(
-        rt,
-        DemoSource,
-        Kind::Loops,
-        plan,
-        |address| clients(address),
-    )?;
     Ok([
-        (one, has_asked(&threads, asked)),
-        (other, has_asked(&loops, asked)),
+        counted(rt, Kind::Seats, plan, asked, &clients)?,
+        counted(rt, Kind::Loops, plan, asked, &clients)?,
     ])
 }
 

@@ -1,8 +1,8 @@
 //! Connections that end by themselves, of each server.
 
 use super::clients::{
-    ASK, ASK_LAST, FOUND, FOUND_LAST, connect, exchange, exchange_and_end, is_served, is_text,
-    listen, receive, send, served_client,
+    connect, exchange, exchange_and_end, is_answered_last, is_served, is_text, listen, receives,
+    send, served_client,
 };
 use super::plans::{Kind, plan_of};
 use super::servers::{beside, beside_both, has_asked, has_totals};
@@ -14,6 +14,7 @@ use std::net::{Net, SocketAddr, TcpListener, TcpStream};
 use std::sync::Wait;
 use std::test::Fail;
 use std::time::Clock;
+use stream_model::{ASK_K, ASK_K_LAST, FOUND_K, FOUND_K_LAST};
 
 // What is written is the one text and then the other.
 const BOTH: &[u8] =
@@ -63,9 +64,7 @@ fn ask_behind<H: AllocGlobal + Net<Listener = TcpListener, Stream = TcpStream> +
     address: SocketAddr,
 ) -> bool {
     match served_client(rt, address) {
-        Some(stream) => {
-            send(&stream, ASK_LAST) && is_text(&receive(rt.alloc(), &stream), FOUND_LAST)
-        }
+        Some(stream) => is_answered_last(rt.alloc(), &stream),
         None => false,
     }
 }
@@ -91,15 +90,15 @@ fn ask_in_turn<H: AllocGlobal + Net<Listener = TcpListener, Stream = TcpStream> 
     let (Some(one), Some(other)) = (connect(rt, address), connect(rt, address)) else {
         return [false; 3];
     };
-    let sent = send(&other, ASK_LAST) && send(&one, ASK_BOTH);
-    let first = sent && is_text(&receive(rt.alloc(), &one), BOTH);
+    let sent = send(&other, ASK_K_LAST) && send(&one, ASK_BOTH);
+    let first = sent && receives(rt.alloc(), &one, BOTH);
     drop(one);
-    let second = is_text(&receive(rt.alloc(), &other), FOUND_LAST);
+    let second = receives(rt.alloc(), &other, FOUND_K_LAST);
     drop(other);
     [
         first,
         second,
-        is_text(&exchange_and_end(rt, address, ASK), FOUND),
+        is_text(&exchange_and_end(rt, address, ASK_K), FOUND_K),
     ]
 }
 

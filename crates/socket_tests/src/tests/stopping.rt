@@ -1,6 +1,6 @@
 //! Servers that are told to end while clients are there.
 
-use super::clients::{connect, is_text, receive, send, served_client};
+use super::clients::{connect, receives, send, served_client};
 use super::loop_servers::{Outside, beside_loops, settings_of};
 use super::plans::plan_of;
 use super::servers::has_asked;
@@ -75,10 +75,9 @@ fn stop_beside<H: AllocGlobal + Net<Listener = TcpListener, Stream = TcpStream> 
     let waiting = connect(rt, address)?;
     let asked = send(&waiting, ASK_SLOW) && await_call(rt, &call.called);
     stop.stop();
-    let let_go = is_text(&receive(rt.alloc(), &one), b"")
-        && is_text(&receive(rt.alloc(), &other), b"");
+    let let_go = receives(rt.alloc(), &one, b"") && receives(rt.alloc(), &other, b"");
     let held = !call.open.swap(true, SeqCst);
-    let served = is_text(&receive(rt.alloc(), &waiting), FOUND_SLOW);
+    let served = receives(rt.alloc(), &waiting, FOUND_SLOW);
     Some([asked, let_go && held, served])
 }
 

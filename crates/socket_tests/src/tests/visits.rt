@@ -1,0 +1,108 @@
+//! Clients that come to a server one after the other, and what each finds.
+
+use super::clients::{connect, drips_in_vain, is_answered, is_answered_last, receives, send};
+use super::plans::{Kind, Plan};
+use super::servers::{beside, has_asked};
+use peer_host::Network;
+use peer_source::DemoSource;
+use std::net::{Net, SocketAddr, TcpListener, TcpStream};
+use std::sync::Wait;
+use std::test::Fail;
+use std::thread;
+use std::thread::Threads;
+use std::time::{Clock, Duration};
+use stream_model::{ASK_K_LAST, FOUND_K, FOUND_K_LAST};
+
+/// What a client does, and what it is to find.
+#[derive(Clone, Copy)]
+pub enum Visit {
+    /// It comes and goes away.
+    Comes,
+    /// It asks for the last time, and is answered.
+    Asks,
+    /// The same, so many milliseconds after those before it.
+    AsksLate(u64),
+    /// It sends these bytes, and is silent then: it gets one reply, and is let go.
+    FallsSilent(&'static [u8]),
+    /// It is answered, is silent for so many milliseconds, and is answered for the last time.
+    Pauses(u64),
+    /// It says nothing, and is let go.
+    SaysNothing,
+    /// It sends a byte at a time, and is let go.
+    Drips,
+    /// The same behind its closing reply.
+    DripsBehind,
+    /// It sends much behind its last request, and gets the whole reply and no reset.
+    SendsMore,
+}
+
+// Waits for so many milliseconds, and says that the client goes on.
+fn pause<H: Network>(rt: &H, milliseconds: u64) -> bool {
+    thread::sleep(rt, Duration::from_millis(milliseconds));
+    true
+}
+
+// Whether a client finds what it is to find.
+fn finds<H: Network + AllocGlobal>(rt: &H, stream: &TcpStream, visit: Visit) -> bool {
+    let alloc = rt.alloc();
+    match visit {
+        Visit::Comes => true,
+        Visit::Asks | Visit::AsksLate(_) => is_answered_last(alloc, stream),
+        Visit::FallsSilent(bytes) => send(stream, bytes) && receives(alloc, stream, FOUND_K),
+        Visit::Pauses(time) => {
+            is_answered(stream) && pause(rt, time) && is_answered_last(alloc, stream)
+        }
+        Visit::SaysNothing => receives(alloc, stream, b""),
+        Visit::Drips => drips_in_vain(rt, stream),
+        Visit::DripsBehind => is_answered_last(alloc, stream) && drips_in_vain(rt, stream),
+        Visit::SendsMore => {
+            (0..2000).all(|_| send(stream, ASK_K_LAST)) && receives(alloc, stream, FOUND_K_LAST)
+        }
+    }
+}
+
+// Whether each of these clients finds what it is to find.
+fn all_find<H: Network + AllocGlobal>(rt: &H, address: SocketAddr, visits: &[Visit]) -> bool {
+    let mut right = true;
+    for visit in visits {
+        if let Visit::AsksLate(time) = *visit {
+            let _ = pause(rt, time);
+        }
+        right &= match connect(rt, address) {
+            Some(stream) => finds(rt, &stream, *visit),
+            None => false,
+        };
+    }
+    right
+}
+
+/// Whether each of these clients finds what it is to find at a server that serves as the plan says, and whether the server
+/// counted so many requests.
+pub fn serves<H: Net<Listener = TcpListener, Stream = TcpStream> + Threads + Wait + Clock + Sync>(
+    rt: &H,
+    kind: Kind,
+    plan: &Plan,
+    visits: &[Visit],
+    asked: u64,
+) -> Result<[bool; 2], Fail>
+where
+    H: AllocGlobal,
+{
+    let (report, found) = beside(rt, DemoSource, kind, plan, |address| {
+        all_find(rt, address, visits)
+    })?;
+    Ok([found, has_asked(&report, asked)])
+}
+
+/// The same of a server in threads, and of one on loops.
+pub fn both_serve<
+    H: Net<Listener = TcpListener, Stream = TcpStream> + Threads + Wait + Clock + Sync,
+>(rt: &H, plan: &Plan, visits: &[Visit], asked: u64) -> Result<[[bool; 2]; 2], Fail>
+where
+    H: AllocGlobal,
+{
+    Ok([
+        serves(rt, Kind::Seats, plan, visits, asked)?,
+        serves(rt, Kind::Loops, plan, visits, asked)?,
+    ])
+}
