@@ -26,28 +26,16 @@ fn reader_of(alloc: Global, bytes: &[u8]) -> Result<MemReader, AllocError>
 }
 
 #[test]
-fn answers_what_go_sends(rt: HostRuntime) -> Result<(), Fail> {
+fn a_pipe_answers_what_go_sends_until_its_writer_fails(rt: HostRuntime) -> Result<(), Fail> {
     let alloc = rt.alloc();
-    let served = peer_pipe(
-        alloc,
-        reader_of(alloc, GO_REQUEST)?,
-        MemWriter::new(alloc, 4096, None),
-    );
-    assert_eq!(rt; served.end, End::Clean);
-    assert_eq!(rt; served.writer.taken(), REPLY_K);
-    Ok(())
-}
-
-#[test]
-fn fails_where_the_writer_fails(rt: HostRuntime) -> Result<(), Fail> {
-    let alloc = rt.alloc();
-    let served = peer_pipe(
-        alloc,
-        reader_of(alloc, GO_REQUEST)?,
-        MemWriter::new(alloc, 4096, Some(10)),
-    );
-    assert_eq!(rt; served.end, End::WriteFault);
-    assert_eq!(rt; served.writer.taken(), b"HTTP/1.1 2".as_slice());
+    for (fails_behind, end, taken) in [
+        (None, End::Clean, REPLY_K),
+        (Some(10), End::WriteFault, b"HTTP/1.1 2".as_slice()),
+    ] {
+        let reader = reader_of(alloc, GO_REQUEST)?;
+        let served = peer_pipe(alloc, reader, MemWriter::new(alloc, 4096, fails_behind));
+        assert_eq!(rt; (served.end, served.writer.taken()), (end, taken));
+    }
     Ok(())
 }
 
