@@ -96,63 +96,58 @@ impl Setting {
     }
 }
 
-// Claims on the echo of these keys of two bytes.
-fn ask_each<S: Source, L: Ledger, R: Wait>(
-    rt: &R,
+// A pool whose connections ask.
+#[derive(Drop)]
+struct Asked<'p, S: Source, L: Ledger, R> {
+    rt: &'p R,
     alloc: Global,
-    pool: &Pool<S, L>,
-    seat: &mut ConnSeat<S, L>,
-    from: u16,
-    to: u16,
-) -> Option<Vec<Claim<S>>>
-    requires seat { IsConnSeatOf pool.now seat.old }
-    requires groups { 0 < S.count (source_of pool.now) }
-    ensures { IsConnSeatOf pool.now seat.new }
-{
-    let mut claims = Vec::new(alloc);
-    for number in from..to {
-        let claim = ask_in(rt, alloc, pool, seat, ECHO, &number.to_be_bytes())?;
-        claims.push(claim).ok()?;
-    }
-    Some(claims)
+    pool: &'p Pool<S, L>,
 }
 
-// How many of the claims do not show their key.
-fn count_wrong<S: Source, L: Ledger, R: Wait>(
-    rt: &R,
-    pool: &Pool<S, L>,
-    claims: &[Claim<S>],
-) -> u64 {
-    let mut wrong = 0u64;
-    for claim in claims {
-        if !value_of(pool.wait_for(rt, claim)).starts_with(claim.key().as_slice()) {
-            wrong = wrong.saturating_add(1);
+impl<'p, S: Source, L: Ledger, R: Wait> Asked<'p, S, L, R> {
+    // Claims on the echo of these keys of two bytes.
+    fn ask_each(&self, seat: &mut ConnSeat<S, L>, from: u16, to: u16) -> Option<Vec<Claim<S>>>
+        requires seat { IsConnSeatOf self.now.pool.now seat.old }
+        requires groups { 0 < S.count (source_of self.now.pool.now) }
+        ensures { IsConnSeatOf self.now.pool.now seat.new }
+    {
+        let mut claims = Vec::new(self.alloc);
+        for number in from..to {
+            let key = number.to_be_bytes();
+            let claim = ask_in(self.rt, self.alloc, self.pool, seat, ECHO, &key)?;
+            claims.push(claim).ok()?;
         }
+        Some(claims)
     }
-    wrong
-}
 
-// Asks once the workers sleep. A claim that does not show its key counts as a stranger.
-fn use_seat<S: Source, L: Ledger, R: Wait>(
-    rt: &R,
-    alloc: Global,
-    pool: &Pool<S, L>,
-    seat: &mut ConnSeat<S, L>,
-    setting: Setting,
-)
-    requires seat { IsConnSeatOf pool.now seat.old }
-    requires groups { 0 < S.count (source_of pool.now) }
-    ensures { IsConnSeatOf pool.now seat.new }
-{
-    take_a_while();
-    for round in 0..setting.rounds {
-        let from = round.saturating_mul(setting.keys);
-        let to = from.saturating_add(setting.keys);
-        let wrong = match ask_each(rt, alloc, pool, seat, from, to) {
-            Some(claims) => count_wrong(rt, pool, &claims),
-            None => 1,
-        };
-        seat.add_strangers(wrong);
+    // How many of the claims do not show their key.
+    fn count_wrong(&self, claims: &[Claim<S>]) -> u64 {
+        let mut wrong = 0u64;
+        for claim in claims {
+            let fill = self.pool.wait_for(self.rt, claim);
+            if !value_of(fill).starts_with(claim.key().as_slice()) {
+                wrong = wrong.saturating_add(1);
+            }
+        }
+        wrong
+    }
+
+    // Asks once the workers sleep. A claim that does not show its key counts as a stranger.
+    fn use_seat(&self, seat: &mut ConnSeat<S, L>, setting: Setting)
+        requires seat { IsConnSeatOf self.now.pool.now seat.old }
+        requires groups { 0 < S.count (source_of self.now.pool.now) }
+        ensures { IsConnSeatOf self.now.pool.now seat.new }
+    {
+        take_a_while();
+        for round in 0..setting.rounds {
+            let from = round.saturating_mul(setting.keys);
+            let to = from.saturating_add(setting.keys);
+            let wrong = match self.ask_each(seat, from, to) {
+                Some(claims) => self.count_wrong(&claims),
+                None => 1,
+            };
+            seat.add_strangers(wrong);
+        }
     }
 }
 
@@ -172,7 +167,7 @@ fn ask_all<S: Source, L: Ledger + Send + Sync, R: Threads + Wait + Sync>(
         requires seat { IsConnSeatOf pool.now seat.now }
         requires groups { 0 < S.count (source_of pool.now) }
         ensures { IsConnSeatOf pool.entry.now seat.exit.now }
-    { use_seat(rt, alloc, pool, seat, setting) };
+    { Asked { rt, alloc, pool }.use_seat(seat, setting) };
     thread::for_each_mut(rt, conns, 16, &ask);
 }
 
