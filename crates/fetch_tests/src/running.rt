@@ -17,7 +17,7 @@ use std::sync::atomic::Ordering::SeqCst;
 use std::sync::ledger::{Blank, Ledger};
 use std::thread;
 use std::time::Duration;
-use test_support::{SeatLists, close_pool, open_pool, push_conn, push_fill};
+use test_support::{SeatLists, close_pool, open_pool, push_seat};
 
 /// What is run: an origin that holds its replies back until so many requests were open, and a client's plan.
 #[derive(Clone, Copy)]
@@ -134,8 +134,8 @@ fn use_lists<S: Source, L: Ledger + Send + Sync, H: Host>(
     let fill = pop_seat(pool, &mut lists.fills)?;
     let conn = pop_seat(pool, &mut lists.conns)?;
     let (fill, conn, answered) = run_all(rt, alloc, pool, (fill, conn), running, beside);
-    push_fill(pool, &mut lists.fills, fill)?;
-    push_conn(pool, &mut lists.conns, conn)?;
+    push_seat(pool, &mut lists.fills, fill)?;
+    push_seat(pool, &mut lists.conns, conn)?;
     Some(answered)
 }
 

@@ -9,7 +9,7 @@ use peer_source::{DemoSource, Source};
 use std::alloc::Global;
 use std::sync::Wait;
 use std::sync::ledger::Ledger;
-use test_support::{SeatLists, ask_for, push_conn, push_fill};
+use test_support::{SeatLists, ask_for, push_seat};
 
 // More jobs than any call here leads to.
 const JOBS: usize = 256;
@@ -72,8 +72,8 @@ impl<'p, S: Source, L: Ledger, R: Wait> Lent<'p, S, L, R> {
         ensures conns { All (IsConnSeatOf self.now.pool.now) lists.new.conns.items }
     {
         let Seats { fill, conn } = seats;
-        push_fill(self.pool, &mut lists.fills, fill);
-        push_conn(self.pool, &mut lists.conns, conn);
+        push_seat(self.pool, &mut lists.fills, fill);
+        push_seat(self.pool, &mut lists.conns, conn);
     }
 
     /// A claim on this key of `echo`. None where memory was refused.

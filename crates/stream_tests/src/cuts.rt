@@ -15,7 +15,7 @@ use std::sync::Wait;
 use std::sync::ledger::{Blank, Ledger};
 use std::thread;
 use std::thread::Threads;
-use test_support::{SeatLists, open_pool, push_conn, work_all};
+use test_support::{SeatLists, open_pool, push_seat, work_all};
 
 // Whether a connection over a seat of this list gets the three replies.
 fn is_served_by_next<S: Source, L: Ledger + Send + Sync>(
@@ -31,7 +31,7 @@ fn is_served_by_next<S: Source, L: Ledger + Send + Sync>(
     let reader = MemReader::new(pieces, false);
     let writer = MemWriter::new(rt.alloc(), 65_536, None);
     let (served, conn) = serve_connection(rt, rt.alloc(), pool, conn, reader, writer, READS);
-    push_conn(pool, conns, conn).expect(rt, "memory");
+    push_seat(pool, conns, conn).expect(rt, "memory");
     is_told(&served, THREE_REPLIES, End::Clean)
 }
 

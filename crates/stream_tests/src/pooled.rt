@@ -12,7 +12,7 @@ use std::sync::Wait;
 use std::sync::ledger::{Blank, Ledger};
 use std::thread;
 use std::thread::Threads;
-use test_support::{SeatLists, close_pool, open_pool, push_conn, work_all};
+use test_support::{SeatLists, close_pool, open_pool, push_seat, work_all};
 
 /// What a pool is opened with: its source, the limit of each cache in bytes, the number of its workers, and the gate
 /// round their calls.
@@ -99,7 +99,7 @@ fn use_lists<S: Source, L: Ledger + Send + Sync, R: PeerRead + Send + Drop, W: P
         { serve_and_stop(rt, pool, conn, devices) },
     );
     let asked = conn.asked();
-    push_conn(pool, &mut conns, conn).expect(rt, "memory");
+    push_seat(pool, &mut conns, conn).expect(rt, "memory");
     (SeatLists { fills, conns }, served, asked)
 }
 

@@ -19,7 +19,7 @@ use std::sync::ledger::{Blank, Ledger};
 use std::thread::Threads;
 use test_support::{
     Hook, Hooked, Refusing, SeatLists, Step, all_called, ask_for, beside_worker, close_pool,
-    do_jobs, open_pool, push_conn, push_fill,
+    do_jobs, open_pool, push_seat,
 };
 
 // Refuses memory once, and holds each call back until all was asked for.
@@ -83,10 +83,10 @@ fn serve_and_ask<S: Source, L: Ledger + Send + Sync>(
     { serve_one(rt, pool, conn, asked) };
     let (fill, served) = beside_worker(rt, alloc, pool, fill, serve).expect(rt, "a thread");
     let (mut conn, told) = served;
-    push_fill(pool, &mut lists.fills, fill).expect(rt, "memory");
+    push_seat(pool, &mut lists.fills, fill).expect(rt, "memory");
     let claim = ask_for(rt, alloc, pool, &mut conn, b"b");
     do_jobs(rt, alloc, pool, &mut lists.fills).expect(rt, "a worker");
-    push_conn(pool, &mut lists.conns, conn).expect(rt, "memory");
+    push_seat(pool, &mut lists.conns, conn).expect(rt, "memory");
     (told, shows(&claim, b"b"))
 }
 

@@ -3,7 +3,7 @@ ghost use Rattle.std.specs.Prelude.{◌≡◌, All, IfOk, IfSome};
 ghost use Rattle.peer_fill.specs.Seats.{fill_parts};
 ghost use Rattle.peer_fill.specs.Pools.{IsFillSeatOf};
 
-use crate::seats::push_fill;
+use crate::seats::push_seat;
 use peer_fill::{FillSeat, Gate, Keeps, NoGate, Pool, pop_seat};
 use peer_source::Source;
 use std::alloc::{AllocError, Global};
@@ -24,7 +24,7 @@ pub fn do_jobs<S: Source, L: Ledger, R: Wait>(
 {
     let fill = pop_seat(pool, fills)?;
     let fill = pool.run_worker(rt, alloc, fill, &NoGate);
-    push_fill(pool, fills, fill)
+    push_seat(pool, fills, fill)
 }
 
 /// Has each worker work in a thread of its own until the pool is stopped.
