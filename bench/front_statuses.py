@@ -178,6 +178,13 @@ def told_to_end(sent):
     return printed, run.returncode
 
 
+def told_at_once(sent):
+    """What `end_on_term.sh` prints where its program sends it this signal first of all, and its status."""
+    words = [ON_TERM, "sh", "-c", f"kill -{int(sent)} $PPID; cat; echo ended"]
+    run = subprocess.run(words, stdout=subprocess.PIPE, timeout=30, check=False)
+    return run.stdout, run.returncode
+
+
 def hides_port(told):
     return re.sub(r"127\.0\.0\.1:[1-9]\d*", "ADDR", told)
 
@@ -211,13 +218,15 @@ for words in TAKEN_WORDS:
         failures += 1
         print("words", words, "printed", line)
 
-for sent in (signal.SIGTERM, signal.SIGINT):
-    printed, ended = told_to_end(sent)
-    if ended != 0 or printed != b"asked 1 hits 0 led 1 joined 0 calls 1 rehits 0 left 0\n":
+TOTALS = b"asked 1 hits 0 led 1 joined 0 calls 1 rehits 0 left 0\n"
+SIGNALS = [(sent, tell, text) for sent in (signal.SIGTERM, signal.SIGINT) for tell, text in ((told_to_end, TOTALS), (told_at_once, b"ended\n"))]
+for sent, tell, text in SIGNALS:
+    printed, ended = tell(sent)
+    if ended != 0 or printed != text:
         failures += 1
-        print("sent", sent, "printed", printed, "status", ended)
+        print("sent", sent, tell.__name__, "printed", printed, "status", ended)
 
 for name in (GOOD, BAD, TWICE, LARGE, ECHO):
     os.unlink(name)
-print("rows", len(ROWS) + len(STARTS) + len(FEW_FILES) + len(TAKEN_WORDS) + 2, "failures", failures)
+print("rows", len(ROWS) + len(STARTS) + len(FEW_FILES) + len(TAKEN_WORDS) + len(SIGNALS), "failures", failures)
 sys.exit(1 if failures else 0)
