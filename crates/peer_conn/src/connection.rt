@@ -66,12 +66,7 @@ where
         lane: put,
         requests: halves.requests,
     };
-    let writer = WriterSide {
-        alloc,
-        lane: taken,
-        responses: halves.responses,
-        strangers: 0,
-    };
+    let writer = WriterSide::new(alloc, taken, halves.responses);
     serve_sides(rt, pool, reader, writer)
 }
 

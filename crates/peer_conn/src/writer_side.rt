@@ -57,6 +57,20 @@ impl<S: Source, W: PeerWrite + Drop> WriterSide<S, W> {
     ghost use Rattle.peer_conn.specs.WriterSides.{AnswersTickets, AnswersLeft, KeepsTickets};
     ghost use Rattle.peer_conn.specs.Strangers.{CountsFill};
 
+    /// No ticket was made good yet.
+    pub(crate) fn new(alloc: Global, lane: LaneOut<S>, responses: Responses<W>) -> WriterSide<S, W>
+        ensures lane { result.lane ≡ lane }
+        ensures responses { result.responses ≡ responses }
+        ensures strangers { result.strangers ≡ 0 }
+    {
+        WriterSide {
+            alloc,
+            lane,
+            responses,
+            strangers: 0,
+        }
+    }
+
     /// Takes tickets until no more are put, and puts their replies.
     pub(crate) fn run<L: Ledger, H: Wait>(&mut self, rt: &H, pool: &Pool<S, L>, signal: &Signal)
         ensures { AnswersTickets (allows S.allowed) self.old self.new }

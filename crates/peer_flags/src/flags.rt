@@ -111,14 +111,14 @@ fn with_serving<'a>(alloc: Global, command: Command<'a>) -> Result<Command<'a>, 
             "cache",
             "BYTES",
             "64MiB",
-            "What the cache of each group keeps at most, in bytes, KiB, MiB or GiB",
+            "Keys and values that the cache of each group keeps, in bytes, KiB, MiB or GiB; 4096 keys at most",
         ))?
         .arg(flag(
             alloc,
             "memory",
             "BYTES",
             "256MiB",
-            "What clients may hold together of replies that they do not take, in bytes, KiB, MiB or GiB",
+            "Above this, a client that takes no replies gets no further value, in bytes, KiB, MiB or GiB",
         ))
 }
 

@@ -99,3 +99,16 @@ pub record TableIsExact (w : World) : Type 0 where
 abbrev pub AnswersAreAllowed : (ℕ → List ℕ → Answer → Type 0) → World → Type 0
 AnswersAreAllowed allowed w = (m : ℕ) (f : Flight) (a : Answer) → IsFlight w.flights m f →
     f.outcome ≡ Answered a → ∥ allowed f.place.group f.place.key a ∥₁
+
+-- all of these facts
+pub record IsLawful (allowed : ℕ → List ℕ → Answer → Type 0) (w : World) : Type 0 where
+  pub open_flights_differ : OpenFlightsDiffer w
+  pub tickets_name_their_places : TicketsNameTheirPlaces w
+  pub rights_stand_once : RightsStandOnce w
+  pub tickets_are_served : TicketsAreServed w
+  pub flights_go_once : FlightsGoOnce w
+  pub replies_follow_outcomes : RepliesFollowOutcomes w
+  pub wishes_keep_order : WishesKeepOrder w
+  pub workers_differ : WorkersDiffer w
+  pub table_is_exact : TableIsExact w
+  pub answers_are_allowed : AnswersAreAllowed allowed w

@@ -32,15 +32,27 @@ fn put_number(page: &mut Vec<u8>, value: u64) -> Result<(), AllocError>
     Ok(())
 }
 
+// Appends a number behind its name, which stands between these texts.
+fn put_between(
+    page: &mut Vec<u8>,
+    before: &[u8],
+    name: &[u8],
+    behind: &[u8],
+    value: u64,
+) -> Result<(), AllocError>
+    ensures { OnOk result (page.new.items ≡ page.old.items ++ before.now ++ name.now ++ behind.now ++ number_text value) }
+{
+    page.extend_from_slice(before)?;
+    page.extend_from_slice(name)?;
+    page.extend_from_slice(behind)?;
+    put_number(page, value)
+}
+
 // Appends a number with its name.
 fn put_sample(page: &mut Vec<u8>, name: &[u8], value: u64) -> Result<(), AllocError>
     ensures { OnOk result (page.new.items ≡ page.old.items ++ sample_text name.now value) }
 {
-    page.extend_from_slice(b"peer_front_")?;
-    page.extend_from_slice(name)?;
-    page.extend_from_slice(b" ")?;
-    put_number(page, value)?;
-    Ok(())
+    put_between(page, b"peer_front_", name, b" ", value)
 }
 
 // Appends a number that never falls.
@@ -140,11 +152,8 @@ fn put_connections(
 fn put_failure(page: &mut Vec<u8>, kind: &[u8], value: u64) -> Result<(), AllocError>
     ensures { OnOk result (page.new.items ≡ page.old.items ++ kind_text kind.now value) }
 {
-    page.extend_from_slice(b"peer_front_origin_failures_total{kind=\"")?;
-    page.extend_from_slice(kind)?;
-    page.extend_from_slice(b"\"} ")?;
-    put_number(page, value)?;
-    Ok(())
+    let before = b"peer_front_origin_failures_total{kind=\"";
+    put_between(page, before, kind, b"\"} ", value)
 }
 
 // Appends how often origins failed, by why.

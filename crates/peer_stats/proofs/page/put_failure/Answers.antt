@@ -1,5 +1,0 @@
-use Rattle.peer_stats.proofs.JoinLemmas.{joined}
-use Rattle.peer_stats.proofs.page.put_failure.Goals as goal
-
-pub returns : goal.returns
-returns c = joined c.args.page.now.items _ _ (joined c.args.page.now.items _ _ (joined c.args.page.now.items _ _ c.in_ok-extend_from_slice.ensures.items c.in_ok-extend_from_slice-2.ensures.items) c.in_ok-extend_from_slice-3.ensures.items) c.in_ok-put_number.ensures
