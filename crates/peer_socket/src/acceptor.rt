@@ -43,66 +43,66 @@ impl<'a> Acceptor<'a> {
             rounds,
         }
     }
-}
 
-// Serves one stream. One that refuses its options is let go.
-fn serve_stream<S: Source, L: Ledger + Send + Sync, H: Host>(
-    rt: &H,
-    alloc: Global,
-    pool: &Pool<S, L>,
-    seat: ConnSeat<S, L>,
-    acceptor: &Acceptor<'_>,
-    stream: &TcpStream,
-) -> ConnSeat<S, L>
-    requires { IsConnSeatOf pool.now seat }
-    ensures { KeepsSeat pool.now seat result }
-{
-    match Client::new(rt, stream, acceptor.limits, &acceptor.occupancy) {
-        Some(client) => serve_client(rt, alloc, pool, seat, &client),
-        None => seat,
-    }
-}
-
-// Accepts and serves, until no round is left.
-fn serve_rounds<S: Source, L: Ledger + Send + Sync, H: Host>(
-    rt: &H,
-    alloc: Global,
-    pool: &Pool<S, L>,
-    seat: ConnSeat<S, L>,
-    acceptor: &Acceptor<'_>,
-    rounds: &mut Rounds<'_>,
-) -> ConnSeat<S, L>
-    requires { IsConnSeatOf pool.now seat }
-    ensures seat { KeepsSeat pool.now seat result }
-    ensures all { rounds.new.left ≡ 0 }
-{
-    let mut seat = seat;
-    while rounds.left() > 0 {
-        if let Some(stream) = rounds.accept(rt) {
-            acceptor.occupancy.enter();
-            seat = serve_stream(rt, alloc, pool, seat, acceptor, &stream);
-            acceptor.occupancy.leave();
+    // Serves one stream. One that refuses its options is let go.
+    fn serve_stream<S: Source, L: Ledger + Send + Sync, H: Host>(
+        &self,
+        rt: &H,
+        alloc: Global,
+        pool: &Pool<S, L>,
+        seat: ConnSeat<S, L>,
+        stream: &TcpStream,
+    ) -> ConnSeat<S, L>
+        requires { IsConnSeatOf pool.now seat }
+        ensures { KeepsSeat pool.now seat result }
+    {
+        match Client::new(rt, stream, self.limits, &self.occupancy) {
+            Some(client) => serve_client(rt, alloc, pool, seat, &client),
+            None => seat,
         }
     }
-    seat
-}
 
-/// Accepts and serves all rounds, once all threads have been started. After them the seat counts as taken.
-pub fn serve_accepted<S: Source, L: Ledger + Send + Sync, H: Host>(
-    rt: &H,
-    alloc: Global,
-    pool: &Pool<S, L>,
-    seat: ConnSeat<S, L>,
-    acceptor: &Acceptor<'_>,
-) -> ConnSeat<S, L>
-    requires { IsConnSeatOf pool.now seat }
-    ensures { KeepsSeat pool.now seat result }
-{
-    let mut seat = seat;
-    if acceptor.start.wait(rt) {
-        let mut rounds = Rounds::new(&*acceptor);
-        seat = serve_rounds(rt, alloc, pool, seat, acceptor, &mut rounds);
+    // Accepts and serves, until no round is left.
+    fn serve_rounds<S: Source, L: Ledger + Send + Sync, H: Host>(
+        &self,
+        rt: &H,
+        alloc: Global,
+        pool: &Pool<S, L>,
+        seat: ConnSeat<S, L>,
+        rounds: &mut Rounds<'_>,
+    ) -> ConnSeat<S, L>
+        requires { IsConnSeatOf pool.now seat }
+        ensures seat { KeepsSeat pool.now seat result }
+        ensures all { rounds.new.left ≡ 0 }
+    {
+        let mut seat = seat;
+        while rounds.left() > 0 {
+            if let Some(stream) = rounds.accept(rt) {
+                self.occupancy.enter();
+                seat = self.serve_stream(rt, alloc, pool, seat, &stream);
+                self.occupancy.leave();
+            }
+        }
+        seat
     }
-    acceptor.occupancy.enter();
-    seat
+
+    /// Accepts and serves all rounds, once all threads have been started. After them the seat counts as taken.
+    pub fn serve<S: Source, L: Ledger + Send + Sync, H: Host>(
+        &self,
+        rt: &H,
+        alloc: Global,
+        pool: &Pool<S, L>,
+        seat: ConnSeat<S, L>,
+    ) -> ConnSeat<S, L>
+        requires { IsConnSeatOf pool.now seat }
+        ensures { KeepsSeat pool.now seat result }
+    {
+        let mut seat = seat;
+        if self.start.wait(rt) {
+            let mut rounds = Rounds::new(&*self);
+            seat = self.serve_rounds(rt, alloc, pool, seat, &mut rounds);
+        }
+        self.occupancy.enter();
+        seat
+    }
 }

@@ -13,6 +13,7 @@ mod closing;
 mod limits;
 mod occupancy;
 mod rounds;
+mod seat_threads;
 mod server;
 mod start;
 mod stream;

@@ -107,16 +107,15 @@ fn over_pool<S: Source, L: Ledger + Send + Sync, H: Host>(
 }
 
 /// `peer_server` with settings of one's own.
-pub fn serve_within<
-    S: Source,
-    H: Net<Listener = TcpListener, Stream = TcpStream> + Threads + Wait + Clock + Sync,
->(
+pub fn serve_within<S: Source, H>(
     rt: &H,
     alloc: Global,
     source: S,
     listener: TcpListener,
     settings: &Settings,
 ) -> Result<Report, ServerFault>
+where
+    H: Net<Listener = TcpListener, Stream = TcpStream> + Threads + Wait + Clock + Sync,
     ensures { ServesWith settings.now.workers settings.now.conns (S.count source) result }
 {
     over_pool::<S, Brand, H>(rt, alloc, source, &listener, settings, Blank::new(16))
@@ -125,10 +124,7 @@ pub fn serve_within<
 /// Serves `rounds` connections on each of `conns` threads, with so many workers that call the source, and gives the
 /// pool's report once all have ended. The cache of each group keeps at most `cache_bytes` bytes. An accept that fails, or
 /// a stream that refuses its options, uses up a round.
-pub fn peer_server<
-    S: Source,
-    H: Net<Listener = TcpListener, Stream = TcpStream> + Threads + Wait + Clock + Sync,
->(
+pub fn peer_server<S: Source, H>(
     rt: &H,
     alloc: Global,
     source: S,
@@ -139,6 +135,8 @@ pub fn peer_server<
     cache_bytes: u64,
     seed: RandomState,
 ) -> Result<Report, ServerFault>
+where
+    H: Net<Listener = TcpListener, Stream = TcpStream> + Threads + Wait + Clock + Sync,
     ensures { ServesWith workers conns (S.count source) result }
 {
     let settings = Settings {

@@ -1,112 +1,99 @@
-//! The threads of a server: one for each worker and each connection seat, and all are joined.
-ghost use Rattle.std.specs.Prelude.{◌≡◌, All, IfSome};
+//! The threads of a server, one for each worker and each connection seat: how they are started, and how the seats that they
+//! are handed are taken back.
+ghost use Rattle.std.specs.Prelude.{◌≡◌, IfSome};
+ghost use Rattle.peer_fill.specs.Lists.{AreSeatsOf, ComeBack, HaveParts};
 ghost use Rattle.peer_fill.specs.Pools.{IsConnSeatOf, IsFillSeatOf};
 ghost use Rattle.peer_fill.specs.Seats.{conn_parts, fill_parts};
-ghost use Rattle.peer_fill.specs.Lists.{AreSeatsOf, ComeBack};
-ghost use Rattle.peer_socket.specs.Threads.{HandsOut};
+ghost use Rattle.peer_socket.specs.Threads.{all_conns, all_fills, AreNew, AreStarted, KeepAll};
 
-use crate::acceptor::{Acceptor, serve_accepted};
-use peer_fill::{ConnSeat, FillSeat, Keeps, NoGate, Pool, Seats, join_seats, pop_seat};
+use crate::acceptor::Acceptor;
+use crate::seat_threads::{SeatHandle, start_seats};
+use peer_fill::{ConnSeat, FillSeat, NoGate, Pool, Seats, join_seats};
 use peer_host::Host;
 use peer_source::Source;
 use std::alloc::Global;
 use std::sync::Wait;
 use std::sync::ledger::Ledger;
 use std::thread;
-use std::thread::{PromisedHandle, Scope, Threads};
+use std::thread::{Scope, Threads};
 
-type WorkerHandle<'a, S, L> = PromisedHandle<FillSeat<S, L>, Keeps<'a, S, L, FillSeat<S, L>>>;
-
-type ConnHandle<'a, S, L> = PromisedHandle<ConnSeat<S, L>, Keeps<'a, S, L, ConnSeat<S, L>>>;
-
-// Starts the thread of a worker. None where it was refused.
-fn start_worker<'s, E, S: Source, L: Ledger + Send + Sync, H: Threads + Wait + Sync>(
-    scope: &Scope<'s, E>,
-    rt: &'s H,
+// The threads of a server that were started, and the seats that no thread has.
+#[derive(Drop)]
+struct ServerThreads<'a, S: Source, L: Ledger> {
+    pool: &'a Pool<S, L>,
+    acceptor: &'a Acceptor<'a>,
     alloc: Global,
-    pool: &'s Pool<S, L>,
-    seat: FillSeat<S, L>,
-) -> Option<WorkerHandle<'s, S, L>>
-    requires { IsFillSeatOf pool.now seat }
-    ensures pool { IfSome result (λ x. x.promise.pool.now ≡ pool.now) }
-    ensures seat { IfSome result (λ x. x.promise.seat.value ≡ seat) }
-{
-    let promise = Keeps::new(pool, &seat);
-    let work = move || -> FillSeat<S, L>
-        requires { IsFillSeatOf pool.now seat }
-        ensures seat { IsFillSeatOf pool.entry.now result }
-        ensures parts { fill_parts result ≡ fill_parts seat }
-    { pool.run_worker(rt, alloc, seat, &NoGate) };
-    match scope.spawn_with(promise, work) {
-        Ok(handle) => Some(handle),
-        Err(_) => None,
-    }
+    seats: Seats<S, L>,
+    working: Vec<SeatHandle<'a, S, L, FillSeat<S, L>>>,
+    serving: Vec<SeatHandle<'a, S, L, ConnSeat<S, L>>>,
 }
 
-// Starts the threads of all workers. None where memory or a thread was refused.
-fn start_workers<'s, E, S: Source, L: Ledger + Send + Sync, H: Threads + Wait + Sync>(
-    scope: &Scope<'s, E>,
-    rt: &'s H,
-    alloc: Global,
-    pool: &'s Pool<S, L>,
-    seats: &mut Vec<FillSeat<S, L>>,
-) -> Option<Vec<WorkerHandle<'s, S, L>>>
-    requires { All (IsFillSeatOf pool.now) seats.old.items }
-    ensures left { All (IsFillSeatOf pool.now) seats.new.items }
-    ensures work { IfSome result (HandsOut fill_parts pool.now seats.old seats.new) }
-{
-    let mut working = Vec::with_capacity(alloc, seats.len()).ok()?;
-    while let Some(seat) = pop_seat(pool, seats) {
-        let handle = start_worker(scope, rt, alloc, pool, seat)?;
-        working.push_reserved(handle);
+impl<'a, S: Source, L: Ledger + Send + Sync> ServerThreads<'a, S, L> {
+    // No thread was started.
+    fn new(
+        alloc: Global,
+        pool: &'a Pool<S, L>,
+        seats: Seats<S, L>,
+        acceptor: &'a Acceptor<'a>,
+    ) -> ServerThreads<'a, S, L>
+        requires { AreSeatsOf pool.now seats }
+        ensures new { AreNew result }
+        ensures pool { result.pool.now ≡ pool.now }
+        ensures seats { result.seats ≡ seats }
+    {
+        ServerThreads {
+            pool,
+            acceptor,
+            alloc,
+            seats,
+            working: Vec::new(alloc),
+            serving: Vec::new(alloc),
+        }
     }
-    Some(working)
-}
 
-// Starts the thread of a connection seat, which waits until it may serve. None where it was refused.
-fn start_conn<'s, E, S: Source, L: Ledger + Send + Sync, H: Host>(
-    scope: &Scope<'s, E>,
-    rt: &'s H,
-    alloc: Global,
-    pool: &'s Pool<S, L>,
-    seat: ConnSeat<S, L>,
-    acceptor: &'s Acceptor<'s>,
-) -> Option<ConnHandle<'s, S, L>>
-    requires { IsConnSeatOf pool.now seat }
-    ensures pool { IfSome result (λ x. x.promise.pool.now ≡ pool.now) }
-    ensures seat { IfSome result (λ x. x.promise.seat.value ≡ seat) }
-{
-    let promise = Keeps::new(pool, &seat);
-    let serve = move || -> ConnSeat<S, L>
-        requires { IsConnSeatOf pool.now seat }
-        ensures seat { IsConnSeatOf pool.entry.now result }
-        ensures parts { conn_parts result ≡ conn_parts seat }
-    { serve_accepted(rt, alloc, pool, seat, acceptor) };
-    match scope.spawn_with(promise, serve) {
-        Ok(handle) => Some(handle),
-        Err(_) => None,
+    // Starts a thread for each worker and each connection seat. None where memory or a thread was refused.
+    fn start<E, H: Host>(&mut self, scope: &Scope<'a, E>, rt: &'a H) -> Option<()>
+        requires { AreNew self.old }
+        ensures { IfSome result (λ _. KeepAll self.old self.new) }
+    {
+        let (pool, acceptor, alloc) = (self.pool, self.acceptor, self.alloc);
+        let work = move |seat: FillSeat<S, L>| -> FillSeat<S, L>
+            requires { IsFillSeatOf pool.now seat }
+            ensures own { IsFillSeatOf pool.entry.now result }
+            ensures parts { fill_parts result ≡ fill_parts seat }
+        { pool.run_worker(rt, alloc, seat, &NoGate) };
+        start_seats(scope, pool, &mut self.seats.fills, &mut self.working, work)?;
+        let serve = move |seat: ConnSeat<S, L>| -> ConnSeat<S, L>
+            requires { IsConnSeatOf pool.now seat }
+            ensures own { IsConnSeatOf pool.entry.now result }
+            ensures parts { conn_parts result ≡ conn_parts seat }
+        { acceptor.serve(rt, alloc, pool, seat) };
+        start_seats(scope, pool, &mut self.seats.conns, &mut self.serving, serve)
     }
-}
 
-// Starts the threads of all connection seats. None where memory or a thread was refused.
-fn start_conns<'s, E, S: Source, L: Ledger + Send + Sync, H: Host>(
-    scope: &Scope<'s, E>,
-    rt: &'s H,
-    alloc: Global,
-    pool: &'s Pool<S, L>,
-    seats: &mut Vec<ConnSeat<S, L>>,
-    acceptor: &'s Acceptor<'s>,
-) -> Option<Vec<ConnHandle<'s, S, L>>>
-    requires { All (IsConnSeatOf pool.now) seats.old.items }
-    ensures left { All (IsConnSeatOf pool.now) seats.new.items }
-    ensures serve { IfSome result (HandsOut conn_parts pool.now seats.old seats.new) }
-{
-    let mut serving = Vec::with_capacity(alloc, seats.len()).ok()?;
-    while let Some(seat) = pop_seat(pool, seats) {
-        let handle = start_conn(scope, rt, alloc, pool, seat, acceptor)?;
-        serving.push_reserved(handle);
+    // Ends those that were started, of which none serves.
+    fn cancel<H: Wait>(&self, rt: &H) {
+        self.acceptor.start.cancel(rt);
+        self.pool.stop();
     }
-    Some(serving)
+
+    // Waits for all threads, and gives all seats back. Those of connections end by themselves, and the workers are told to.
+    fn join<H: Threads>(self, rt: &H) -> Seats<S, L>
+        requires { AreStarted self }
+        ensures { HaveParts self.entry.pool.now (all_conns self.entry) (all_fills self.entry) result }
+    {
+        let ServerThreads {
+            pool,
+            mut seats,
+            working,
+            serving,
+            ..
+        } = self;
+        join_seats(rt, pool, serving, &mut seats.conns);
+        pool.stop();
+        join_seats(rt, pool, working, &mut seats.fills);
+        seats
+    }
 }
 
 // Starts all threads, lets them serve, and joins them. None where a thread or memory was refused: then no connection was
@@ -116,24 +103,19 @@ fn run_threads<'s, E, S: Source, L: Ledger + Send + Sync, H: Host>(
     rt: &'s H,
     alloc: Global,
     pool: &'s Pool<S, L>,
-    mut seats: Seats<S, L>,
+    seats: Seats<S, L>,
     acceptor: &'s Acceptor<'s>,
 ) -> Option<Seats<S, L>>
     requires { AreSeatsOf pool.now seats }
     ensures { IfSome result (ComeBack pool.now seats) }
 {
-    let working = start_workers(scope, rt, alloc, pool, &mut seats.fills);
-    let serving = start_conns(scope, rt, alloc, pool, &mut seats.conns, acceptor);
-    let (Some(working), Some(serving)) = (working, serving) else {
-        acceptor.start.cancel(rt);
-        pool.stop();
+    let mut threads = ServerThreads::new(alloc, pool, seats, acceptor);
+    if threads.start(scope, rt).is_none() {
+        threads.cancel(rt);
         return None;
-    };
+    }
     acceptor.start.begin(rt);
-    join_seats(rt, pool, serving, &mut seats.conns);
-    pool.stop();
-    join_seats(rt, pool, working, &mut seats.fills);
-    Some(seats)
+    Some(threads.join(rt))
 }
 
 /// Each worker works, and each connection seat serves, in a thread of its own. No connection is accepted before all threads

@@ -15,10 +15,10 @@ use stream_model::ASK_K;
 // A request that came whole, and the beginning of another.
 const ASK_AND_MORE: &[u8] = b"GET /_groupcache/echo/k HTTP/1.1\r\nHost: h\r\n\r\nGET /_gr";
 
-// Each client sends a request, or the beginning of another too, and is silent then: it has its reply and loses its place, and
-// the next one has its own.
+// Each client sends a request, or the beginning of another too, and is silent then, or sends a request a byte at a time: it has
+// the reply to what came whole and loses its place, and the next one has its own.
 #[test]
-fn a_silent_client_is_closed(rt: HostRuntime) -> Result<(), Fail> {
+fn a_client_that_is_silent_or_slow_is_closed(rt: HostRuntime) -> Result<(), Fail> {
     let time = Duration::from_millis(100);
     let always = Limits {
         silence: time,
@@ -28,19 +28,22 @@ fn a_silent_client_is_closed(rt: HostRuntime) -> Result<(), Fail> {
         silence_when_full: time,
         ..attentive()
     };
-    for (when, limits, bytes) in [
-        ("always", always, ASK_K),
-        ("always, within a request", always, ASK_AND_MORE),
-        ("when full", when_full, ASK_K),
-        ("when full, within a request", when_full, ASK_AND_MORE),
+    let slow = Limits {
+        request_when_full: time,
+        ..attentive()
+    };
+    let silent = Visit::FallsSilent(ASK_K);
+    let within = Visit::FallsSilent(ASK_AND_MORE);
+    for (what, limits, visit, asked) in [
+        ("silent", always, silent, 2),
+        ("silent within a request", always, within, 2),
+        ("silent, when full", when_full, silent, 2),
+        ("silent within a request, when full", when_full, within, 2),
+        ("slow, when full", slow, Visit::Drips, 1),
     ] {
         let plan = plan_of(&rt, 1, 1, 2)?.within(limits);
-        let visits = [Visit::FallsSilent(bytes), Visit::Asks];
-        assert_eq!(rt;
-            both_serve(&rt, &plan, &visits, 2)?,
-            [[true; 2]; 2],
-            "{when}"
-        );
+        let seen = both_serve(&rt, &plan, &[visit, Visit::Asks], asked)?;
+        assert_eq!(rt; seen, [[true; 2]; 2], "{what}");
     }
     Ok(())
 }
@@ -54,18 +57,6 @@ fn a_client_that_comes_late_is_not_silent(rt: HostRuntime) -> Result<(), Fail> {
     };
     let plan = plan_of(&rt, 1, 1, 2)?.within(limits);
     let seen = both_serve(&rt, &plan, &[Visit::AsksLate(1_500); 2], 2)?;
-    assert_eq!(rt; seen, [[true; 2]; 2]);
-    Ok(())
-}
-
-#[test]
-fn a_slow_client_is_closed(rt: HostRuntime) -> Result<(), Fail> {
-    let limits = Limits {
-        request_when_full: Duration::from_millis(100),
-        ..attentive()
-    };
-    let plan = plan_of(&rt, 1, 1, 2)?.within(limits);
-    let seen = both_serve(&rt, &plan, &[Visit::Drips, Visit::Asks], 1)?;
     assert_eq!(rt; seen, [[true; 2]; 2]);
     Ok(())
 }
