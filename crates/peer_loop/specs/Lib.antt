@@ -1,5 +1,5 @@
-pub mod StartedThreads
-pub mod Dealings
 pub mod Parts
 pub mod Reports
 pub mod Serving
+pub mod StartedThreads
+pub mod Works

@@ -21,6 +21,15 @@ pub struct Acceptor<'a> {
     pub left: Option<u64>,
 }
 
+// Tells the loops that no more clients come, and whether they are to let theirs go.
+fn tell_end(site: Site<'_>, stop: &Stop) {
+    if stop.is_asked() {
+        site.mailboxes.stop();
+    } else {
+        site.mailboxes.close();
+    }
+}
+
 impl<'a> Acceptor<'a> {
     // Lets some time pass behind a call that failed.
     fn pause<H: Host>(&self, rt: &H) {
@@ -94,15 +103,6 @@ impl<'a> Acceptor<'a> {
         }
     }
 
-    // Tells the loops that no more clients come, and whether they are to let theirs go.
-    fn close(&self) {
-        if self.stop.is_asked() {
-            self.site.mailboxes.stop();
-        } else {
-            self.site.mailboxes.close();
-        }
-    }
-
     // Accepts until the server was told to end, or as many connections as it is to.
     fn accept_all<H: Host>(&mut self, rt: &H) {
         let mut turn = 0;
@@ -121,9 +121,17 @@ impl<'a> Acceptor<'a> {
     }
 
     /// Accepts connections and deals them to the loops in turn, until it was told to stop, or has accepted as many as it is
-    /// to.
-    pub fn run<H: Host>(&mut self, rt: &H) {
+    /// to. Then it lets go of the listener, so that whoever comes later is refused at once, and another server can have the
+    /// address while the loops answer what was asked.
+    pub fn run<H: Host>(mut self, rt: &H) {
         self.accept_all(rt);
-        self.close();
+        let Acceptor {
+            listening,
+            site,
+            stop,
+            ..
+        } = self;
+        drop(listening);
+        tell_end(site, stop);
     }
 }

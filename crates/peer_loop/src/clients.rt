@@ -61,7 +61,7 @@ impl<'a, S: Source, F: Facts<S>> Clients<'a, S, F> {
     }
 
     /// Puts a client behind those that are to have a turn.
-    pub fn ready(&mut self, key: usize) {
+    pub fn make_ready(&mut self, key: usize) {
         if let Some(client) = self.each.get_mut(key) {
             if !client.is_ready {
                 client.is_ready = true;
@@ -75,7 +75,7 @@ impl<'a, S: Source, F: Facts<S>> Clients<'a, S, F> {
         let key = event.token().0;
         if let Some(client) = self.each.get_mut(key) {
             client.note(event);
-            self.ready(key);
+            self.make_ready(key);
         }
     }
 
@@ -110,7 +110,7 @@ impl<'a, S: Source, F: Facts<S>> Clients<'a, S, F> {
             let Some(key) = self.waiting.pop(slot) else {
                 return;
             };
-            self.ready(key);
+            self.make_ready(key);
         }
     }
 
@@ -138,7 +138,7 @@ impl<'a, S: Source, F: Facts<S>> Clients<'a, S, F> {
             if let Some(client) = self.each.get_mut(key) {
                 client.is_for_room = false;
             }
-            self.ready(key);
+            self.make_ready(key);
         }
     }
 }

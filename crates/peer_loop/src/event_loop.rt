@@ -29,7 +29,6 @@ pub struct Waits {
 /// A loop and its clients.
 #[derive(Drop)]
 pub struct EventLoop<'a, S: Source, F: Facts<S>> {
-    alloc: Global,
     turns: Turns<'a, S, F>,
     // When it last looked for clients that are overdue, as it was when it last published how many bytes the caches have.
     weighed: Duration,
@@ -42,7 +41,6 @@ impl<'a, S: Source, F: Facts<S>> EventLoop<'a, S, F> {
     /// A loop without clients.
     pub fn new(alloc: Global, shared: LoopSite<'a>) -> EventLoop<'a, S, F> {
         EventLoop {
-            alloc,
             turns: Turns::new(alloc, shared),
             weighed: Duration::ZERO,
         }
@@ -87,7 +85,7 @@ impl<'a, S: Source, F: Facts<S>> EventLoop<'a, S, F> {
         if !seat.has_jobs() {
             return;
         }
-        seat.fill_jobs(rt, self.alloc);
+        seat.fill_jobs(rt);
         if seat.fills() {
             self.turns.serve_told(rt, seat);
         }

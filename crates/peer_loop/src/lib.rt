@@ -11,7 +11,6 @@ mod bells;
 mod client;
 mod client_state;
 mod clients;
-mod dealing;
 mod event_loop;
 mod facts;
 mod fill_gate;
@@ -36,6 +35,7 @@ mod stream;
 mod threads;
 mod turns;
 mod wait_lists;
+mod work;
 
 pub use fillers::Fillers;
 pub use limits::Limits;

@@ -2,7 +2,6 @@
 ghost use Rattle.std.specs.Prelude.{◌≡◌, IfSome};
 
 use crate::bells::Bells;
-use crate::dealing::{FillerParts, LoopParts, ThreadParts};
 use crate::event_loop::Waits;
 use crate::limits::{MAX_EVENTS, MAX_READ};
 use crate::listening::Listening;
@@ -10,6 +9,7 @@ use crate::mailbox::Mailbox;
 use crate::mailboxes::Mailboxes;
 use crate::occupancy::Occupancy;
 use crate::settings::Orders;
+use crate::work::{FillerParts, LoopParts, ThreadParts};
 use mio::{Events, Poll};
 use peer_fetch::FetchParts;
 use std::alloc::Global;
@@ -100,16 +100,14 @@ fn open_threads<H: Net>(
     orders.settings.stop.watch(&parts.listening.poll)
 }
 
-// What a server needs whose threads have nothing yet. None where memory or a descriptor was refused.
-fn open_listening<'a, H: Net>(
-    rt: &H,
+// What a server needs on this listener whose threads have nothing yet. None where memory was refused.
+fn parts_without_threads<'a>(
     alloc: Global,
-    listener: TcpListener,
+    listening: Listening,
     orders: Orders<'a>,
 ) -> Option<ServerParts<'a>>
     ensures { IfSome result (λ parts. parts.threads.fillers.plan ≡ orders.entry.plan) }
 {
-    let listening = Listening::new(rt, alloc, listener)?;
     let settings = orders.settings;
     let occupancy = Occupancy::new(&listening.poll, settings.connections, settings.memory)?;
     let fillers = FillerParts {
@@ -144,7 +142,8 @@ pub fn open_parts<'a, H: Net>(
 ) -> Option<ServerParts<'a>>
     ensures { IfSome result (λ parts. parts.threads.fillers.plan ≡ orders.entry.plan) }
 {
-    let mut parts = open_listening(rt, alloc, listener, orders)?;
+    let listening = Listening::new(rt, alloc, listener)?;
+    let mut parts = parts_without_threads(alloc, listening, orders)?;
     open_threads(rt, alloc, orders, &mut parts)?;
     Some(parts)
 }

@@ -21,6 +21,7 @@ use std::sync::ledger::Ledger;
 #[derive(Drop)]
 pub struct LoopSeat<'a, S: Source, L: Ledger, F: Facts<S>> {
     pub pool: &'a Pool<S, L>,
+    pub alloc: Global,
     pub seats: LoopSeats<S, L>,
     /// Where streams are read into.
     pub buffer: Vec<u8>,
@@ -66,10 +67,10 @@ impl<'a, S: Source, L: Ledger, F: Facts<S>> LoopSeat<'a, S, L, F> {
     ghost use Rattle.peer_loop.specs.Parts.{KeepsParts};
 
     /// A connection that asks the pool.
-    pub fn exchange(&self, alloc: Global) -> Exchange<'a, S>
+    pub fn exchange(&self) -> Exchange<'a, S>
         ensures { F.source ≡ Some result.names }
     {
-        Exchange::new(alloc, self.pool.source())
+        Exchange::new(self.alloc, self.pool.source())
     }
 
     /// Judges what a connection holds, asks for it, and puts the replies whose fills are there.
@@ -123,7 +124,7 @@ impl<'a, S: Source, L: Ledger, F: Facts<S>> LoopSeat<'a, S, L, F> {
     }
 
     /// Has the jobs filled that its connections pushed: fills some, where the loop fills, and else wakes those who fetch.
-    pub fn fill_jobs<H: Wait>(&mut self, rt: &H, alloc: Global)
+    pub fn fill_jobs<H: Wait>(&mut self, rt: &H)
         ensures pool { self.new.pool.now ≡ self.old.pool.now }
         ensures parts { KeepsParts self.old.seats self.new.seats }
     {
@@ -131,7 +132,7 @@ impl<'a, S: Source, L: Ledger, F: Facts<S>> LoopSeat<'a, S, L, F> {
         self.filling.tell(pushed);
         let done = work(
             rt,
-            alloc,
+            self.alloc,
             self.pool,
             &mut self.seats.fill,
             &self.filling.gate,

@@ -142,10 +142,7 @@ fn over_pool<S: Source, L: Ledger + Send + Sync, H: Host>(
 /// Serves the listener's clients until so many connections as the settings say were accepted and have ended, or until it
 /// was told to stop, and gives the pool's report. Where there is a plan, threads that fill fetch the values of its groups,
 /// each with hundreds under way. They call the source for all others, and so do loops that fill, for all groups.
-pub fn serve_fetching<
-    S: Source,
-    H: Net<Listener = TcpListener, Stream = TcpStream> + Threads + Wait + Clock + Sync,
->(
+pub fn serve_fetching<S: Source, H>(
     rt: &H,
     alloc: Global,
     source: S,
@@ -153,6 +150,8 @@ pub fn serve_fetching<
     settings: &Settings<'_>,
     plan: Option<FetchPlan<'_>>,
 ) -> Result<Report, ServerFault>
+where
+    H: Net<Listener = TcpListener, Stream = TcpStream> + Threads + Wait + Clock + Sync,
     requires allows { IfSome plan (Allows (S.answers source)) }
     ensures { ServesWith (fill_seats settings.now) settings.now.loops (S.count source) result }
 {
@@ -161,16 +160,15 @@ pub fn serve_fetching<
 }
 
 /// The same without a plan: all values are had by calls of the source.
-pub fn serve_loops<
-    S: Source,
-    H: Net<Listener = TcpListener, Stream = TcpStream> + Threads + Wait + Clock + Sync,
->(
+pub fn serve_loops<S: Source, H>(
     rt: &H,
     alloc: Global,
     source: S,
     listener: TcpListener,
     settings: &Settings<'_>,
 ) -> Result<Report, ServerFault>
+where
+    H: Net<Listener = TcpListener, Stream = TcpStream> + Threads + Wait + Clock + Sync,
     ensures { ServesWith (fill_seats settings.now) settings.now.loops (S.count source) result }
 {
     serve_fetching(rt, alloc, source, listener, settings, None)

@@ -9,12 +9,12 @@ ghost use Rattle.peer_fill.specs.Pools.{source_of};
 ghost use Rattle.peer_fill.specs.Lists.{AreSeatsOf, HaveParts};
 ghost use Rattle.peer_loop.specs.StartedThreads.{all_conns, all_fills, KeepAll, AreStarting, AreNew};
 
-use crate::dealing::{AllWork, FillWork, LoopWork, ThreadParts};
 use crate::filler::next_fetcher;
 use crate::fillers::Fillers;
 use crate::loop_seats::{join_loops, pop_loop};
 use crate::site::{LoopSite, Site};
 use crate::starting::{FillHandle, LoopHandle, spawn_filler, spawn_loop};
+use crate::work::{AllWork, FillWork, LoopWork, ThreadParts};
 use peer_fill::{Pool, Seats, join_seats, pop_seat};
 use peer_host::Host;
 use peer_source::Source;

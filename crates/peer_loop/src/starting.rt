@@ -4,16 +4,15 @@ ghost use Rattle.peer_fill.specs.Pools.{source_of, IsFillSeatOf};
 ghost use Rattle.peer_fill.specs.Seats.{fill_parts};
 ghost use Rattle.peer_fetch.specs.Threads.{Allows};
 ghost use Rattle.peer_loop.specs.Parts.{AreOf, KeepsParts};
-ghost use Rattle.peer_loop.specs.Dealings.{IsFillWorkOf};
+ghost use Rattle.peer_loop.specs.Works.{IsFillWorkOf};
 
-use crate::dealing::{FillWork, LoopParts, LoopWork};
 use crate::event_loop::EventLoop;
 use crate::facts::Facts;
 use crate::filler::run_filler;
 use crate::filling::Filling;
 use crate::loop_seats::{KeepsLoop, LoopSeats};
 use crate::seat::LoopSeat;
-use crate::site::LoopSite;
+use crate::work::{FillWork, LoopParts, LoopWork};
 use peer_fill::{FillSeat, Keeps, Pool};
 use peer_host::Host;
 use peer_source::Source;
@@ -33,24 +32,24 @@ fn run_known<S: Source, L: Ledger, F: Facts<S>, H: Host>(
     rt: &H,
     alloc: Global,
     pool: &Pool<S, L>,
-    seats: LoopSeats<S, L>,
-    parts: LoopParts,
-    own: LoopSite<'_>,
+    work: LoopWork<'_, S, L>,
 ) -> LoopSeats<S, L>
-    requires of { AreOf pool.now seats }
+    requires of { AreOf pool.now work.seats }
     requires source { F.source ≡ Some (source_of pool.now) }
     ensures of { AreOf pool.now result }
-    ensures parts { KeepsParts seats result }
+    ensures parts { KeepsParts work.entry.seats result }
 {
+    let LoopWork { seats, parts, site } = work;
     let LoopParts { mut waits, buffer } = parts;
     let mut seat = LoopSeat::<S, L, F> {
         pool,
+        alloc,
         seats,
         buffer,
-        filling: Filling::new(own.site.bells, own.site.gate(own.number)),
+        filling: Filling::new(site.site.bells, site.site.gate(site.number)),
         of: PhantomData,
     };
-    let mut serving = EventLoop::new(alloc, own);
+    let mut serving = EventLoop::new(alloc, site);
     serving.run(rt, &mut seat, &mut waits);
     seat.seats
 }
@@ -60,15 +59,13 @@ fn run_loop<S: Source, L: Ledger, H: Host>(
     rt: &H,
     alloc: Global,
     pool: &Pool<S, L>,
-    seats: LoopSeats<S, L>,
-    parts: LoopParts,
-    own: LoopSite<'_>,
+    work: LoopWork<'_, S, L>,
 ) -> LoopSeats<S, L>
-    requires { AreOf pool.now seats }
+    requires { AreOf pool.now work.seats }
     ensures of { AreOf pool.now result }
-    ensures parts { KeepsParts seats result }
+    ensures parts { KeepsParts work.entry.seats result }
 {
-    run_known::<S, L, Brand, H>(rt, alloc, pool, seats, parts, own)
+    run_known::<S, L, Brand, H>(rt, alloc, pool, work)
 }
 
 /// Starts the thread of a loop. None where it was refused.
@@ -83,13 +80,12 @@ pub fn spawn_loop<'s, E, S: Source, L: Ledger + Send + Sync, H: Host>(
     ensures pool { IfSome result (λ x. x.promise.pool.now ≡ pool.now) }
     ensures seats { IfSome result (λ x. x.promise.seats.value ≡ work.entry.seats) }
 {
-    let LoopWork { seats, parts, site } = work;
-    let promise = KeepsLoop::new(pool, &seats);
+    let promise = KeepsLoop::new(pool, &work.seats);
     let serve = move || -> LoopSeats<S, L>
-        requires { AreOf pool.now seats }
+        requires { AreOf pool.now work.seats }
         ensures of { AreOf pool.entry.now result }
-        ensures parts { KeepsParts seats result }
-    { run_loop(rt, alloc, pool, seats, parts, site) };
+        ensures parts { KeepsParts work.entry.seats result }
+    { run_loop(rt, alloc, pool, work) };
     scope.spawn_with(promise, serve).ok()
 }
 

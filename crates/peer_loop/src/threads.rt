@@ -5,8 +5,8 @@ ghost use Rattle.peer_fetch.specs.Threads.{Allows};
 ghost use Rattle.peer_fill.specs.Lists.{AreSeatsOf, ComeBack};
 
 use crate::acceptor::Acceptor;
-use crate::dealing::{AllWork, ThreadParts};
 use crate::server_threads::ServerThreads;
+use crate::work::{AllWork, ThreadParts};
 use peer_fill::{Pool, Seats};
 use peer_host::Host;
 use peer_source::Source;
@@ -23,7 +23,7 @@ fn serve_scoped<'s, E, S: Source, L: Ledger + Send + Sync, H: Host>(
     alloc: Global,
     pool: &'s Pool<S, L>,
     work: AllWork<'s, S, L>,
-    mut acceptor: Acceptor<'_>,
+    acceptor: Acceptor<'_>,
 ) -> Option<Seats<S, L>>
     requires of { AreSeatsOf pool.now work.seats }
     requires allows { IfSome work.parts.fillers.plan (Allows (S.answers (source_of pool.now))) }

@@ -21,7 +21,6 @@ use std::time::Duration;
 /// The clients of a loop, and what their turns need beside the seats.
 #[derive(Drop)]
 pub struct Turns<'a, S: Source, F: Facts<S>> {
-    alloc: Global,
     pub shared: LoopSite<'a>,
     pub clients: Clients<'a, S, F>,
     // Whether its clients were stopped.
@@ -39,7 +38,6 @@ impl<'a, S: Source, F: Facts<S>> Turns<'a, S, F> {
     /// No client is there.
     pub fn new(alloc: Global, shared: LoopSite<'a>) -> Turns<'a, S, F> {
         Turns {
-            alloc,
             shared,
             clients: Clients::new(alloc),
             stopped: false,
@@ -59,7 +57,7 @@ impl<'a, S: Source, F: Facts<S>> Turns<'a, S, F> {
             let Some(stream) = self.shared.mailbox.next_stream(rt) else {
                 return;
             };
-            let client = Client::new(stream, seat.exchange(self.alloc), self.now);
+            let client = Client::new(stream, seat.exchange(), self.now);
             if self.stopped || !self.clients.add(registry, client) {
                 self.shared.site.occupancy.leave();
             }
@@ -80,7 +78,7 @@ impl<'a, S: Source, F: Facts<S>> Turns<'a, S, F> {
         self.clients.list(key, slot);
         self.shared.mailbox.want(slot);
         if self.clients.awaits(key) != Some(number) {
-            self.clients.ready(key);
+            self.clients.make_ready(key);
         }
     }
 
@@ -132,7 +130,7 @@ impl<'a, S: Source, F: Facts<S>> Turns<'a, S, F> {
                 self.clients.wait_for_room(key);
                 self.list_awaited(key);
             }
-            ClientState::Busy => self.clients.ready(key),
+            ClientState::Busy => self.clients.make_ready(key),
             ClientState::Gone => self.forget(key),
         }
     }
@@ -185,7 +183,7 @@ impl<'a, S: Source, F: Facts<S>> Turns<'a, S, F> {
         if client.stop() {
             self.forget(key);
         } else {
-            self.clients.ready(key);
+            self.clients.make_ready(key);
         }
     }
 

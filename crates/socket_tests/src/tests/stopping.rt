@@ -63,22 +63,23 @@ fn await_call<H: Clock>(rt: &H, called: &AtomicBool) -> bool {
 }
 
 // Two idle clients, and one that waits for its value, while the server is told to end: whether all were connected, the
-// idle ones are let go at once, and the other gets its value.
+// idle ones are let go at once, one that comes then is refused at once, and the first gets its value.
 fn stop_beside<H: AllocGlobal + Net<Listener = TcpListener, Stream = TcpStream> + Wait + Clock>(
     rt: &H,
     address: SocketAddr,
     call: &Call,
     stop: &Stop,
-) -> Option<[bool; 3]> {
+) -> Option<[bool; 4]> {
     let one = served_client(rt, address)?;
     let other = served_client(rt, address)?;
     let waiting = connect(rt, address)?;
     let asked = send(&waiting, ASK_SLOW) && await_call(rt, &call.called);
     stop.stop();
     let let_go = receives(rt.alloc(), &one, b"") && receives(rt.alloc(), &other, b"");
+    let refused = connect(rt, address).is_none();
     let held = !call.open.swap(true, SeqCst);
     let served = receives(rt.alloc(), &waiting, FOUND_SLOW);
-    Some([asked, let_go && held, served])
+    Some([asked, let_go && held, refused, served])
 }
 
 #[test]
@@ -104,7 +105,7 @@ fn a_server_that_is_told_to_end_gives_the_values_that_are_waited_for(
         outside.stop.stop();
         seen
     })?;
-    assert_eq!(rt; seen, Some([true; 3]));
+    assert_eq!(rt; seen, Some([true; 4]));
     assert!(rt; has_asked(&report, 3));
     Ok(())
 }

@@ -5,7 +5,7 @@ use Rattle.std.specs.declared.sync.ledger.Ledger as Ledger
 use Rattle.peer_fill.specs.Pools.{source_of, IsFillSeatOf}
 use Rattle.peer_fill.specs.declared.pool.Pool.{Pool}
 use Rattle.peer_fetch.specs.Threads.{Allows}
-use Rattle.peer_loop.specs.declared.dealing.FillWork.{FillWork}
+use Rattle.peer_loop.specs.declared.work.FillWork.{FillWork}
 
 module _ {S L : Type 0} {g : Source.Ghosts S} {h : Ledger.Ghosts L} where
   -- the seat is of the pool, and what is fetched are answers that the pool's source may give
