@@ -19,8 +19,9 @@ use peer_source::Source;
 use peer_stats::Counters;
 use std::fs::Files;
 use std::hash::RandomState;
-use std::io::Read;
-use std::net::{Net, TcpListener, TcpStream};
+use std::io;
+use std::io::{ErrorKind, Read};
+use std::net::{Net, TcpListener, ToSocketAddrs};
 use std::random::RandomSource;
 
 // Who fills what is asked for.
@@ -66,12 +67,22 @@ fn settings_of<'a>(
     }
 }
 
+// A listener at the first of these addresses that can be had. Its backlog is the longest that the system allows, and not the
+// 128 of std's: behind a restart all clients come at once.
+fn listen<H: Net>(rt: &H, addresses: &str) -> io::Result<TcpListener> {
+    let mut refused = io::Error::from(ErrorKind::InvalidInput);
+    for address in addresses.to_socket_addrs(rt)? {
+        match mio::net::TcpListener::bind(rt, address) {
+            Ok(listener) => return Ok(TcpListener::from(listener)),
+            Err(error) => refused = error,
+        }
+    }
+    Err(refused)
+}
+
 // A listener at the address to serve.
-fn bind<H: AllocGlobal + Eprint + Net<Listener = TcpListener, Stream = TcpStream>>(
-    rt: &H,
-    options: &Options<'_>,
-) -> Result<TcpListener, Exit> {
-    match TcpListener::bind(rt, options.listen) {
+fn bind<H: AllocGlobal + Eprint + Net>(rt: &H, options: &Options<'_>) -> Result<TcpListener, Exit> {
+    match listen(rt, options.listen) {
         Ok(listener) => Ok(listener),
         Err(error) => {
             let _ = eprintln!(rt; "peer_front: cannot serve {}: {error}", options.listen);
