@@ -7,8 +7,4 @@
 #![tactic(auto)]
 
 #[cfg(test)]
-mod generated;
-#[cfg(test)]
-mod moved;
-#[cfg(test)]
-mod worked;
+mod tests;

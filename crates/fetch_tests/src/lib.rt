@@ -7,14 +7,4 @@
 #![tactic(auto)]
 
 #[cfg(test)]
-mod asking;
-#[cfg(test)]
-mod clients;
-#[cfg(test)]
-mod origin;
-#[cfg(test)]
-mod replies;
-#[cfg(test)]
-mod running;
-#[cfg(test)]
-mod served;
+mod tests;

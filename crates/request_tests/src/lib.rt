@@ -6,10 +6,4 @@
 #![tactic(auto)]
 
 #[cfg(test)]
-mod heads;
-#[cfg(test)]
-mod replies;
-#[cfg(test)]
-mod targets;
-#[cfg(test)]
-mod wishes;
+mod tests;

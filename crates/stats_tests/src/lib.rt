@@ -5,6 +5,4 @@
 #![tactic(auto)]
 
 #[cfg(test)]
-mod pages;
-#[cfg(test)]
-mod served;
+mod tests;

@@ -1,0 +1,5 @@
+//! Exchanges over worked and generated texts, and in another thread.
+
+mod generated;
+mod moved;
+mod worked;

@@ -1,0 +1,8 @@
+//! A fetch thread beside an origin: what clients ask for and see, a file for each part.
+
+mod asking;
+mod clients;
+mod origin;
+mod replies;
+mod running;
+mod served;

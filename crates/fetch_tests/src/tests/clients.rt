@@ -1,0 +1,192 @@
+//! What clients of a fetch thread ask for, and what they and the origin are to see.
+
+use super::asking::{Plan, Texts};
+use super::running::{Seen, Setting, patient, see_over};
+use peer_fetch::FetchThreadSettings;
+use peer_origin::FetchSettings;
+use std::alloc::Global;
+use std::marker::Brand;
+use std::net::{Net, TcpListener, TcpStream};
+use std::sync::Wait;
+use std::sync::ledger::Blank;
+use std::test::Fail;
+use std::thread::Threads;
+use std::time::{Clock, Duration};
+use test_support::all_called;
+
+// What an origin is to see: how many requests, and of how many that were open at once at least and at most.
+#[derive(Clone, Copy)]
+struct Load {
+    requests: usize,
+    open: (usize, usize),
+}
+
+impl Load {
+    // So many requests, one after the other.
+    const fn in_turn(requests: usize) -> Option<Load> {
+        Some(Load {
+            requests,
+            open: (1, 1),
+        })
+    }
+
+    // So many requests, of which so many at least are open at once.
+    const fn together(requests: usize, least: usize) -> Option<Load> {
+        Some(Load {
+            requests,
+            open: (least, requests),
+        })
+    }
+
+    // Whether it was seen.
+    fn fits(self, seen: &Seen) -> bool {
+        let (least, most) = self.open;
+        seen.requests == self.requests && least <= seen.open && seen.open <= most
+    }
+}
+
+// Each kind of reply. `more` and `plain` show that what came behind a reply is no value of the next key.
+const ROWS: Texts<'static> = &[
+    (b"plain", b"plain"),
+    (b"chunked", b"chunked"),
+    (b"early", b"early"),
+    (b"missing", b"no such key"),
+    (b"broken", b"origin answered 500"),
+    (b"cut", b"origin closed the connection"),
+    (b"cut-head", b"origin closed the connection"),
+    (b"until-close", b"to the end"),
+    (b"malformed", b"origin sent a bad reply"),
+    (b"long", b"value too long"),
+    (b"more", b"more"),
+    (b"plain", b"plain"),
+];
+
+// `stale` is asked for once more, on a new connection; `silent` is, behind `plain`, and no third time.
+const SILENT: Texts<'static> = &[
+    (b"plain", b"plain"),
+    (b"stale", b"stale"),
+    (b"silent", b"origin closed the connection"),
+    (b"plain", b"plain"),
+];
+
+// An origin that ends while a value is under way.
+const ENDING: Texts<'static> = &[
+    (b"plain", b"plain"),
+    (b"end", b"origin cannot be reached"),
+    (b"plain", b"origin cannot be reached"),
+];
+
+// A value that does not come in its time.
+const LATE: Texts<'static> = &[(b"late", b"origin timed out"), (b"plain", b"plain")];
+
+// A client that asks for these texts.
+fn of_texts(texts: Texts<'_>, settings: FetchThreadSettings) -> Setting<'_> {
+    Setting {
+        hold: 0,
+        plan: Plan {
+            texts,
+            in_turn: 0,
+            together: 0,
+        },
+        settings,
+    }
+}
+
+// A client that asks for so many numbers in turn and for so many at once, of an origin that holds its replies back until so
+// many requests are open.
+fn of_numbers(in_turn: u32, together: u32, hold: usize) -> Setting<'static> {
+    Setting {
+        hold,
+        plan: Plan {
+            texts: &[],
+            in_turn,
+            together,
+        },
+        settings: patient(),
+    }
+}
+
+// A thread that makes each request on a connection of its own.
+fn by_itself() -> FetchThreadSettings {
+    let patient = patient();
+    FetchThreadSettings {
+        fetch: FetchSettings {
+            connection_for_each: true,
+            ..patient.fetch
+        },
+        ..patient
+    }
+}
+
+// A thread that gives a value up soon.
+fn hasty() -> FetchThreadSettings {
+    let patient = patient();
+    FetchThreadSettings {
+        fetch: FetchSettings {
+            value: Duration::from_secs(3),
+            ..patient.fetch
+        },
+        ..patient
+    }
+}
+
+// Whether a client is answered as it is to be, each key leads a call, and the origin sees this load, if it is looked at.
+fn is_right<H: Net<Listener = TcpListener, Stream = TcpStream> + Threads + Wait + Clock + Sync>(
+    rt: &H,
+    alloc: Global,
+    setting: Setting<'_>,
+    load: Option<Load>,
+) -> bool {
+    match see_over::<Brand, H>(rt, alloc, setting, Blank::new(16)) {
+        Some((seen, report)) => {
+            seen.answered.is_right()
+                && report == Some(all_called(setting.plan.asks()))
+                && load.is_none_or(|load| load.fits(&seen))
+        }
+        None => false,
+    }
+}
+
+#[test]
+fn each_client_is_answered_as_it_is_to_be(rt: HostRuntime) -> Result<(), Fail> {
+    for (what, setting, load) in [
+        (
+            "each kind of reply",
+            of_texts(ROWS, patient()),
+            Load::in_turn(12),
+        ),
+        (
+            "a request is made once more, and not twice",
+            of_texts(SILENT, patient()),
+            Load::in_turn(6),
+        ),
+        (
+            "a request on a connection of its own is made once",
+            of_texts(SILENT, by_itself()),
+            Load::in_turn(4),
+        ),
+        (
+            "an origin ends under way",
+            of_texts(ENDING, patient()),
+            None,
+        ),
+        (
+            "a value that does not come is given up",
+            of_texts(LATE, hasty()),
+            None,
+        ),
+        (
+            "two hundred values are under way",
+            of_numbers(0, 300, 200),
+            Load::together(300, 200),
+        ),
+        (
+            "each of a thousand keys wakes the thread that sleeps",
+            of_numbers(1000, 0, 0),
+            Load::in_turn(1000),
+        ),
+    ] {
+        assert!(rt; is_right(&rt, rt.alloc(), setting, load), "{what}");
+    }
+    Ok(())
+}

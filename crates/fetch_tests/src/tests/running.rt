@@ -1,0 +1,252 @@
+//! A fetch thread, an origin and a client, each in a thread, and what the client sees.
+ghost use Rattle.std.specs.Prelude.{◌≡◌, All};
+ghost use Rattle.peer_fill.specs.Pools.{source_of, IsConnSeatOf, IsFillSeatOf};
+ghost use Rattle.peer_fetch.specs.Threads.{Allows};
+
+use super::asking::{Answered, Client, Plan};
+use super::origin::{Told, serve};
+use peer_fetch::{FetchBell, FetchParts, FetchPlan, FetchThread, FetchThreadSettings, Places};
+use peer_fill::{ConnSeat, FillSeat, NoGate, Pool, Report, pop_seat};
+use peer_host::{Host, Network};
+use peer_origin::{FetchSettings, Origin, OriginSource, Place};
+use peer_source::Source;
+use peer_stats::Counters;
+use std::alloc::Global;
+use std::net::TcpListener;
+use std::sync::atomic::Ordering::SeqCst;
+use std::sync::ledger::{Blank, Ledger};
+use std::thread;
+use std::time::Duration;
+use test_support::{SeatLists, close_pool, open_pool, push_seat};
+
+/// What is run: an origin that holds its replies back until so many requests were open, and a client's plan.
+#[derive(Clone, Copy)]
+pub struct Setting<'k> {
+    pub hold: usize,
+    pub plan: Plan<'k>,
+    pub settings: FetchThreadSettings,
+}
+
+/// What was seen: by the client, and by the origin, how many requests came and how many were open at most.
+#[derive(Clone, Copy, Debug, PartialEq, Eq)]
+pub struct Seen {
+    pub answered: Answered,
+    pub requests: usize,
+    pub open: usize,
+}
+
+// An origin and the plan of its client.
+#[derive(Drop)]
+struct Beside<'t, 'k> {
+    listener: TcpListener,
+    told: &'t Told,
+    setting: Setting<'k>,
+}
+
+// Asks beside the origin, and then tells the origin and the fetch thread to end.
+fn ask_beside<S: Source, L: Ledger + Send + Sync, H: Host>(
+    rt: &H,
+    alloc: Global,
+    pool: &Pool<S, L>,
+    conn: ConnSeat<S, L>,
+    bell: &FetchBell,
+    beside: Beside<'_, '_>,
+) -> (ConnSeat<S, L>, Answered)
+    requires conn { IsConnSeatOf pool.now conn }
+    ensures { IsConnSeatOf pool.now result.0 }
+{
+    let Beside {
+        listener,
+        told,
+        setting,
+    } = beside;
+    let mut conn = conn;
+    let ((), asked) = thread::join(
+        rt,
+        move || { serve(rt, alloc, listener, setting.hold, told) },
+        move || -> (ConnSeat<S, L>, Answered)
+            requires conn { IsConnSeatOf pool.now conn }
+            ensures { IsConnSeatOf pool.entry.now result.0 }
+        {
+            let client = Client {
+                rt,
+                alloc,
+                pool,
+                bell,
+            };
+            let answered = client.ask_all(&mut conn, setting.plan);
+            told.stopping.store(true, SeqCst);
+            bell.stop();
+            (conn, answered)
+        },
+    );
+    asked
+}
+
+// Runs a fetch thread beside an origin and a client.
+fn run_all<S: Source, L: Ledger + Send + Sync, H: Host>(
+    rt: &H,
+    alloc: Global,
+    pool: &Pool<S, L>,
+    seats: (FillSeat<S, L>, ConnSeat<S, L>),
+    running: (FetchThread<'_>, FetchBell),
+    beside: Beside<'_, '_>,
+) -> (FillSeat<S, L>, ConnSeat<S, L>, Answered)
+    requires fill { IsFillSeatOf pool.now seats.0 }
+    requires conn { IsConnSeatOf pool.now seats.1 }
+    requires answers { Allows (S.answers (source_of pool.now)) running.0.plan }
+    ensures fill { IsFillSeatOf pool.now result.0 }
+    ensures conn { IsConnSeatOf pool.now result.1 }
+{
+    let (fill, conn) = seats;
+    let (thread, bell) = running;
+    let bell = &bell;
+    let (fill, (conn, answered)) = thread::join(
+        rt,
+        move || -> FillSeat<S, L>
+            requires fill { IsFillSeatOf pool.now fill }
+            requires answers { Allows (S.answers (source_of pool.now)) thread.plan }
+            ensures { IsFillSeatOf pool.entry.now result }
+        { thread.run(rt, pool, fill, bell, &NoGate) },
+        move || -> (ConnSeat<S, L>, Answered)
+            requires conn { IsConnSeatOf pool.now conn }
+            ensures { IsConnSeatOf pool.entry.now result.0 }
+        { ask_beside(rt, alloc, pool, conn, bell, beside) },
+    );
+    (fill, conn, answered)
+}
+
+// Runs a fetch thread with the seats of these lists.
+fn use_lists<S: Source, L: Ledger + Send + Sync, H: Host>(
+    rt: &H,
+    alloc: Global,
+    pool: &Pool<S, L>,
+    lists: &mut SeatLists<S, L>,
+    running: (FetchThread<'_>, FetchBell),
+    beside: Beside<'_, '_>,
+) -> Option<Answered>
+    requires fills { All (IsFillSeatOf pool.now) lists.old.fills.items }
+    requires conns { All (IsConnSeatOf pool.now) lists.old.conns.items }
+    requires answers { Allows (S.answers (source_of pool.now)) running.0.plan }
+    ensures fills { All (IsFillSeatOf pool.now) lists.new.fills.items }
+    ensures conns { All (IsConnSeatOf pool.now) lists.new.conns.items }
+{
+    let fill = pop_seat(pool, &mut lists.fills)?;
+    let conn = pop_seat(pool, &mut lists.conns)?;
+    let (fill, conn, answered) = run_all(rt, alloc, pool, (fill, conn), running, beside);
+    push_seat(pool, &mut lists.fills, fill)?;
+    push_seat(pool, &mut lists.conns, conn)?;
+    Some(answered)
+}
+
+// Runs a fetch thread with a pool's seats, and closes the pool.
+fn run_opened<S: Source, L: Ledger + Send + Sync, H: Host>(
+    rt: &H,
+    alloc: Global,
+    opened: (Pool<S, L>, SeatLists<S, L>),
+    running: (FetchThread<'_>, FetchBell),
+    beside: Beside<'_, '_>,
+) -> (Option<Answered>, Option<Report>)
+    requires fills { All (IsFillSeatOf opened.0) opened.1.fills.items }
+    requires conns { All (IsConnSeatOf opened.0) opened.1.conns.items }
+    requires answers { Allows (S.answers (source_of opened.0)) running.0.plan }
+{
+    let (pool, mut lists) = opened;
+    let answered = use_lists(rt, alloc, &pool, &mut lists, running, beside);
+    (answered, close_pool(rt, pool, lists))
+}
+
+// The place of the listener, under the prefix `/v/`.
+fn place_of<H: Network>(rt: &H, alloc: Global, listener: &TcpListener) -> Option<Place> {
+    let port = listener.local_addr().ok()?.port();
+    let url = format!(in alloc; "http://127.0.0.1:{port}/v/").ok()?;
+    Place::of_url(rt, alloc, &url).ok()
+}
+
+/// A listener, and the origins at its place.
+#[derive(Drop)]
+pub struct Prepared {
+    pub listener: TcpListener,
+    pub origins: Vec<Origin>,
+}
+
+/// A listener on a free port of the loopback address.
+pub fn prepare<H: Network>(rt: &H, alloc: Global) -> Option<Prepared> {
+    let listener = TcpListener::bind(rt, "127.0.0.1:0").ok()?;
+    let mut origins = Vec::new(alloc);
+    let place = place_of(rt, alloc, &listener)?;
+    let name = b"echo".to_vec(alloc).ok()?;
+    origins.push(Origin::new(alloc, name, place)).ok()?;
+    Some(Prepared { listener, origins })
+}
+
+// What is seen of a setting at the places of these origins.
+fn see_at<L: Ledger + Send + Sync, H: Host>(
+    rt: &H,
+    alloc: Global,
+    origins: Vec<Origin>,
+    beside: Beside<'_, '_>,
+    blank: Blank,
+) -> Option<(Option<Answered>, Option<Report>)>
+    requires name { blank.name ≡ L.name }
+    requires parts { (blank.parts ≡ L.parts) × (blank.parts ≡ 16) }
+{
+    let settings = beside.setting.settings;
+    let counters = Counters::new();
+    let source = OriginSource::new(rt, counters.failures(), origins, settings.fetch);
+    let places = source.places(alloc).ok()?;
+    let (parts, bell) = FetchParts::new(rt, alloc, places.len())?;
+    let plan = FetchPlan {
+        places: Places {
+            first: 0,
+            each: places.as_slice(),
+        },
+        settings,
+        failures: counters.failures(),
+    };
+    let running = (FetchThread::new(alloc, parts, plan), bell);
+    let opened = open_pool::<OriginSource<'_, H>, L>(alloc, source, 0, 1, 1, blank);
+    match opened {
+        Some(opened) => Some(run_opened(rt, alloc, opened, running, beside)),
+        None => None,
+    }
+}
+
+/// What is seen of a setting, and the report of its pool.
+pub fn see_over<L: Ledger + Send + Sync, H: Host>(
+    rt: &H,
+    alloc: Global,
+    setting: Setting<'_>,
+    blank: Blank,
+) -> Option<(Seen, Option<Report>)>
+    requires name { blank.name ≡ L.name }
+    requires parts { (blank.parts ≡ L.parts) × (blank.parts ≡ 16) }
+{
+    let Prepared { listener, origins } = prepare(rt, alloc)?;
+    let told = Told::new();
+    let beside = Beside {
+        listener,
+        told: &told,
+        setting,
+    };
+    let (answered, report) = see_at::<L, H>(rt, alloc, origins, beside, blank)?;
+    let seen = Seen {
+        answered: answered?,
+        requests: told.requests.load(SeqCst),
+        open: told.open.load(SeqCst),
+    };
+    Some((seen, report))
+}
+
+/// Times that no test is to meet.
+pub fn patient() -> FetchThreadSettings {
+    FetchThreadSettings {
+        fetch: FetchSettings {
+            connect: Duration::from_secs(20),
+            value: Duration::from_secs(40),
+            connection_for_each: false,
+        },
+        under_way: 256,
+        pause: Duration::from_millis(1),
+    }
+}

@@ -1,0 +1,6 @@
+//! Heads, targets, wishes and replies.
+
+mod heads;
+mod replies;
+mod targets;
+mod wishes;

@@ -1,0 +1,4 @@
+//! The page of counters, and its server.
+
+mod pages;
+mod served;
