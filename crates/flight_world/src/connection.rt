@@ -9,15 +9,12 @@ ghost use Rattle.flight_world.specs.Views.{SeesNone, WantsAt, hand_of};
 use crate::entry::{FlightEntry, brought};
 use crate::ticket::{Hand, Ticket, Written};
 use crate::wish::Wish;
-use peer_flight::{Ask, AskFault, MAX_REPLIES, Table};
+use peer_flight::{Ask, AskFault, MAX_REPLIES, MAX_TICKETS, Table};
 use peer_source::{Outcome, Source};
 use std::alloc::{AllocError, Global};
 use std::collections::VecDeque;
 use std::marker::Model;
 use std::mem;
-
-// The most tickets in a lane.
-const TICKETS: usize = 64;
 
 /// A connection: its reader's hand, its lane, and what its writer took and wrote.
 #[derive(Drop)]
@@ -143,7 +140,7 @@ impl<S: Source> Connection<S> {
         ensures put { IfOk result (λ put. WhereAllowed put PutsHand self.old self.new) }
         ensures refused { OnErr result (self.new ≡ self.old) }
     {
-        if self.lane.len() >= TICKETS {
+        if self.lane.len() >= MAX_TICKETS {
             return Ok(false);
         }
         self.lane.reserve(1)?;
@@ -164,7 +161,7 @@ impl<S: Source> Connection<S> {
         ensures put { IfOk result (λ put. WhereAllowed put (PutsReady wish) self.old self.new) }
         ensures refused { OnErr result (self.new ≡ self.old) }
     {
-        if self.lane.len() >= TICKETS || !self.may_arrive() {
+        if self.lane.len() >= MAX_TICKETS || !self.may_arrive() {
             return Ok(false);
         }
         let share = wish.share()?;

@@ -20,3 +20,6 @@ pub use connection::{serve_connection, serve_connection_functional};
 pub use end::Served;
 pub use peer_wish::{End, wish_of};
 pub use serial::{serve_functional, serve_serial, serve_told};
+
+/// How many reads a server makes at most from one connection.
+pub const READS: u64 = 1_000_000;

@@ -13,10 +13,9 @@ ghost use Rattle.peer_exchange.specs.Asking.{AsksHeld, CountsWish};
 use crate::exchange_state::ExchangeState;
 use crate::intake::{GivenUp, Intake};
 use peer_fill::{ConnSeat, Pool};
-use peer_flight::AskFault;
+use peer_flight::{AskFault, MAX_TICKETS};
 use peer_head::FieldPlaces;
 use peer_lane::{Body, Ticket};
-use peer_outbox::MAX_WAITING;
 use peer_source::{Names, Source};
 use peer_wish::{LentBody, LentWish, Next, next_wish};
 use std::alloc::{AllocError, Global};
@@ -145,7 +144,7 @@ impl<S: Source> ExchangeState<S> {
     {
         let mut places = FieldPlaces::new();
         self.waits_for_job = false;
-        for _ in 0..MAX_WAITING {
+        for _ in 0..MAX_TICKETS {
             match self.ask_next(rt, pool, seat, names, &mut places) {
                 Ok(true) => {}
                 Ok(false) => return Ok(()),
@@ -199,7 +198,7 @@ impl<S: Source> ExchangeState<S> {
     fn enqueue(&mut self, ticket: Ticket<S>, len: usize)
         requires next { (numbers : List ℕ → Option ℕ) × IsNextWish numbers self.old.intake.held (wish_by ticket) }
         requires front { IsFrontLength self.old.intake.held len }
-        requires few { deque_len self.old.waiting < MAX_WAITING }
+        requires few { deque_len self.old.waiting < MAX_TICKETS }
         requires room { deque_len self.old.waiting < deque_capacity self.old.waiting }
         requires judging { is_judging self.old.intake.stage ≡ true }
         ensures upholds { KeepsWhereNext (allows S.allowed) (wish_by ticket) self.old self.new }

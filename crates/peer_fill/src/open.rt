@@ -4,7 +4,7 @@ ghost use Rattle.peer_fill.specs.Opens.{IsOutside, IsWithin};
 
 use crate::pool::Pool;
 use crate::seats::{ConnSeat, FillSeat};
-use peer_source::Source;
+use peer_source::{MAX_GROUPS, Source};
 use std::alloc::AllocError;
 use std::sync::ledger::Ledger;
 use thiserror::Error;
@@ -33,8 +33,6 @@ impl From<AllocError> for OpenFault {
 }
 
 const MAX_SEATS: usize = 16;
-
-const MAX_GROUPS: usize = 64;
 
 /// Whether a pool can be opened with so many workers, connections and groups.
 pub(crate) fn check_numbers(workers: usize, conns: usize, groups: usize) -> Result<(), OpenFault>

@@ -7,16 +7,13 @@ ghost use Rattle.peer_fill.specs.Jobs.{hand, left_count, Rises};
 use crate::counts::{AskCounts, FillCounts, Found};
 use crate::jobs::{Hand, Job};
 use crossbeam_queue::Pass;
-use peer_source::{Evicted, Source};
+use peer_source::{Evicted, MAX_ENTRIES, Source};
 use std::alloc::Global;
 use std::marker::PhantomData;
 use std::sync::ledger::{Ledger, Share};
 
 /// No seat counts further.
 pub(crate) const MAX_COUNT: u64 = 1 << 56;
-
-// The most entries that one addition to a cache evicts.
-const MAX_EVICTED: usize = 4096;
 
 /// A connection's seat.
 #[derive(Drop)]
@@ -176,7 +173,7 @@ impl<S: Source, L: Ledger> FillSeat<S, L> {
         ensures fills { fills_of self.new ≡ fills_of self.old }
     {
         if self.evicted.capacity() == 0 {
-            let _ = self.evicted.reserve(MAX_EVICTED);
+            let _ = self.evicted.reserve(MAX_ENTRIES);
         }
     }
 

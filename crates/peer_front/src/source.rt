@@ -3,10 +3,10 @@
 use crate::exit::{BAD_WORD, Exit, OUT_OF_MEMORY, refuse};
 use crate::table::read_table;
 use peer_flags::Options;
-use peer_groups::{Beside, FrontSource, Maybe, first_in, origins_of};
+use peer_groups::{Beside, FrontSource, GroupFault, Maybe, first_in, origins_of};
 use peer_host::Network;
 use peer_origin::{FetchSettings, Origin, OriginSource};
-use peer_source::{DemoSource, Source};
+use peer_source::{DemoSource, MAX_GROUPS, Source};
 use peer_stats::FailureSlots;
 use peer_table::TableSource;
 use std::fs::Files;
@@ -84,8 +84,8 @@ fn check_count<H: AllocGlobal + Eprint>(rt: &H, groups: usize) -> Result<(), Exi
             &"nothing to serve: give GROUP=URL, --table FILE or --demo",
             BAD_WORD,
         )),
-        1..=64 => Ok(()),
-        _ => Err(refuse(rt, &"there are more than 64 groups", BAD_WORD)),
+        _ if groups > MAX_GROUPS => Err(refuse(rt, &GroupFault::Groups, BAD_WORD)),
+        _ => Ok(()),
     }
 }
 

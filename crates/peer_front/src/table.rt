@@ -1,14 +1,11 @@
 //! The table that is served.
 
-use peer_table::{TableFault, TableSource};
+use peer_table::{TABLE_READS, TableFault, TableSource};
 use peer_view::StdReader;
 use std::alloc::Global;
 use std::fs::Files;
 use std::{fs, io};
 use thiserror::Error;
-
-// How many reads are made at most for a table.
-const TABLE_READS: u64 = 1_000_000;
 
 /// Why no table could be read.
 #[derive(Debug, Drop, Error)]

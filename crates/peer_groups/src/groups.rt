@@ -3,7 +3,7 @@
 use crate::beside::Beside;
 use crate::maybe::Maybe;
 use peer_origin::{Origin, OriginSource, Place, PlaceFault};
-use peer_source::{DemoSource, Source};
+use peer_source::{DemoSource, MAX_GROUPS, Source};
 use peer_table::TableSource;
 use std::alloc::Global;
 use std::net::{Net, TcpListener, TcpStream};
@@ -14,9 +14,6 @@ pub type FrontSource<'a, H> = Beside<
     Beside<Maybe<TableSource>, OriginSource<'a, H>>,
     Maybe<DemoSource>,
 >;
-
-// The most groups of a pool.
-const MAX_GROUPS: usize = 64;
 
 /// Why a word names no group and its origin.
 #[derive(Clone, Copy, Debug, PartialEq, Eq, Error)]

@@ -5,12 +5,10 @@ ghost use Rattle.peer_lane.specs.Lanes.{tickets_put, tickets_taken, tickets_know
 
 use crate::lane_in::LaneIn;
 use crate::lane_out::LaneOut;
+use peer_flight::MAX_TICKETS;
 use peer_source::Source;
 use rtrb::RingBuffer;
 use std::alloc::{AllocError, Global};
-
-/// How many tickets a lane has room for.
-const PLACES: usize = 64;
 
 /// A lane of 64 tickets, which has none yet.
 pub fn lane<S: Source>(alloc: Global) -> Result<(LaneIn<S>, LaneOut<S>), AllocError>
@@ -20,7 +18,7 @@ pub fn lane<S: Source>(alloc: Global) -> Result<(LaneIn<S>, LaneOut<S>), AllocEr
     ensures taken { IfOk result (λ ends. tickets_taken ends.1 ≡ []) }
     ensures known { IfOk result (λ ends. tickets_known ends.1 ≡ []) }
 {
-    let (producer, consumer) = RingBuffer::new(alloc, PLACES)?;
+    let (producer, consumer) = RingBuffer::new(alloc, MAX_TICKETS)?;
     Ok((LaneIn { producer }, LaneOut { consumer }))
 }
 

@@ -1,7 +1,7 @@
 //! The thread that accepts: it deals streams to the loops in turn.
 //!
 //! Where no more connections can be had, new clients wait in the backlog of the system until one ends. Once the server was
-//! told to stop, it accepts no more.
+//! told to stop, or has accepted as many as it is to, it accepts no more and lets go of the listener.
 
 use crate::listening::Listening;
 use crate::site::Site;

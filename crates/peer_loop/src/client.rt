@@ -7,7 +7,7 @@ ghost use Rattle.peer_loop.specs.Parts.{KeepsParts};
 
 use crate::client_state::ClientState;
 use crate::facts::Facts;
-use crate::limits::{ASKS_OF_ROUND, Limits, MAX_UNCOUNTED, ROUNDS_OF_TURN};
+use crate::limits::{ASKS_OF_ROUND, MAX_UNCOUNTED, ROUNDS_OF_TURN};
 use crate::occupancy::Occupancy;
 use crate::seat::{Asked, LoopSeat};
 use crate::stream::{Readiness, skip};
@@ -16,6 +16,7 @@ use mio::net::TcpStream;
 use mio::{Interest, Registry, Token};
 use peer_exchange::Exchange;
 use peer_fetch::{was_interrupted, would_block};
+use peer_limits::Limits;
 use peer_source::Source;
 use std::cmp::min;
 use std::io;

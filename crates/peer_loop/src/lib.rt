@@ -38,7 +38,6 @@ mod wait_lists;
 mod work;
 
 pub use fillers::Fillers;
-pub use limits::Limits;
 pub use server::{ServerFault, serve_fetching, serve_loops};
 pub use settings::Settings;
 pub use stop::Stop;

@@ -3,7 +3,7 @@ ghost use Rattle.std.specs.Prelude.{◌≡◌, IfSome};
 
 use crate::bells::Bells;
 use crate::event_loop::Waits;
-use crate::limits::{MAX_EVENTS, MAX_READ};
+use crate::limits::MAX_EVENTS;
 use crate::listening::Listening;
 use crate::mailbox::Mailbox;
 use crate::mailboxes::Mailboxes;
@@ -12,6 +12,7 @@ use crate::settings::Orders;
 use crate::work::{FillerParts, LoopParts, ThreadParts};
 use mio::{Events, Poll};
 use peer_fetch::FetchParts;
+use peer_head::HEAD_LIMIT;
 use std::alloc::Global;
 use std::net::{Net, TcpListener};
 
@@ -41,7 +42,7 @@ fn open_loop<H: Net>(
     let poll = Poll::new(rt).ok()?;
     mailboxes.each.push(Mailbox::new(alloc, &poll)?).ok()?;
     let events = Events::with_capacity(alloc, MAX_EVENTS).ok()?;
-    let buffer = vec![in alloc; 0; MAX_READ].ok()?;
+    let buffer = vec![in alloc; 0; HEAD_LIMIT].ok()?;
     let waits = Waits { poll, events };
     loops.push(LoopParts { waits, buffer }).ok()
 }

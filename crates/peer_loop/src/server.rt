@@ -140,8 +140,9 @@ fn over_pool<S: Source, L: Ledger + Send + Sync, H: Host>(
 }
 
 /// Serves the listener's clients until so many connections as the settings say were accepted and have ended, or until it
-/// was told to stop, and gives the pool's report. Where there is a plan, threads that fill fetch the values of its groups,
-/// each with hundreds under way. They call the source for all others, and so do loops that fill, for all groups.
+/// was told to stop, and gives the pool's report. Once it accepts no more it lets go of the listener, and then waits for the
+/// clients that it has. Where there is a plan, threads that fill fetch the values of its groups, each with hundreds under
+/// way. They call the source for all others, and so do loops that fill, for all groups.
 pub fn serve_fetching<S: Source, H>(
     rt: &H,
     alloc: Global,

@@ -1,9 +1,9 @@
 //! How a server serves.
 
 use crate::fillers::Fillers;
-use crate::limits::Limits;
 use crate::stop::Stop;
 use peer_fetch::FetchPlan;
+use peer_limits::Limits;
 use peer_stats::Counters;
 use std::hash::RandomState;
 

@@ -2,10 +2,10 @@
 
 use crate::bells::Bells;
 use crate::fill_gate::FillGate;
-use crate::limits::Limits;
 use crate::mailbox::Mailbox;
 use crate::mailboxes::Mailboxes;
 use crate::occupancy::Occupancy;
+use peer_limits::Limits;
 use peer_stats::Counters;
 
 /// What the threads of a server share.

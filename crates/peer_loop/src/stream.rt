@@ -1,10 +1,11 @@
 //! What the system reports of a client's stream, and how a stream is read for nothing behind a closing reply.
 
 use crate::client_state::ClientState;
-use crate::limits::{MAX_SKIPPED, ROUNDS_OF_TURN};
+use crate::limits::ROUNDS_OF_TURN;
 use mio::event::Event;
 use mio::net::TcpStream;
 use peer_fetch::{was_interrupted, would_block};
+use peer_limits::MAX_SKIPPED;
 use std::io::Read;
 
 /// What the system reported, and no call has found otherwise since.

@@ -15,8 +15,8 @@ use std::alloc::{AllocError, Global};
 use std::collections::VecDeque;
 use std::marker::Model;
 
-/// A value of more bytes is lent, and not copied.
-const MAX_COPIED: usize = 8192;
+/// A part of more bytes is sent from where it lies, and not copied.
+pub const MAX_COPIED: usize = 8192;
 
 /// How many pieces have room that is kept while none is there.
 const KEPT_PIECES: usize = 4;

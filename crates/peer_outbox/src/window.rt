@@ -1,13 +1,11 @@
 //! How many tickets of an exchange may wait.
 //!
-//! It stands on nothing. It promises 1 to 64, by the lengths of the replies that were put.
+//! It stands on the number of tickets of `peer_flight`. It promises 1 to 64, by the lengths of the replies that were put.
 ghost use Rattle.std.specs.Prelude.{◌≡◌, ◌≤◌, ◌*◌};
 ghost use Rattle.peer_outbox.specs.Windows.{window_after};
 
+use peer_flight::MAX_TICKETS;
 use std::cmp::{max, min};
-
-/// The most tickets that wait.
-pub const MAX_WAITING: usize = 64;
 
 /// Where so many bytes wait to be sent, nothing is asked or put until some were sent.
 pub const MAX_UNSENT: usize = 65_536;
@@ -27,7 +25,7 @@ fn tickets_after(len: usize, tickets: usize) -> usize
     ensures { result ≡ window_after len tickets }
 {
     let fill = MAX_UNSENT / max(len, 1);
-    max(min(fill, min(2 * tickets, MAX_WAITING)), 1)
+    max(min(fill, min(2 * tickets, MAX_TICKETS)), 1)
 }
 
 impl Window {

@@ -27,7 +27,7 @@ use peer_fill::Report;
 use peer_host::Host;
 use peer_socket::peer_server;
 use peer_source::{DemoSource, Source};
-use peer_table::{NamedTable, TableSource, TableText};
+use peer_table::{NamedTable, TABLE_READS, TableSource, TableText};
 use peer_view::{StdReader, StdWriter};
 use std::hash::RandomState;
 use std::io::Write;
@@ -39,9 +39,6 @@ use std::sync::Wait;
 use std::thread::Threads;
 use std::time::Clock;
 use std::{env, io};
-
-/// How many reads are made at most for a table.
-const TABLE_READS: u64 = 1_000_000;
 
 /// How many bytes of keys and values the cache of each group keeps.
 const CACHE_BYTES: u64 = 1_048_576;

@@ -4,13 +4,13 @@ ghost use Rattle.peer_fill.specs.Claiming.{KeepsSeat};
 ghost use Rattle.peer_fill.specs.Pools.{IsConnSeatOf};
 
 use crate::client::Client;
-use crate::limits::Limits;
 use crate::occupancy::Occupancy;
 use crate::rounds::Rounds;
 use crate::start::Start;
 use crate::stream::serve_client;
 use peer_fill::{ConnSeat, Pool};
 use peer_host::Host;
+use peer_limits::Limits;
 use peer_source::Source;
 use std::alloc::Global;
 use std::net::{TcpListener, TcpStream};

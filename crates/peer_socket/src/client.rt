@@ -1,7 +1,7 @@
 //! The client of one connection: its stream, what it is allowed, and whether something was written to it.
 
-use crate::limits::Limits;
 use crate::occupancy::Occupancy;
+use peer_limits::Limits;
 use std::io;
 use std::io::ErrorKind;
 use std::net::TcpStream;
@@ -28,7 +28,7 @@ pub fn is_timeout(error: &io::Error) -> bool {
 }
 
 impl<'a, H: Clock> Client<'a, H> {
-    /// A client whose stream sends at once and waits for a slice at most, or none where the stream refuses that.
+    /// A client whose stream sends at once and waits for a tick at most, or none where the stream refuses that.
     pub fn new(
         rt: &'a H,
         stream: &'a TcpStream,
@@ -36,8 +36,8 @@ impl<'a, H: Clock> Client<'a, H> {
         occupancy: &'a Occupancy,
     ) -> Option<Client<'a, H>> {
         stream.set_nodelay(true).ok()?;
-        stream.set_read_timeout(Some(limits.slice)).ok()?;
-        stream.set_write_timeout(Some(limits.slice)).ok()?;
+        stream.set_read_timeout(Some(limits.tick)).ok()?;
+        stream.set_write_timeout(Some(limits.tick)).ok()?;
         Some(Client {
             rt,
             stream,

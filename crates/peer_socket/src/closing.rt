@@ -1,6 +1,7 @@
 //! The close of a connection behind a closing reply (RFC 9112, section 9.6).
 
 use crate::client::Client;
+use peer_limits::MAX_SKIPPED;
 use std::io::Read;
 use std::net::Shutdown;
 use std::time::{Clock, Duration, Instant};
@@ -31,9 +32,8 @@ pub fn linger<H: Clock>(client: &Client<'_, H>) {
         return;
     }
     let mut room = [0u8; 4096];
-    let most = client.limits().linger_bytes;
-    let mut left = most;
-    for _ in 0..most {
+    let mut left = MAX_SKIPPED;
+    for _ in 0..MAX_SKIPPED {
         match skip(client, begun, &mut room) {
             Some(n) if n < left => left -= n,
             _ => return,

@@ -10,7 +10,6 @@ mod client;
 mod client_reader;
 mod client_writer;
 mod closing;
-mod limits;
 mod occupancy;
 mod rounds;
 mod seat_threads;
@@ -19,5 +18,4 @@ mod start;
 mod stream;
 mod threads;
 
-pub use limits::Limits;
 pub use server::{ServerFault, Settings, peer_server, serve_within};

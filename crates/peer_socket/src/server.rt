@@ -6,10 +6,10 @@ ghost use Rattle.peer_fill.specs.Lists.{Balances};
 ghost use Rattle.peer_socket.specs.Serving.{ServesWith};
 
 use crate::acceptor::Acceptor;
-use crate::limits::Limits;
 use crate::threads::use_seats;
 use peer_fill::{OpenFault, Opened, Pool, Report, Seats};
 use peer_host::Host;
+use peer_limits::Limits;
 use peer_source::Source;
 use std::alloc::Global;
 use std::hash::RandomState;

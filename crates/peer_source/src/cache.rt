@@ -21,8 +21,8 @@ use std::hash::RandomState;
 use std::marker::{Model, PhantomData};
 use std::num::NonZeroUsize;
 
-// The most entries of a cache.
-const MAX_ENTRIES: usize = 4096;
+/// The most entries of a cache.
+pub const MAX_ENTRIES: usize = 4096;
 
 /// The values found last for the keys of a group. The bytes of an entry are those of its key and of its value.
 #[derive(Drop)]

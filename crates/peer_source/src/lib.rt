@@ -17,12 +17,12 @@ mod lent_key;
 mod names;
 mod source;
 
-pub use cache::MainCache;
+pub use cache::{MAX_ENTRIES, MainCache};
 pub use demo::DemoSource;
 pub use entries::Evicted;
 pub use fill::{Fill, Outcome};
 pub use functional::FunctionalSource;
-pub use group::GroupId;
+pub use group::{GroupId, MAX_GROUPS};
 pub use kept::Kept;
 pub use names::Names;
 pub use source::{GetFault, GetResult, Source};

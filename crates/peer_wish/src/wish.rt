@@ -100,18 +100,18 @@ fn head_body<'h, S: Source>(
 ) -> Result<LentBody<'h>, AllocError>
     ensures { IfOk result (λ b. lent_body b ≡ head_body (S.number_of names.now) head.now) }
 {
-    if is_served(head.method()) {
+    if is_served(head) {
         target_body(alloc, names, head.target())
     } else {
         Ok(LentBody::Fault(Fault::Method))
     }
 }
 
-// Whether requests of this method are answered.
-fn is_served(method: &[u8]) -> bool
-    ensures { result ≡ is_served method.now }
+// Whether requests of its method are answered.
+fn is_served(head: &HeadView<'_>) -> bool
+    ensures { result ≡ is_served head.now.method }
 {
-    method == b"GET".as_slice() || method == b"HEAD".as_slice()
+    head.method() == b"GET".as_slice() || head.is_bare()
 }
 
 // What a target asks for.

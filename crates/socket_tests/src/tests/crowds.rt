@@ -1,9 +1,9 @@
 //! Whom a server keeps and whom it gives up, by how many of its seats are taken.
 
-use super::plans::{Kind, patient, plan_of};
+use super::plans::{Kind, attentive, plan_of};
 use super::visits::Visit::{Asks, Comes, Pauses, SaysNothing};
 use super::visits::{Visit, serves};
-use peer_loop::Limits;
+use peer_limits::Limits;
 use std::net::{Net, TcpListener, TcpStream};
 use std::random::RandomSource;
 use std::sync::Wait;
@@ -15,7 +15,7 @@ use std::time::{Clock, Duration};
 fn silence_when_full(milliseconds: u64) -> Limits {
     Limits {
         silence_when_full: Duration::from_millis(milliseconds),
-        ..patient()
+        ..attentive()
     }
 }
 
@@ -23,7 +23,7 @@ fn silence_when_full(milliseconds: u64) -> Limits {
 fn request_when_full(milliseconds: u64) -> Limits {
     Limits {
         request_when_full: Duration::from_millis(milliseconds),
-        ..patient()
+        ..attentive()
     }
 }
 

@@ -4,7 +4,7 @@ use super::clients::{connect, is_served, send};
 use super::plans::{Kind, attentive, plan_of};
 use super::servers::{beside, has_asked};
 use super::visits::{Visit, both_serve};
-use peer_loop::Limits;
+use peer_limits::Limits;
 use peer_source::DemoSource;
 use std::net::{Net, SocketAddr, TcpListener, TcpStream};
 use std::sync::Wait;

@@ -2,7 +2,7 @@
 
 use super::plans::{attentive, plan_of};
 use super::visits::{Visit, both_serve};
-use peer_loop::Limits;
+use peer_limits::Limits;
 use std::test::Fail;
 use std::time::Duration;
 

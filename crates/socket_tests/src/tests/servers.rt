@@ -5,28 +5,14 @@ use super::loop_servers::{Outside, settings_of};
 use super::plans::{Kind, Plan};
 use peer_fill::Report;
 use peer_loop::serve_loops;
-use peer_socket::{Limits, Settings, peer_server, serve_within};
+use peer_socket::{Settings, peer_server, serve_within};
 use peer_source::{DemoSource, Source};
 use std::net::{Net, SocketAddr, TcpListener, TcpStream};
 use std::sync::Wait;
 use std::test::Fail;
 use std::thread;
 use std::thread::Threads;
-use std::time::{Clock, Duration};
-
-// The limits of a server in threads.
-fn limits_of(limits: peer_loop::Limits) -> Limits {
-    Limits {
-        slice: Duration::from_millis(20),
-        silence: limits.silence,
-        silence_when_full: limits.silence_when_full,
-        request_when_full: limits.request_when_full,
-        unread: limits.unread,
-        linger: limits.linger,
-        linger_bytes: 1_048_576,
-        pause: limits.pause,
-    }
-}
+use std::time::Clock;
 
 // A server in threads that serves as the plan says.
 fn seats_of(plan: &Plan) -> Settings {
@@ -36,7 +22,7 @@ fn seats_of(plan: &Plan) -> Settings {
         rounds: plan.rounds,
         cache_bytes: plan.cache_bytes,
         seed: plan.seed,
-        limits: limits_of(plan.limits),
+        limits: plan.limits,
     }
 }
 
