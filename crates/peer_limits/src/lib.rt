@@ -16,7 +16,8 @@ pub struct Limits {
     /// the shortest of them.
     pub tick: Duration,
     /// How long a client may neither send nor take anything. An idle client of Go keeps a connection for 90 s; it opens
-    /// another where the server closed one. A client that waits for its value is not silent.
+    /// another where the server closed one. On loops a client that waits for its value is not silent; in threads it may
+    /// send nothing for so long, and is answered what it asked before it is closed.
     pub silence: Duration,
     /// The same where no more connections can be had, since idle ones would otherwise lock everyone out.
     pub silence_when_full: Duration,

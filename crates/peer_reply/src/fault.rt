@@ -16,11 +16,11 @@ pub enum Fault {
     NotAHead,
     /// There is a transfer coding, and none is known (RFC 9112, section 6.1).
     TransferCoding,
-    /// The content length is no number, or there are several (RFC 9112, section 6.3).
+    /// The content length is no number, or there are several that differ (RFC 9112, section 6.3).
     BadLength,
     /// There is content, and none is accepted (RFC 9110, section 15.5.14).
     Content,
-    /// There is not exactly one host (RFC 9112, section 3.2).
+    /// There are several hosts, or HTTP/1.1 has none (RFC 9112, section 3.2).
     Host,
     /// The method is neither GET nor HEAD (RFC 9110, section 15.5.6).
     Method,
