@@ -111,6 +111,18 @@ impl<'p, S: Source> Exchange<'p, S> {
         self.state.end();
     }
 
+    /// One ticket waits at most until replies were put, as for a new client: so a client holds one value at most, and not 64,
+    /// while all clients together hold too much.
+    pub fn narrow(&mut self)
+        ensures histories { KeepsHistories self.old self.new }
+        ensures stage { self.new.state.intake.stage ≡ self.old.state.intake.stage }
+        ensures waiting { self.new.state.waiting.items ≡ self.old.state.waiting.items }
+        ensures unsent { unsent self.new.state ≡ unsent self.old.state }
+        ensures window { self.new.state.window.tickets ≡ 1 }
+    {
+        self.state.narrow();
+    }
+
     /// The first bytes that are to be sent: some, where there are any. Short replies lie together, and a long value is lent
     /// from where its fill has it.
     pub fn output(&self) -> &[u8]

@@ -115,6 +115,17 @@ impl<S: Source> ExchangeState<S> {
         self.intake.end();
     }
 
+    /// One ticket waits at most, until replies were put.
+    pub(crate) fn narrow(&mut self)
+        ensures keeps { (numbers : List ℕ → Option ℕ) → Keeps numbers (allows S.allowed) self.old self.new }
+        ensures stage { self.new.intake.stage ≡ self.old.intake.stage }
+        ensures waiting { self.new.waiting.items ≡ self.old.waiting.items }
+        ensures unsent { unsent self.new ≡ unsent self.old }
+        ensures window { self.new.window.tickets ≡ 1 }
+    {
+        self.window = Window::new();
+    }
+
     /// The first bytes that are to be sent: some, where there are any.
     pub(crate) fn output(&self) -> &[u8]
         ensures lent { result.now ≡ lent self.now }

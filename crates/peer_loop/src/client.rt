@@ -51,6 +51,8 @@ pub struct Client<'a, S: Source, F: Facts<S>> {
     active: Duration,
     // When the stream last took bytes, or the client came.
     taken: Duration,
+    // Since when bytes have come with nothing sent behind them.
+    unanswered: Option<Duration>,
     ghost source: { F.source ≡ Some exchange.names },
 }
 
@@ -76,6 +78,7 @@ impl<'a, S: Source, F: Facts<S>> Client<'a, S, F> {
             is_for_room: false,
             active: now,
             taken: now,
+            unanswered: None,
         }
     }
 
@@ -121,6 +124,7 @@ impl<'a, S: Source, F: Facts<S>> Client<'a, S, F> {
                 // Where memory is refused, the connection is over.
                 let _ = self.exchange.receive(&buffer[..n]);
                 self.active = now;
+                self.unanswered = self.unanswered.or(Some(now));
                 // Less than there was room for is all that has come.
                 self.readiness.readable = n == room || self.readiness.read_closed;
             }
@@ -141,6 +145,7 @@ impl<'a, S: Source, F: Facts<S>> Client<'a, S, F> {
                     self.exchange.sent(n);
                     self.active = now;
                     self.taken = now;
+                    self.unanswered = None;
                 }
                 Err(error) if would_block(&error) => self.readiness.writable = false,
                 Err(error) if was_interrupted(&error) => {}
@@ -169,7 +174,7 @@ impl<'a, S: Source, F: Facts<S>> Client<'a, S, F> {
     }
 
     // Asks and answers, as far as that goes in one round. Where all clients together hold too much, it asks only where it
-    // holds nothing itself.
+    // holds nothing itself, and for one value.
     fn serve<L: Ledger, H: Wait>(
         &mut self,
         rt: &H,
@@ -180,8 +185,11 @@ impl<'a, S: Source, F: Facts<S>> Client<'a, S, F> {
         ensures parts { KeepsParts seat.old.seats seat.new.seats }
     {
         for _ in 0..ASKS_OF_ROUND {
-            if occupancy.holds_too_much() && !self.holds_nothing() {
-                return seat.answer(&mut self.exchange);
+            if occupancy.holds_too_much() {
+                if !self.holds_nothing() {
+                    return seat.answer(&mut self.exchange);
+                }
+                self.exchange.narrow();
             }
             let asked = seat.serve(rt, &mut self.exchange);
             if asked != Asked::More {
@@ -274,20 +282,27 @@ impl<'a, S: Source, F: Facts<S>> Client<'a, S, F> {
         ClientState::Busy
     }
 
-    /// Whether it is to be let go for its silence, or since it takes nothing.
+    // Whether it sends for so long without a reply being sent that it is to be let go where no more connections can be had.
+    fn is_slow(&self, now: Duration, limits: &Limits) -> bool {
+        match self.unanswered {
+            Some(since) => now.saturating_sub(since) > limits.request_when_full,
+            None => false,
+        }
+    }
+
+    /// Whether it is to be let go for its silence, since it takes nothing, or since it is slow.
     pub fn is_overdue(&self, now: Duration, limits: &Limits, full: bool) -> bool {
         let silent = now.saturating_sub(self.active);
         if self.lingers {
             return silent > limits.linger;
         }
-        let unread = now.saturating_sub(self.taken);
         if !self.exchange.output().is_empty() {
-            return unread > limits.unread;
+            return now.saturating_sub(self.taken) > limits.unread;
         }
         if self.awaits().is_some() || self.is_for_room {
             return false;
         }
         silent > limits.silence
-            || full && (silent > limits.silence_when_full || unread > limits.request_when_full)
+            || full && (silent > limits.silence_when_full || self.is_slow(now, limits))
     }
 }

@@ -161,15 +161,23 @@ impl<'a, S: Source, F: Facts<S>> Turns<'a, S, F> {
         }
     }
 
-    // Lets those go that were silent, or took nothing, for too long.
+    // Counts what a client holds, for which values may have come since its turn, and says whether it is to be let go.
+    fn look_at(&mut self, key: usize, full: bool) -> bool {
+        let site = self.shared.site;
+        match self.clients.each.get_mut(key) {
+            Some(client) => {
+                client.count_held(site.occupancy);
+                client.is_overdue(self.now, site.limits, full)
+            }
+            None => false,
+        }
+    }
+
+    // Lets those go that were silent, or took nothing, for too long, and counts what the others hold.
     fn sweep(&mut self) {
         let full = self.shared.site.occupancy.is_full();
         for key in 0..self.clients.each.capacity() {
-            let overdue = match self.clients.each.get(key) {
-                Some(client) => client.is_overdue(self.now, self.shared.site.limits, full),
-                None => false,
-            };
-            if overdue {
+            if self.look_at(key, full) {
                 self.forget(key);
             }
         }

@@ -61,6 +61,19 @@ fn a_client_that_comes_late_is_not_silent(rt: HostRuntime) -> Result<(), Fail> {
     Ok(())
 }
 
+// A request takes as long as it is not answered, and not as long as the client was idle before it.
+#[test]
+fn a_client_that_was_idle_is_not_slow(rt: HostRuntime) -> Result<(), Fail> {
+    let limits = Limits {
+        request_when_full: Duration::from_millis(500),
+        ..attentive()
+    };
+    let plan = plan_of(&rt, 1, 1, 1)?.within(limits);
+    let seen = both_serve(&rt, &plan, &[Visit::Pauses(1000)], 2)?;
+    assert_eq!(rt; seen, [[true; 2]; 2]);
+    Ok(())
+}
+
 // Whether a client beside one that asks so often and takes nothing is served.
 fn ask_beside_greedy<
     H: AllocGlobal + Net<Listener = TcpListener, Stream = TcpStream> + Wait + Clock,
