@@ -1,9 +1,22 @@
 -- What a value is that a fetch found, and what answer it is.
-use Rattle.std.specs.Prelude.{◌≡◌, ◌⊎◌, ℕ, Option, Some, None, Vec}
+use Rattle.std.specs.Prelude.{◌≡◌, ◌⊎◌, ℕ, List, Option, Some, None, Vec}
 use Rattle.std.specs.declared.alloc.Global.{Global}
+use Rattle.peer_origin.specs.Fetches.{Use}
 use Rattle.peer_source.specs.Answers.{Answer}
-use Rattle.peer_fetch.specs.Fetchings.{IsFoundIn}
+use Rattle.peer_fetch.specs.Fetchings.{GoesOnAnew, IsFoundIn, uses_by}
 use Rattle.peer_fetch.specs.declared.fetching.Fetching.{Fetching}
+
+-- the uses of all connections of a fetch, the last one first
+abbrev pub uses_of : Fetching → List Use
+uses_of f = uses_by f.request.items f.sent f.receiving.came.bytes f.ended f.first
+
+-- the same request once more, behind the one use of a connection on which nothing came
+abbrev pub IsSecondTry : Fetching → Fetching → Type 0
+IsSecondTry f f' = (f'.request.items ≡ f.request.items) × GoesOnAnew f.request.items (uses_of f) (uses_of f')
+
+-- the same request in the same try, so much of it sent
+abbrev pub IsSameTry : Fetching → Fetching → Type 0
+IsSameTry f f' = (f'.request.items ≡ f.request.items) × (f'.sent ≡ f.sent) × (f'.first ≡ f.first)
 
 -- the value was found on the connections of this very fetch
 abbrev pub IsFoundBy : Fetching → Vec ℕ Global → Type 0

@@ -4,7 +4,7 @@
 //! It stands on the reply as a state of `peer_http`. It promises that a value which is found is the content of a whole
 //! reply with status 200, on bytes that came on a connection on which the whole request was sent, and that two requests are
 //! sent at most: the second behind a connection on which nothing came.
-ghost use Rattle.std.specs.Prelude.{◌≡◌, ◌+◌, ◌≤◌, ◌++◌, [], drop, length, IfOk, IfSome, IsTrue};
+ghost use Rattle.std.specs.Prelude.{◌≡◌, ◌+◌, ◌≤◌, ◌++◌, [], drop, false, length, true, IfOk, IfSome, IsTrue, None};
 ghost use Rattle.peer_view.specs.Sinks.{MAX_VALUE};
 ghost use Rattle.peer_http.specs.Asks.{Awaits};
 ghost use Rattle.peer_fetch.specs.Fetchings.{GoesOnAnew, IsFoundIn, uses_by};
@@ -74,6 +74,10 @@ impl Fetching {
     pub fn new(alloc: Global, asked: Asked) -> Fetching
         requires { Awaits asked.client }
         ensures request { result.request.items ≡ asked.bytes.items }
+        ensures sent { result.sent ≡ 0 }
+        ensures came { result.receiving.came.bytes ≡ [] }
+        ensures ended { result.ended ≡ false }
+        ensures first { result.first ≡ None }
     {
         let Asked { client, bytes } = asked;
         Fetching {
@@ -98,6 +102,7 @@ impl Fetching {
         ensures sent { self.new.sent ≡ self.old.sent + n }
         ensures request { self.new.request.items ≡ self.old.request.items }
         ensures came { self.new.receiving.came.bytes ≡ self.old.receiving.came.bytes }
+        ensures ended { self.new.ended ≡ self.old.ended }
         ensures first { self.new.first ≡ self.old.first }
     {
         self.sent += n;
@@ -116,6 +121,7 @@ impl Fetching {
         ensures request { self.new.request.items ≡ self.old.request.items }
         ensures sent { self.new.sent ≡ self.old.sent }
         ensures came { self.new.receiving.came.bytes ≡ self.old.receiving.came.bytes ++ bytes.now }
+        ensures ended { self.new.ended ≡ self.old.ended }
         ensures first { self.new.first ≡ self.old.first }
         ensures within { IfOk result (λ given. IfSome given (λ a. IfOk a.value (λ v. length v.items ≤ MAX_VALUE))) }
         ensures found { IfOk result (λ given. IfSome given (λ a. IfOk a.value (λ v.
@@ -134,6 +140,7 @@ impl Fetching {
         ensures request { self.new.request.items ≡ self.old.request.items }
         ensures sent { self.new.sent ≡ self.old.sent }
         ensures came { self.new.receiving.came.bytes ≡ self.old.receiving.came.bytes }
+        ensures ended { self.new.ended ≡ true }
         ensures first { self.new.first ≡ self.old.first }
         ensures within { IfOk result (λ a. IfOk a.value (λ v. length v.items ≤ MAX_VALUE)) }
         ensures found { IfOk result (λ a. IfOk a.value (λ v.

@@ -1,8 +1,8 @@
 //! A value under way: a job, the place of its origin, and the fetch.
-ghost use Rattle.std.specs.Prelude.{◌≡◌, ◌+◌, ◌≤◌, length, IfOk, IfSome, IsTrue};
+ghost use Rattle.std.specs.Prelude.{◌≡◌, ◌+◌, ◌≤◌, ◌++◌, [], ◌∷◌, false, length, true, Err, IfErr, IfOk, IfSome, IsTrue, Ok};
 ghost use Rattle.peer_view.specs.Sinks.{MAX_VALUE};
-ghost use Rattle.peer_fetch.specs.Fetchings.{request_at};
-ghost use Rattle.peer_fetch.specs.Values.{IsFoundBy};
+ghost use Rattle.peer_fetch.specs.Fetchings.{request_at, use_by};
+ghost use Rattle.peer_fetch.specs.Values.{uses_of, IsFoundBy, IsSameTry, IsSecondTry};
 
 use crate::done::{Done, Fetched};
 use crate::fetching::{Answer, Fetching};
@@ -29,7 +29,11 @@ impl<'a, S: Source> UnderWay<'a, S> {
         place: &'a Place,
         job: TakenJob<S>,
         due: Duration,
-    ) -> Result<UnderWay<'a, S>, Done<'a, S>> {
+    ) -> Result<UnderWay<'a, S>, Done<'a, S>>
+        ensures kept { IfOk result (λ u. (u.place ≡ place.entry) × (u.job ≡ job) × (u.due ≡ due)) }
+        ensures unused { IfOk result (λ u. uses_of u.fetching ≡ use_by u.fetching.request.items 0 [] false ∷ []) }
+        ensures given_back { IfErr result (λ d. (d.place ≡ place.entry) × (d.job ≡ job) × IfOk d.got (λ _. ⊥)) }
+    {
         match request(alloc, &place.host, &place.prefix, job.key()) {
             Ok(asked) => Ok(UnderWay {
                 place,
@@ -46,7 +50,11 @@ impl<'a, S: Source> UnderWay<'a, S> {
     }
 
     /// The fetch begins anew, on a new connection, where this may be.
-    pub fn again(self, alloc: Global) -> Result<UnderWay<'a, S>, Done<'a, S>> {
+    pub fn again(self, alloc: Global) -> Result<UnderWay<'a, S>, Done<'a, S>>
+        ensures kept { IfOk result (λ u. (u.place ≡ self.entry.place) × (u.job ≡ self.entry.job) × (u.due ≡ self.entry.due)) }
+        ensures second { IfOk result (λ u. IsSecondTry self.entry.fetching u.fetching) }
+        ensures given_back { IfErr result (λ d. (d.place ≡ self.entry.place) × (d.job ≡ self.entry.job) × IfOk d.got (λ _. ⊥)) }
+    {
         let UnderWay {
             place,
             job,
@@ -79,12 +87,16 @@ impl<'a, S: Source> UnderWay<'a, S> {
     }
 
     /// The place of its origin.
-    pub fn place(&self) -> &'a Place {
+    pub fn place(&self) -> &'a Place
+        ensures { result ≡ self.now.place }
+    {
         self.place
     }
 
     /// When it is given up.
-    pub fn due(&self) -> Duration {
+    pub fn due(&self) -> Duration
+        ensures { result ≡ self.now.due }
+    {
         self.due
     }
 
@@ -98,6 +110,12 @@ impl<'a, S: Source> UnderWay<'a, S> {
     /// So many bytes were sent.
     pub fn sent(&mut self, n: usize)
         requires { self.old.fetching.sent + n ≤ length self.old.fetching.request.items }
+        ensures kept { (self.new.place ≡ self.old.place) × (self.new.job ≡ self.old.job) × (self.new.due ≡ self.old.due) }
+        ensures sent { self.new.fetching.sent ≡ self.old.fetching.sent + n }
+        ensures request { self.new.fetching.request.items ≡ self.old.fetching.request.items }
+        ensures came { self.new.fetching.receiving.came.bytes ≡ self.old.fetching.receiving.came.bytes }
+        ensures ended { self.new.fetching.ended ≡ self.old.fetching.ended }
+        ensures first { self.new.fetching.first ≡ self.old.fetching.first }
     {
         self.fetching.sent(n);
     }
@@ -112,6 +130,10 @@ impl<'a, S: Source> UnderWay<'a, S> {
     /// Bytes come. Gives the answer, once the reply is whole.
     pub fn receive(&mut self, bytes: &[u8]) -> Result<Option<Answer>, Failure>
         requires { length self.old.fetching.request.items ≤ self.old.fetching.sent }
+        ensures kept { (self.new.place ≡ self.old.place) × (self.new.job ≡ self.old.job) × (self.new.due ≡ self.old.due) }
+        ensures same { IsSameTry self.old.fetching self.new.fetching }
+        ensures came { self.new.fetching.receiving.came.bytes ≡ self.old.fetching.receiving.came.bytes ++ bytes.now }
+        ensures ended { self.new.fetching.ended ≡ self.old.fetching.ended }
         ensures within { IfOk result (λ given. IfSome given (λ a. IfOk a.value (λ v. length v.items ≤ MAX_VALUE))) }
         ensures found { IfOk result (λ given. IfSome given (λ a. IfOk a.value (IsFoundBy self.new.fetching))) }
     {
@@ -121,6 +143,10 @@ impl<'a, S: Source> UnderWay<'a, S> {
     /// The connection ended. Gives the answer, where the reply runs until then.
     pub fn end(&mut self) -> Result<Answer, Failure>
         requires { length self.old.fetching.request.items ≤ self.old.fetching.sent }
+        ensures kept { (self.new.place ≡ self.old.place) × (self.new.job ≡ self.old.job) × (self.new.due ≡ self.old.due) }
+        ensures same { IsSameTry self.old.fetching self.new.fetching }
+        ensures came { self.new.fetching.receiving.came.bytes ≡ self.old.fetching.receiving.came.bytes }
+        ensures ended { self.new.fetching.ended ≡ true }
         ensures within { IfOk result (λ a. IfOk a.value (λ v. length v.items ≤ MAX_VALUE)) }
         ensures found { IfOk result (λ a. IfOk a.value (IsFoundBy self.new.fetching)) }
     {
@@ -136,6 +162,9 @@ impl<'a, S: Source> UnderWay<'a, S> {
     pub fn done(self, got: Result<Vec<u8>, FetchFault>) -> Done<'a, S>
         requires within { IfOk got (λ v. length v.items ≤ MAX_VALUE) }
         requires found { IfOk got (IsFoundBy self.fetching) }
+        ensures kept { (result.place ≡ self.entry.place) × (result.job ≡ self.entry.job) }
+        ensures got { IfOk result.got (λ f. (f.by ≡ self.entry.fetching) × (got ≡ Ok f.value)) }
+        ensures fault { IfErr result.got (λ why. got ≡ Err why) }
     {
         let UnderWay {
             place,
