@@ -1,4 +1,8 @@
 //! A connection to an origin, and the value that is under way on it.
+//!
+//! It promises that a value stays on its connection from one turn to the next, or is given back with its own job.
+ghost use Rattle.std.specs.Prelude.{◌≡◌, IfSome, Some};
+ghost use Rattle.peer_fetch.specs.Turns.{IsTurnOf};
 
 use crate::done::Done;
 use crate::fetching::Answer;
@@ -75,7 +79,9 @@ impl<'a, S: Source> Link<'a, S> {
         origin: usize,
         next_address: usize,
         due: Duration,
-    ) -> Link<'a, S> {
+    ) -> Link<'a, S>
+        ensures { result.under ≡ Some under.entry }
+    {
         Link {
             stream,
             under: Some(under),
@@ -106,12 +112,16 @@ impl<'a, S: Source> Link<'a, S> {
     }
 
     // Puts the value that is under way.
-    fn put(&mut self, under: UnderWay<'a, S>) {
+    fn put(&mut self, under: UnderWay<'a, S>)
+        ensures { self.new.under ≡ Some under.entry }
+    {
         self.under = Some(under);
     }
 
     /// Asks for another value.
-    pub fn begin(&mut self, under: UnderWay<'a, S>) {
+    pub fn begin(&mut self, under: UnderWay<'a, S>)
+        ensures { self.new.under ≡ Some under.entry }
+    {
         self.readiness.readable = false;
         self.was_kept = true;
         self.put(under);
@@ -129,7 +139,9 @@ impl<'a, S: Source> Link<'a, S> {
     }
 
     // Sends and receives for a value.
-    fn exchange(&mut self, under: UnderWay<'a, S>, buffer: &mut [u8]) -> Turn<'a, S> {
+    fn exchange(&mut self, under: UnderWay<'a, S>, buffer: &mut [u8]) -> Turn<'a, S>
+        ensures { IsTurnOf under.entry self.new.under result }
+    {
         let mut under = under;
         let halt = match send(&mut self.stream, &mut under) {
             Some(halt) => halt,
@@ -172,7 +184,9 @@ impl<'a, S: Source> Link<'a, S> {
     }
 
     /// Goes on with the value that is under way.
-    pub fn turn(&mut self, buffer: &mut [u8], now: Duration) -> Turn<'a, S> {
+    pub fn turn(&mut self, buffer: &mut [u8], now: Duration) -> Turn<'a, S>
+        ensures { IfSome self.old.under (λ u. IsTurnOf u self.new.under result) }
+    {
         self.is_ready = false;
         let Some(under) = self.under.take() else {
             return if self.is_idle() {

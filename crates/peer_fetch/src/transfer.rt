@@ -1,6 +1,7 @@
 //! How the request for a value is sent over a stream that never waits, and its reply received.
 ghost use Rattle.std.specs.Prelude.{◌≤◌, length, IfOk, IfSome};
 ghost use Rattle.peer_view.specs.Sinks.{MAX_VALUE};
+ghost use Rattle.peer_fetch.specs.Turns.{HasSameJob};
 ghost use Rattle.peer_fetch.specs.Values.{IsFoundBy};
 
 use crate::fetching::Answer;
@@ -24,7 +25,9 @@ pub enum Halt {
 }
 
 /// Sends what is to be sent. None once all is.
-pub fn send<S: Source>(stream: &mut TcpStream, under: &mut UnderWay<'_, S>) -> Option<Halt> {
+pub fn send<S: Source>(stream: &mut TcpStream, under: &mut UnderWay<'_, S>) -> Option<Halt>
+    ensures { HasSameJob under.old under.new }
+{
     for _ in 0..ROUNDS {
         if under.is_sent() {
             return None;
@@ -66,6 +69,7 @@ fn read(
 // Takes in what was read, no byte being the end of the connection. None where there is no answer yet.
 fn take_in<S: Source>(under: &mut UnderWay<'_, S>, bytes: &[u8]) -> Result<Option<Answer>, Failure>
     requires { length under.old.fetching.request.items ≤ under.old.fetching.sent }
+    ensures kept { HasSameJob under.old under.new }
     ensures within { IfOk result (λ came. IfSome came (λ a. IfOk a.value (λ v. length v.items ≤ MAX_VALUE))) }
     ensures found { IfOk result (λ came. IfSome came (λ a. IfOk a.value (IsFoundBy under.new.fetching))) }
 {
@@ -83,6 +87,7 @@ pub fn receive<S: Source>(
     buffer: &mut [u8],
     readiness: &mut Readiness,
 ) -> Result<Answer, Halt>
+    ensures kept { HasSameJob under.old under.new }
     ensures within { IfOk result (λ a. IfOk a.value (λ v. length v.items ≤ MAX_VALUE)) }
     ensures found { IfOk result (λ a. IfOk a.value (IsFoundBy under.new.fetching)) }
 {
