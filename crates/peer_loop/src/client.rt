@@ -5,6 +5,7 @@
 ghost use Rattle.std.specs.Prelude.{◌≡◌, Some};
 ghost use Rattle.peer_loop.specs.Parts.{KeepsParts};
 
+use crate::activity::Activity;
 use crate::client_state::ClientState;
 use crate::facts::Facts;
 use crate::limits::{ASKS_OF_ROUND, MAX_UNCOUNTED, ROUNDS_OF_TURN};
@@ -47,12 +48,7 @@ pub struct Client<'a, S: Source, F: Facts<S>> {
     pub is_ready: bool,
     /// Whether it is on the list of those that wait for room in the queue of jobs.
     pub is_for_room: bool,
-    // When bytes last came or were taken, or its close began.
-    active: Duration,
-    // When the stream last took bytes, or the client came.
-    taken: Duration,
-    // Since when bytes have come with nothing sent behind them.
-    unanswered: Option<Duration>,
+    activity: Activity,
     ghost source: { F.source ≡ Some exchange.names },
 }
 
@@ -76,9 +72,7 @@ impl<'a, S: Source, F: Facts<S>> Client<'a, S, F> {
             counted: 0,
             is_ready: false,
             is_for_room: false,
-            active: now,
-            taken: now,
-            unanswered: None,
+            activity: Activity::new(now),
         }
     }
 
@@ -123,8 +117,7 @@ impl<'a, S: Source, F: Facts<S>> Client<'a, S, F> {
             Ok(n) => {
                 // Where memory is refused, the connection is over.
                 let _ = self.exchange.receive(&buffer[..n]);
-                self.active = now;
-                self.unanswered = self.unanswered.or(Some(now));
+                self.activity.note_came(now);
                 // Less than there was room for is all that has come.
                 self.readiness.readable = n == room || self.readiness.read_closed;
             }
@@ -143,9 +136,7 @@ impl<'a, S: Source, F: Facts<S>> Client<'a, S, F> {
             match self.stream.write(self.exchange.output()) {
                 Ok(n) => {
                     self.exchange.sent(n);
-                    self.active = now;
-                    self.taken = now;
-                    self.unanswered = None;
+                    self.activity.note_taken(now);
                 }
                 Err(error) if would_block(&error) => self.readiness.writable = false,
                 Err(error) if was_interrupted(&error) => {}
@@ -163,7 +154,7 @@ impl<'a, S: Source, F: Facts<S>> Client<'a, S, F> {
             return ClientState::Gone;
         }
         self.lingers = true;
-        self.active = now;
+        self.activity.note_close(now);
         skip(&mut self.stream, &mut self.skipped)
     }
 
@@ -282,27 +273,15 @@ impl<'a, S: Source, F: Facts<S>> Client<'a, S, F> {
         ClientState::Busy
     }
 
-    // Whether it sends for so long without a reply being sent that it is to be let go where no more connections can be had.
-    fn is_slow(&self, now: Duration, limits: &Limits) -> bool {
-        match self.unanswered {
-            Some(since) => now.saturating_sub(since) > limits.request_when_full,
-            None => false,
-        }
-    }
-
     /// Whether it is to be let go for its silence, since it takes nothing, or since it is slow.
     pub fn is_overdue(&self, now: Duration, limits: &Limits, full: bool) -> bool {
-        let silent = now.saturating_sub(self.active);
         if self.lingers {
-            return silent > limits.linger;
+            return self.activity.has_lingered(now, limits);
         }
         if !self.exchange.output().is_empty() {
-            return now.saturating_sub(self.taken) > limits.unread;
+            return self.activity.takes_nothing(now, limits);
         }
-        if self.awaits().is_some() || self.is_for_room {
-            return false;
-        }
-        silent > limits.silence
-            || full && (silent > limits.silence_when_full || self.is_slow(now, limits))
+        let waits = self.awaits().is_some() || self.is_for_room;
+        !waits && self.activity.is_silent(now, limits, full)
     }
 }

@@ -7,6 +7,7 @@
 #![tactic(auto)]
 
 mod acceptor;
+mod activity;
 mod bells;
 mod client;
 mod client_state;
