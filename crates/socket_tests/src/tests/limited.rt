@@ -65,11 +65,11 @@ fn a_client_that_comes_late_is_not_silent(rt: HostRuntime) -> Result<(), Fail> {
 #[test]
 fn a_client_that_was_idle_is_not_slow(rt: HostRuntime) -> Result<(), Fail> {
     let limits = Limits {
-        request_when_full: Duration::from_millis(500),
+        request_when_full: Duration::from_secs(2),
         ..attentive()
     };
     let plan = plan_of(&rt, 1, 1, 1)?.within(limits);
-    let seen = both_serve(&rt, &plan, &[Visit::Pauses(1000)], 2)?;
+    let seen = both_serve(&rt, &plan, &[Visit::PausesWithin(3000)], 2)?;
     assert_eq!(rt; seen, [[true; 2]; 2]);
     Ok(())
 }

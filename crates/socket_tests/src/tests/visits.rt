@@ -26,6 +26,8 @@ pub enum Visit {
     FallsSilent(&'static [u8]),
     /// It is answered, is silent for so many milliseconds, and is answered for the last time.
     Pauses(u64),
+    /// The same, but it pauses within its last request too, for 200 milliseconds.
+    PausesWithin(u64),
     /// It says nothing, and is let go.
     SaysNothing,
     /// It sends a byte at a time, and is let go.
@@ -52,6 +54,9 @@ fn finds<H: Network + AllocGlobal>(rt: &H, stream: &TcpStream, visit: Visit) -> 
         Visit::Pauses(time) => {
             is_answered(stream) && pause(rt, time) && is_answered_last(alloc, stream)
         }
+        Visit::PausesWithin(time) => {
+            is_answered(stream) && pause(rt, time) && is_answered_in_halves(rt, stream)
+        }
         Visit::SaysNothing => receives(alloc, stream, b""),
         Visit::Drips => drips_in_vain(rt, stream),
         Visit::DripsBehind => is_answered_last(alloc, stream) && drips_in_vain(rt, stream),
@@ -59,6 +64,14 @@ fn finds<H: Network + AllocGlobal>(rt: &H, stream: &TcpStream, visit: Visit) -> 
             (0..2000).all(|_| send(stream, ASK_K_LAST)) && receives(alloc, stream, FOUND_K_LAST)
         }
     }
+}
+
+// Whether a client gets the reply to its last request, of which the beginning comes first.
+fn is_answered_in_halves<H: Network + AllocGlobal>(rt: &H, stream: &TcpStream) -> bool {
+    send(stream, &ASK_K_LAST[..10])
+        && pause(rt, 200)
+        && send(stream, &ASK_K_LAST[10..])
+        && receives(rt.alloc(), stream, FOUND_K_LAST)
 }
 
 // Whether each of these clients finds what it is to find.
