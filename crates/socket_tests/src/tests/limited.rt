@@ -3,7 +3,7 @@
 use super::clients::{connect, is_served, send};
 use super::plans::{Kind, attentive, plan_of};
 use super::servers::{beside, has_asked};
-use super::visits::{Visit, both_serve};
+use super::visits::{Visit, serve_within_limits};
 use peer_limits::Limits;
 use peer_source::DemoSource;
 use std::net::{Net, SocketAddr, TcpListener, TcpStream};
@@ -41,36 +41,32 @@ fn a_client_that_is_silent_or_slow_is_closed(rt: HostRuntime) -> Result<(), Fail
         ("silent within a request, when full", when_full, within, 2),
         ("slow, when full", slow, Visit::Drips, 1),
     ] {
-        let plan = plan_of(&rt, 1, 1, 2)?.within(limits);
-        let seen = both_serve(&rt, &plan, &[visit, Visit::Asks], asked)?;
+        let seen = serve_within_limits(&rt, limits, &[visit, Visit::Asks], asked)?;
         assert_eq!(rt; seen, [[true; 2]; 2], "{what}");
     }
     Ok(())
 }
 
-// A loop that has no clients sleeps, and is woken by the first that comes.
+// A loop that has no clients sleeps, and is woken by the first that comes. And a request takes as long as it is not answered,
+// and not as long as the client was idle before it.
 #[test]
-fn a_client_that_comes_late_is_not_silent(rt: HostRuntime) -> Result<(), Fail> {
-    let limits = Limits {
+fn a_client_that_is_late_or_was_idle_is_not_closed(rt: HostRuntime) -> Result<(), Fail> {
+    let silent = Limits {
         silence: Duration::from_secs(1),
         ..attentive()
     };
-    let plan = plan_of(&rt, 1, 1, 2)?.within(limits);
-    let seen = both_serve(&rt, &plan, &[Visit::AsksLate(1_500); 2], 2)?;
-    assert_eq!(rt; seen, [[true; 2]; 2]);
-    Ok(())
-}
-
-// A request takes as long as it is not answered, and not as long as the client was idle before it.
-#[test]
-fn a_client_that_was_idle_is_not_slow(rt: HostRuntime) -> Result<(), Fail> {
-    let limits = Limits {
+    let slow = Limits {
         request_when_full: Duration::from_secs(2),
         ..attentive()
     };
-    let plan = plan_of(&rt, 1, 1, 1)?.within(limits);
-    let seen = both_serve(&rt, &plan, &[Visit::PausesWithin(3000)], 2)?;
-    assert_eq!(rt; seen, [[true; 2]; 2]);
+    let late = Visit::AsksLate(1_500);
+    for (what, limits, visits, asked) in [
+        ("late", silent, [late, late], 2),
+        ("idle", slow, [Visit::PausesWithin(3000), Visit::Asks], 3),
+    ] {
+        let seen = serve_within_limits(&rt, limits, &visits, asked)?;
+        assert_eq!(rt; seen, [[true; 2]; 2], "{what}");
+    }
     Ok(())
 }
 

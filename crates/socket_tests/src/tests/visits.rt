@@ -1,11 +1,13 @@
 //! Clients that come to a server one after the other, and what each finds.
 
 use super::clients::{connect, drips_in_vain, is_answered, is_answered_last, receives, send};
-use super::plans::{Kind, Plan};
+use super::plans::{Kind, Plan, plan_of};
 use super::servers::{beside, has_asked};
 use peer_host::Network;
+use peer_limits::Limits;
 use peer_source::DemoSource;
 use std::net::{Net, SocketAddr, TcpListener, TcpStream};
+use std::random::RandomSource;
 use std::sync::Wait;
 use std::test::Fail;
 use std::thread;
@@ -107,10 +109,13 @@ where
     Ok([found, has_asked(&report, asked)])
 }
 
-/// The same of a server in threads, and of one on loops.
-pub fn both_serve<
-    H: Net<Listener = TcpListener, Stream = TcpStream> + Threads + Wait + Clock + Sync,
->(rt: &H, plan: &Plan, visits: &[Visit], asked: u64) -> Result<[[bool; 2]; 2], Fail>
+// The same of a server in threads, and of one on loops.
+fn both_serve<H: Net<Listener = TcpListener, Stream = TcpStream> + Threads + Wait + Clock + Sync>(
+    rt: &H,
+    plan: &Plan,
+    visits: &[Visit],
+    asked: u64,
+) -> Result<[[bool; 2]; 2], Fail>
 where
     H: AllocGlobal,
 {
@@ -118,4 +123,15 @@ where
         serves(rt, Kind::Seats, plan, visits, asked)?,
         serves(rt, Kind::Loops, plan, visits, asked)?,
     ])
+}
+
+/// The same of a server in threads and one on loops, with one connection within these limits, which each of the clients has in turn.
+pub fn serve_within_limits<
+    H: Net<Listener = TcpListener, Stream = TcpStream> + Threads + Wait + Clock + Sync,
+>(rt: &H, limits: Limits, visits: &[Visit], asked: u64) -> Result<[[bool; 2]; 2], Fail>
+where
+    H: AllocGlobal + RandomSource,
+{
+    let plan = plan_of(rt, 1, 1, visits.len() as u64)?.within(limits);
+    both_serve(rt, &plan, visits, asked)
 }
