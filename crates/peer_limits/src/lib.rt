@@ -12,8 +12,8 @@ pub const MAX_SKIPPED: usize = 1_048_576;
 /// How long a server waits. No duration is zero.
 #[derive(Clone, Copy, Debug, PartialEq, Eq)]
 pub struct Limits {
-    /// How often a server looks at the other limits: once a second costs nothing that can be measured, and is no longer than
-    /// the shortest of them.
+    /// How often a server looks how long its clients have been silent, slow or lingering: once a second costs nothing that
+    /// can be measured, and is no longer than they may be.
     pub tick: Duration,
     /// How long a client may neither send nor take anything. An idle client of Go keeps a connection for 90 s; it opens
     /// another where the server closed one. On loops a client that waits for its value is not silent; in threads it may

@@ -52,18 +52,17 @@ impl Activity {
         now.saturating_sub(self.taken) > limits.unread
     }
 
-    // Whether it sends for too long without a reply being sent, where no more connections can be had.
-    fn is_slow(&self, now: Duration, limits: &Limits) -> bool {
+    /// Whether it sends for too long without a reply being sent, where no more connections can be had.
+    pub fn is_slow(&self, now: Duration, limits: &Limits) -> bool {
         match self.unanswered {
             Some(since) => now.saturating_sub(since) > limits.request_when_full,
             None => false,
         }
     }
 
-    /// Whether it is silent for too long, or slow where no more connections can be had.
+    /// Whether it is silent for too long.
     pub fn is_silent(&self, now: Duration, limits: &Limits, full: bool) -> bool {
         let silent = now.saturating_sub(self.last);
-        silent > limits.silence
-            || full && (silent > limits.silence_when_full || self.is_slow(now, limits))
+        silent > limits.silence || full && silent > limits.silence_when_full
     }
 }

@@ -273,7 +273,13 @@ impl<'a, S: Source, F: Facts<S>> Client<'a, S, F> {
         ClientState::Busy
     }
 
-    /// Whether it is to be let go for its silence, since it takes nothing, or since it is slow.
+    // Whether it waits for a value, which may be there by now, or for room in the queue of jobs.
+    fn waits(&self) -> bool {
+        self.exchange.rest().fill || self.is_for_room
+    }
+
+    /// Whether it is to be let go for its silence, since it takes nothing, or since it is slow where no more connections can
+    /// be had. One of which something was just reported is not silent.
     pub fn is_overdue(&self, now: Duration, limits: &Limits, full: bool) -> bool {
         if self.lingers {
             return self.activity.has_lingered(now, limits);
@@ -281,7 +287,10 @@ impl<'a, S: Source, F: Facts<S>> Client<'a, S, F> {
         if !self.exchange.output().is_empty() {
             return self.activity.takes_nothing(now, limits);
         }
-        let waits = self.awaits().is_some() || self.is_for_room;
-        !waits && self.activity.is_silent(now, limits, full)
+        if self.waits() {
+            return false;
+        }
+        let silent = !self.is_ready && self.activity.is_silent(now, limits, full);
+        silent || full && self.activity.is_slow(now, limits)
     }
 }

@@ -106,8 +106,8 @@ impl<'a, S: Source, F: Facts<S>> EventLoop<'a, S, F> {
             && !seat.has_jobs()
     }
 
-    // How long the loop may wait for events: not at all where there is something to do, and a tick where clients are to be
-    // swept then.
+    // How long the loop may wait for events: not at all where there is something to do, and until the next tick where there
+    // are clients.
     fn time_to_wait<L: Ledger, H: Wait>(
         &mut self,
         rt: &H,
@@ -134,7 +134,7 @@ impl<'a, S: Source, F: Facts<S>> EventLoop<'a, S, F> {
         } else if self.turns.clients.each.is_empty() {
             None
         } else {
-            Some(self.turns.shared.site.limits.tick)
+            Some(self.turns.time_to_tick())
         }
     }
 

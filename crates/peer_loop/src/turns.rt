@@ -218,6 +218,12 @@ impl<'a, S: Source, F: Facts<S>> Turns<'a, S, F> {
         self.serve_ready(rt, seat);
     }
 
+    /// How long it is until the next tick.
+    pub fn time_to_tick(&self) -> Duration {
+        let tick = self.shared.site.limits.tick;
+        tick.saturating_sub(self.now.saturating_sub(self.swept))
+    }
+
     /// So much time has passed since the loop began. Lets clients go that are overdue, where a tick is over.
     pub fn tell_time(&mut self, now: Duration) {
         self.now = now;

@@ -12,6 +12,8 @@ mod meeting;
 mod plans;
 mod servers;
 mod serving;
+mod slow;
 mod stopping;
 mod visits;
+mod waiting;
 mod working;
