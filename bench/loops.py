@@ -77,6 +77,8 @@ def greedy():
         clients = []
         for i in range(GREEDY):
             client = server.connect()
+            # Behind small replies 64 requests of a client may wait.
+            assert all(server.ask(client, "echo/k", 79) for _ in range(6))
             client.sendall(b"".join(request(f"fill/{1000000 + (i * 48 + j) % 48576}") for j in range(48)))
             clients.append(client)
         most, longest = 0, 0.0
@@ -87,7 +89,8 @@ def greedy():
             longest = max(longest, time.time() - begun)
             most = max(most, server.kib())
             time.sleep(1)
-        tell(f"memory beside {GREEDY} clients that ask for 48 values of 1 MB and read nothing", most / 1024, 2048, "MiB", right)
+        # One value for each client, --memory, the cache, and what comes before what clients hold is counted, once a second.
+        tell(f"memory beside {GREEDY} clients that ask for 48 values of 1 MB and read nothing", most / 1024, 3072, "MiB", right)
         tell("the longest wait of a new client", longest, 1, "s")
 
 
