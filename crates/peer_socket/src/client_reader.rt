@@ -1,5 +1,5 @@
 //! What a client sends, as a reader that gives up a client which is silent or slow.
-ghost use Rattle.std.specs.Prelude.{◌≡◌, ◌≤◌, length, None, IfSome};
+ghost use Rattle.std.specs.Prelude.{◌≡◌, ◌<◌, ◌≤◌, ◌↔◌, length, None, IfSome, IsTrue};
 
 use crate::client::{Client, is_timeout};
 use peer_view::{PeerRead, ReadCounts, ReadFailed};
@@ -87,6 +87,8 @@ impl<'a, H: Clock> Input<'a, H> {
 #[derive(Drop)]
 pub struct ClientReader<'a, H> {
     input: Input<'a, H>,
+    // How often something had been written to the client when the last read came back.
+    writes: u64,
     counts: ReadCounts,
 }
 
@@ -102,13 +104,21 @@ impl<'a, H: Clock> ClientReader<'a, H> {
                 client,
                 unanswered: None,
             },
+            writes: 0,
             counts: ReadCounts::none(),
         }
     }
 
     /// Whether the client told its end.
-    pub fn has_ended(&self) -> bool {
+    pub fn has_ended(&self) -> bool
+        ensures { IsTrue result ↔ (0 < self.now.counts.ends) }
+    {
         self.counts.ends > 0
+    }
+
+    /// Whether something was written to the client since the last read came back.
+    pub fn was_answered_since(&self) -> bool {
+        self.input.client.writes() > self.writes
     }
 }
 
@@ -124,6 +134,7 @@ impl<'a, H: Clock> PeerRead for ClientReader<'a, H> {
     /// Waits for bytes as long as the client may be silent.
     fn read(&mut self, room: &mut [u8]) -> Result<usize, ReadFailed> {
         let given = self.input.receive(room);
+        self.writes = self.input.client.writes();
         self.counts.count(given, room)
     }
 }

@@ -1,4 +1,4 @@
-//! The close of a connection behind a closing reply (RFC 9112, section 9.6).
+//! The close of a connection that the client did not end (RFC 9112, section 9.6).
 
 use crate::client::Client;
 use peer_limits::MAX_SKIPPED;

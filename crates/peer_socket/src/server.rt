@@ -7,7 +7,7 @@ ghost use Rattle.peer_socket.specs.Serving.{ServesWith};
 
 use crate::acceptor::Acceptor;
 use crate::threads::use_seats;
-use peer_fill::{OpenFault, Opened, Pool, Report, Seats};
+use peer_fill::{MAX_SEATS, OpenFault, Opened, Pool, Report, Seats};
 use peer_host::Host;
 use peer_limits::Limits;
 use peer_source::Source;
@@ -118,7 +118,14 @@ where
     H: Net<Listener = TcpListener, Stream = TcpStream> + Threads + Wait + Clock + Sync,
     ensures { ServesWith settings.now.workers settings.now.conns (S.count source) result }
 {
-    over_pool::<S, Brand, H>(rt, alloc, source, &listener, settings, Blank::new(16))
+    over_pool::<S, Brand, H>(
+        rt,
+        alloc,
+        source,
+        &listener,
+        settings,
+        Blank::new(MAX_SEATS),
+    )
 }
 
 /// Serves `rounds` connections on each of `conns` threads, with so many workers that call the source, and gives the

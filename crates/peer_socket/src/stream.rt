@@ -14,9 +14,16 @@ use std::alloc::Global;
 use std::sync::ledger::Ledger;
 use std::time::Clock;
 
-// Whether a closing reply was written: it is what ended the connection, and not the client.
-fn is_closed_by_reply<H: Clock>(served: &Served<ClientReader<'_, H>, ClientWriter<'_, H>>) -> bool {
-    served.end == End::Clean && !served.reader.has_ended()
+// Whether the server closes, and not the client, which may not have read yet what was written. One that was given up for its
+// silence had its replies before, but for those that were written since.
+fn is_closed_by_server<H: Clock>(
+    served: &Served<ClientReader<'_, H>, ClientWriter<'_, H>>,
+) -> bool {
+    match served.end {
+        End::WriteFault => false,
+        End::ReadFault => served.reader.was_answered_since(),
+        _ => !served.reader.has_ended(),
+    }
 }
 
 /// Serves a client until its connection ends. The stream can be closed then.
@@ -33,7 +40,7 @@ pub fn serve_client<S: Source, L: Ledger + Send + Sync, H: Host>(
     let reader = ClientReader::new(client);
     let writer = ClientWriter::new(client);
     let (served, seat) = serve_connection(rt, alloc, pool, seat, reader, writer, READS);
-    if is_closed_by_reply(&served) {
+    if is_closed_by_server(&served) {
         linger(client);
     }
     seat

@@ -9,6 +9,7 @@ mod lingering;
 mod loop_servers;
 mod loops;
 mod meeting;
+mod memory;
 mod plans;
 mod servers;
 mod serving;

@@ -30,6 +30,7 @@ fn a_client_that_is_silent_or_slow_is_closed(rt: HostRuntime) -> Result<(), Fail
     };
     let slow = Limits {
         request_when_full: time,
+        linger: time,
         ..attentive()
     };
     let silent = Visit::FallsSilent(ASK_K);

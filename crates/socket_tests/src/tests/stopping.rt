@@ -1,6 +1,6 @@
 //! Servers that are told to end while clients are there.
 
-use super::clients::{connect, receives, send, served_client};
+use super::clients::{connect, receive, receives, send, served_client};
 use super::loop_servers::{Outside, beside_loops, settings_of};
 use super::plans::plan_of;
 use super::servers::has_asked;
@@ -11,7 +11,8 @@ use std::net::{Net, SocketAddr, TcpListener, TcpStream};
 use std::sync::Wait;
 use std::sync::atomic::Ordering::SeqCst;
 use std::test::Fail;
-use std::time::Clock;
+use std::thread;
+use std::time::{Clock, Duration};
 use test_support::Hooked;
 
 // Two idle clients, and one that waits for its value, while the server is told to end: whether all were connected, the
@@ -56,6 +57,51 @@ fn a_server_that_is_told_to_end_gives_the_values_that_are_waited_for(
     })?;
     assert_eq!(rt; seen, Some([true; 4]));
     assert!(rt; has_asked(&report, 3));
+    Ok(())
+}
+
+// The last request of a client, for a value of 1 MiB, and how many bytes its reply has.
+const ASK_LARGE_LAST: &[u8] =
+    b"GET /_groupcache/fill/1048576 HTTP/1.1\r\nHost: h\r\nConnection: close\r\n\r\n";
+
+const LARGE_REPLY: usize = 1_048_681;
+
+// Whether a client that takes its last reply late, once the server was told to end, and which sends more before, gets all of it.
+fn is_closed_well<H: AllocGlobal + Net<Listener = TcpListener, Stream = TcpStream> + Wait + Clock>(
+    rt: &H,
+    address: SocketAddr,
+    stop: &Stop,
+) -> bool {
+    let Some(stream) = connect(rt, address) else {
+        return false;
+    };
+    let asked = send(&stream, ASK_LARGE_LAST);
+    thread::sleep(rt, Duration::from_millis(500));
+    stop.stop();
+    thread::sleep(rt, Duration::from_millis(200));
+    let sent = send(&stream, b"G");
+    thread::sleep(rt, Duration::from_millis(100));
+    match receive(rt.alloc(), &stream) {
+        Some(reply) => asked && sent && reply.len() == LARGE_REPLY,
+        None => false,
+    }
+}
+
+#[test]
+fn a_server_that_is_told_to_end_cuts_no_close_short(rt: HostRuntime) -> Result<(), Fail> {
+    let outside = Outside::new();
+    let plan = plan_of(&rt, 1, 10, 1)?;
+    let settings = Settings {
+        accepts: None,
+        ..settings_of(&outside, &plan)
+    };
+    let (report, well) = beside_loops(&rt, DemoSource, &settings, |address| {
+        let well = is_closed_well(&rt, address, &outside.stop);
+        outside.stop.stop();
+        well
+    })?;
+    assert!(rt; well);
+    assert!(rt; has_asked(&report, 1));
     Ok(())
 }
 
