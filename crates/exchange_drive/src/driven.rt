@@ -56,7 +56,7 @@ impl<'a, L: Ledger> Driven<'a, L> {
             pool,
             conn,
             fill,
-            exchange: Exchange::new(alloc, pool.source()),
+            exchange: Exchange::new(alloc, pool.names()),
             taken: Vec::new(alloc),
             sent: Vec::new(alloc),
         })
@@ -64,7 +64,7 @@ impl<'a, L: Ledger> Driven<'a, L> {
 
     /// Another connection of the same seats.
     pub fn begin(&mut self, alloc: Global) {
-        self.exchange = Exchange::new(alloc, self.pool.source());
+        self.exchange = Exchange::new(alloc, self.pool.names());
         self.sent = Vec::new(alloc);
     }
 

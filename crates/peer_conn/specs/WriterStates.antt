@@ -7,10 +7,10 @@ use Rattle.peer_conn.specs.declared.end.WriterState.{WriterState}
 use Rattle.peer_conn.specs.declared.end.WriterState.TheVariants as state
 
 -- 1 where a call of the writer may fail yet
-abbrev pub calls_left : WriterState → ℕ
-calls_left state.Active = 1
-calls_left state.Memory = 1
-calls_left state.WriteFault = 0
+abbrev pub failures_left : WriterState → ℕ
+failures_left state.Active = 1
+failures_left state.Memory = 1
+failures_left state.WriteFault = 0
 
 abbrev pub is_active : WriterState → Bool
 is_active state.Active = true

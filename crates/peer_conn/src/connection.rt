@@ -154,7 +154,7 @@ fn read_side<S: Source, L: Ledger, R: PeerRead + Drop, H: Wait>(
     ensures { TakesRequests (S.number_of (source_of pool.now)) pool.now reader result.side result.stop }
 {
     let mut side = reader;
-    let stop = side.take_requests(rt, pool, &pool.source(), signal);
+    let stop = side.take_requests(rt, pool, &pool.names(), signal);
     signal.finish();
     StoppedReader { side, stop }
 }

@@ -1,7 +1,7 @@
 //! The two halves of a connection before its first read.
 //!
-//! It stands on the requests and the responses of a connection. It promises both with all the memory that they ever take,
-//! beside that of keys; or the end of a connection that was refused it, with the reader and the writer as they came.
+//! It stands on the requests and the responses of a connection. It promises both, where nothing was read, put or written yet;
+//! or the end of a connection that was refused it, with the reader and the writer as they came.
 ghost use Rattle.std.specs.Prelude.{◌≡◌, ◌+◌, ◌-◌, ◌^◌, ◌<◌, [], IfOk, IfErr};
 ghost use Rattle.peer_lane.specs.Lanes.{tickets_put, tickets_taken, IsLane};
 ghost use Rattle.peer_conn.specs.Halves.{AreNewHalves};

@@ -46,7 +46,7 @@ impl<R: PeerRead> Requests<R> {
     ghost use Rattle.peer_conn.specs.Stops.{IsEndOfReads};
     ghost use Rattle.peer_conn.specs.Requests.{GivesKnown, AreNewRequests, GivesNext, Reads};
 
-    /// Takes all the memory that it ever takes, beside that of keys.
+    /// Takes all the memory that it ever takes, beside that of keys and of the names of groups that are not known.
     pub(crate) fn new(alloc: Global, reader: R, reads: u64) -> Result<Requests<R>, R>
         requires { R.calls reader + reads < 2 ^ 64 }
         ensures ok { IfOk result (λ q. AreNewRequests reader reads q) }

@@ -4,7 +4,7 @@
 //! order, and none behind a failed write or refused memory.
 ghost use Rattle.std.specs.Prelude.{◌≡◌, ℕ, ◌+◌, ◌-◌, ◌^◌, ◌<◌};
 ghost use Rattle.peer_conn.specs.Sending.{sending_of_buffer};
-ghost use Rattle.peer_conn.specs.WriterStates.{calls_left, PutsText};
+ghost use Rattle.peer_conn.specs.WriterStates.{failures_left, PutsText};
 
 use crate::end::WriterState;
 use crate::write_buffer::WriteBuffer;
@@ -19,7 +19,7 @@ pub(crate) struct Responses<W: PeerWrite> {
     pub(crate) out: WriteBuffer<W>,
     head: HeadRoom,
     pub(crate) state: WriterState,
-    ghost calls: { W.failures out.writer + calls_left state < 2 ^ 64 },
+    ghost failures: { W.failures out.writer + failures_left state < 2 ^ 64 },
 }
 
 impl<W: PeerWrite> Responses<W> {

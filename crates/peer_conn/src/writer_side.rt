@@ -167,7 +167,8 @@ impl<S: Source, W: PeerWrite + Drop> WriterSide<S, W> {
         }
     }
 
-    // Puts the reply of a claim whose fill came. A fill of another place than the claim's is counted, and not written.
+    // Puts the reply of a claim whose fill came. A fill of another place than the claim's is not written: it is counted and one
+    // of its own is, or memory was refused.
     fn put_filled<L: Ledger>(
         &mut self,
         pool: &Pool<S, L>,

@@ -32,7 +32,7 @@ PutsReplyTo answers w old new (Ok done) = IsReplyPut answers w old new
 PutsReplyTo answers w old new (Err fault) = new ≡ old
 
 module _ {S : Type 0} where
-  -- the claim is a flight whose fill was not there
+  -- the claim is of a flight, whose fill was not there when it was asked for
   abbrev pub is_pending : Claim S → Bool
   is_pending (claim.Ready fill) = false
   is_pending (claim.Pending flight) = true

@@ -12,7 +12,7 @@ use Rattle.peer_exchange.specs.declared.exchange_state.ExchangeState.{ExchangeSt
 
 module _ (numbers : List ℕ → Option ℕ) (answers : ℕ → List ℕ → Answer → Type 0) (came sent : List ℕ) where
   -- what was sent is the replies to these wishes
-  pub record Answered (AreOf : List Wish → Type 0) : Type 0 where
+  pub record IsAnswered (AreOf : List Wish → Type 0) : Type 0 where
     pub wishes : List Wish
     pub are : AreOf wishes
     pub replies : AreReplies answers wishes sent
@@ -27,10 +27,10 @@ module _ (numbers : List ℕ → Option ℕ) (answers : ℕ → List ℕ → Ans
 
   -- an end: the first wishes were answered, and all of them where it was not given up
   abbrev pub EndsWith : End → Type 0
-  EndsWith end.Clean = Answered AreClean
-  EndsWith end.Cut = Answered AreCut
-  EndsWith end.Memory = Answered (AreFirst numbers 0 came)
-  EndsWith end.Worn = Answered (AreFirst numbers 0 came)
+  EndsWith end.Clean = IsAnswered AreClean
+  EndsWith end.Cut = IsAnswered AreCut
+  EndsWith end.Memory = IsAnswered (AreFirst numbers 0 came)
+  EndsWith end.Worn = IsAnswered (AreFirst numbers 0 came)
   EndsWith _ = ⊥
 
   -- how it ended, none where it is not over

@@ -1,7 +1,7 @@
 //! Answering the tickets that wait, the first of them first.
 //!
-//! It stands on the outgoing replies of a connection. It promises a reply for each of the first tickets, as far as their fills
-//! are there and few bytes wait to be sent, and counts each that was made good.
+//! It stands on the outgoing replies of a connection. It promises a reply for each of the first tickets, up to one that waits on
+//! a flight or much output, and that no more strangers are counted than tickets of flights were answered.
 ghost use Rattle.std.specs.Prelude.{◌≡◌, ◌-◌, drop};
 ghost use Rattle.std.specs.VecDeque.{deque_len};
 

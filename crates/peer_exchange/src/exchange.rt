@@ -111,8 +111,8 @@ impl<'p, S: Source> Exchange<'p, S> {
         self.state.end();
     }
 
-    /// One ticket waits at most until replies were put, as for a new client: so a client holds one value at most, and not 64,
-    /// while all clients together hold too much.
+    /// No ticket joins one that waits until replies were put, as for a new client. Those that wait stay: a client for which
+    /// none does comes to hold one value at most, and not 64.
     pub fn narrow(&mut self)
         ensures histories { KeepsHistories self.old self.new }
         ensures stage { self.new.state.intake.stage ≡ self.old.state.intake.stage }
@@ -199,8 +199,8 @@ impl<'p, S: Source> Exchange<'p, S> {
         self.state.awaits()
     }
 
-    /// How many bytes it holds for the client: those that are to be sent, and those of the values and texts that came for
-    /// the tickets that wait.
+    /// How many bytes it holds for the client, beside those that came and are not judged: those that are to be sent, and
+    /// those of the values and texts that came for the tickets that wait.
     pub fn held(&self) -> usize
         ensures { Holds (unsent self.now.state) self.now.state.waiting.items result }
     {

@@ -115,7 +115,7 @@ impl<S: Source> ExchangeState<S> {
         self.intake.end();
     }
 
-    /// One ticket waits at most, until replies were put.
+    /// No ticket joins one that waits, until replies were put.
     pub(crate) fn narrow(&mut self)
         ensures keeps { (numbers : List ℕ → Option ℕ) → Keeps numbers (allows S.allowed) self.old self.new }
         ensures stage { self.new.intake.stage ≡ self.old.intake.stage }

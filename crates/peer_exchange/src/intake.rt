@@ -35,7 +35,7 @@ pub(crate) enum Stage {
     GivenUp(GivenUp),
 }
 
-/// The bytes that came and were not given as requests.
+/// The bytes that came behind the requests that were given and do not close.
 #[derive(Drop)]
 pub(crate) struct Intake {
     pub(crate) alloc: Global,

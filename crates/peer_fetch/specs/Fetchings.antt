@@ -4,8 +4,8 @@ use Rattle.std.specs.Prelude.{Vec}
 use Rattle.std.specs.declared.alloc.Global.{Global}
 use Rattle.peer_origin.specs.Fetches.{Use, Fetches}
 use Rattle.peer_origin.specs.Targets.{target_of}
-use Rattle.peer_origin.specs.declared.place.Place.{Place}
-use Rattle.peer_http.specs.Asks.{request_for}
+use Rattle.peer_origin.specs.declared.endpoint.Endpoint.{Endpoint}
+use Rattle.peer_http.specs.Requests.{request_for}
 use Rattle.peer_fetch.specs.declared.fetching.Silence.{Silence}
 
 -- so much of the request was sent on a connection, this came, and the end was told or not
@@ -30,6 +30,6 @@ IsFoundIn request sent came ended first value = Fetches (Some []) request [] (us
 abbrev pub GoesOnAnew : List ℕ → List Use → List Use → Type 0
 GoesOnAnew request us us' = (u : Use) × (us ≡ u ∷ []) × (u.came ≡ Some []) × (us' ≡ use_by request 0 [] false ∷ us)
 
--- the request for a key at a place
-abbrev pub request_at : Place → List ℕ → List ℕ
-request_at place key = request_for place.host.items (target_of place.prefix.items key)
+-- the request for a key at an endpoint
+abbrev pub request_at : Endpoint → List ℕ → List ℕ
+request_at endpoint key = request_for endpoint.host.items (target_of endpoint.prefix.items key)

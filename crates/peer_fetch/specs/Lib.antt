@@ -1,5 +1,5 @@
 pub mod Fetchings
-pub mod Places
+pub mod Endpoints
 pub mod Threads
 pub mod Turns
 pub mod Values

@@ -8,18 +8,18 @@ use Rattle.peer_fill.specs.Seats.{fills_of, fill_parts}
 use Rattle.peer_fill.specs.declared.pool.Pool.{Pool}
 use Rattle.peer_fill.specs.declared.seats.FillSeat.{FillSeat}
 use Rattle.peer_origin.specs.Origins.{IsOriginAnswer}
-use Rattle.peer_origin.specs.declared.place.Place.{Place}
-use Rattle.peer_fetch.specs.Places.{HasPlace}
+use Rattle.peer_origin.specs.declared.endpoint.Endpoint.{Endpoint}
+use Rattle.peer_fetch.specs.Endpoints.{HasEndpoint}
 use Rattle.peer_fetch.specs.declared.settings.FetchPlan.{FetchPlan}
 
--- of groups that have a place the source may answer whatever an origin may
-abbrev pub AllowsOrigins : (ℕ → List ℕ → Answer → Type 0) → ℕ → List Place → Type 0
-AllowsOrigins answers first each = (group : ℕ) (key : List ℕ) (a : Answer) → HasPlace first each group → IsOriginAnswer a
+-- of groups that have an endpoint the source may answer whatever an origin may
+abbrev pub AllowsOrigins : (ℕ → List ℕ → Answer → Type 0) → ℕ → List Endpoint → Type 0
+AllowsOrigins answers first each = (group : ℕ) (key : List ℕ) (a : Answer) → HasEndpoint first each group → IsOriginAnswer a
     → answers group key a
 
--- the same for the places of a plan
+-- the same for the endpoints of a plan
 abbrev pub Allows : (ℕ → List ℕ → Answer → Type 0) → FetchPlan → Type 0
-Allows answers plan = AllowsOrigins answers plan.places.first plan.places.each.now
+Allows answers plan = AllowsOrigins answers plan.endpoints.first plan.endpoints.each.now
 
 module _ {S L : Type 0} {g : Source.Ghosts S} {h : Ledger.Ghosts L} where
   -- it is the same seat of the pool, with its parts, and it counted on

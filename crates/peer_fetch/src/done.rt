@@ -12,8 +12,8 @@ ghost use Rattle.peer_fetch.specs.Values.{AnswersBy, IsFoundBy};
 use crate::fetching::Fetching;
 use bytes::Bytes;
 use peer_fill::TakenJob;
-use peer_origin::{FetchFault, Place, get_fault};
-use peer_source::{GetFault, Outcome, Source};
+use peer_origin::{Endpoint, FetchFault, get_fault};
+use peer_source::{GetFault, Outcome, Source, too_long_text};
 use peer_view::ByteView;
 use std::alloc::Global;
 
@@ -26,13 +26,13 @@ pub struct Fetched {
     ghost found: { IsFoundBy by value },
 }
 
-/// A job whose value was fetched from this place, or why it was not.
+/// A job whose value was fetched from this endpoint, or why it was not.
 #[derive(Drop)]
 pub struct Done<'a, S: Source> {
-    pub place: &'a Place,
+    pub endpoint: &'a Endpoint,
     pub job: TakenJob<S>,
     pub got: Result<Fetched, FetchFault>,
-    ghost asked: { IfOk got (λ f. f.by.request.items ≡ request_at place.now job.place.key) } by { Prim.hlevel props },
+    ghost asked: { IfOk got (λ f. f.by.request.items ≡ request_at endpoint.now job.place.key) } by { Prim.hlevel props },
 }
 
 impl Fetched {
@@ -67,20 +67,13 @@ fn found(value: Vec<u8>) -> Outcome
     }
 }
 
-// The text of the fault of a value over the limit.
-fn too_long() -> ByteView
-    ensures { result ≡ too_long_text }
-{
-    ByteView::from_shared(Bytes::from_static(b"value too long"))
-}
-
 // The answer of a fault.
 fn fault(alloc: Global, fault: FetchFault) -> Outcome
     ensures { AnswersBy (Failed (text_of fault)) (answer_of result) }
 {
     match get_fault(alloc, fault) {
         GetFault::Text(text) => failed(text),
-        GetFault::TooLong => Outcome::Failed(too_long()),
+        GetFault::TooLong => Outcome::Failed(too_long_text()),
         GetFault::Memory => Outcome::NoMemory,
     }
 }

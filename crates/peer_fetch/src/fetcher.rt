@@ -5,9 +5,9 @@
 
 use crate::connections::Connections;
 use crate::done::Done;
+use crate::endpoints::Numbered;
 use crate::link::{Link, Turn};
 use crate::opening::{System, open};
-use crate::places::Numbered;
 use crate::settings::FetchThreadSettings;
 use crate::under_way::UnderWay;
 use mio::event::Event;
@@ -121,7 +121,7 @@ impl<'a, S: Source> Fetcher<'a, S> {
             return Some(under.done(Err(FetchFault::Memory)));
         }
         let token = self.connections.next_token();
-        let Some((stream, next)) = open(system, &under.place().addresses, from, token) else {
+        let Some((stream, next)) = open(system, &under.endpoint().addresses, from, token) else {
             return Some(under.done(Err(FetchFault::Unreached)));
         };
         let due = self
@@ -172,7 +172,7 @@ impl<'a, S: Source> Fetcher<'a, S> {
         None
     }
 
-    /// Fetches the value of a job from the place of its group. A job whose value cannot be fetched is given back.
+    /// Fetches the value of a job from the endpoint of its group. A job whose value cannot be fetched is given back.
     pub fn begin<H: Network>(
         &mut self,
         system: &System<'_, H>,
@@ -183,7 +183,7 @@ impl<'a, S: Source> Fetcher<'a, S> {
             .connections
             .now()
             .saturating_add(self.settings.fetch.value);
-        match UnderWay::begin(self.alloc, at.place, job, due) {
+        match UnderWay::begin(self.alloc, at.endpoint, job, due) {
             Ok(under) => self.start(system, under, at.number),
             Err(done) => Some(done),
         }

@@ -4,15 +4,16 @@
 //! It stands on the reply as a state of `peer_http`. It promises that a value which is found is the content of a whole
 //! reply with status 200, on bytes that came on a connection on which the whole request was sent, and that two requests are
 //! sent at most: the second behind a connection on which nothing came.
-ghost use Rattle.std.specs.Prelude.{◌≡◌, ◌+◌, ◌≤◌, ◌++◌, [], drop, false, length, true, IfOk, IfSome, IsTrue, None};
+ghost use Rattle.std.specs.Prelude.{◌≡◌, ◌+◌, ◌≤◌, ◌↔◌, ◌++◌, [], drop, false, length, true, IfOk, IfSome, IsTrue, None};
 ghost use Rattle.peer_view.specs.Sinks.{MAX_VALUE};
-ghost use Rattle.peer_http.specs.Asks.{Awaits};
+ghost use Rattle.peer_http.specs.Requests.{Awaits};
+ghost use Rattle.peer_origin.specs.declared.exchange.Failure.TheVariants as fail;
 ghost use Rattle.peer_fetch.specs.Fetchings.{GoesOnAnew, IsFoundIn, uses_by};
 
 use http1::Client;
-use peer_http::{Asked, Receiving, Reply};
+use peer_http::{Receiving, Reply, Request};
 use peer_origin::{Failure, FetchFault, failure_of};
-use peer_view::VALUE_LIMIT;
+use peer_view::MAX_VALUE;
 use std::alloc::Global;
 
 /// A first try on which nothing came: how much of the request was sent, and whether the connection's end was told.
@@ -66,12 +67,12 @@ fn receiving(alloc: Global, client: Client) -> Receiving
     ensures came { result.came.bytes ≡ [] }
     ensures most { result.most ≡ MAX_VALUE }
 {
-    Receiving::new(alloc, client, VALUE_LIMIT)
+    Receiving::new(alloc, client, MAX_VALUE)
 }
 
 impl Fetching {
     /// Nothing of the request was sent.
-    pub fn new(alloc: Global, asked: Asked) -> Fetching
+    pub fn new(alloc: Global, asked: Request) -> Fetching
         requires { Awaits asked.client }
         ensures request { result.request.items ≡ asked.bytes.items }
         ensures sent { result.sent ≡ 0 }
@@ -79,7 +80,7 @@ impl Fetching {
         ensures ended { result.ended ≡ false }
         ensures first { result.first ≡ None }
     {
-        let Asked { client, bytes } = asked;
+        let Request { client, bytes } = asked;
         Fetching {
             request: bytes,
             sent: 0,
@@ -154,15 +155,18 @@ impl Fetching {
     }
 
     /// Why there is no value, where the connection failed.
-    pub fn cut(&self) -> Failure {
+    pub fn cut(&self) -> Failure
+        ensures { result ≡ fail.Silent ↔ (self.now.receiving.came.bytes ≡ []) }
+    {
         failure_of(self.receiving.cut(), false)
     }
 
     /// Begins anew, for a second try. Whether it may: this is the first, and nothing came.
-    pub fn again(&mut self, alloc: Global, asked: Asked) -> bool
+    pub fn again(&mut self, alloc: Global, asked: Request) -> bool
         requires awaits { Awaits asked.client }
         requires request { asked.bytes.items ≡ self.old.request.items }
         ensures request { self.new.request.items ≡ self.old.request.items }
+        ensures whether { IsTrue result ↔ ((self.old.first ≡ None) × (self.old.receiving.came.bytes ≡ [])) }
         ensures uses { IsTrue result → GoesOnAnew self.old.request.items
             (uses_by self.old.request.items self.old.sent self.old.receiving.came.bytes self.old.ended self.old.first)
             (uses_by self.new.request.items self.new.sent self.new.receiving.came.bytes self.new.ended self.new.first) }

@@ -2,7 +2,7 @@
 //!
 //! It stands on the pool of `peer_fill` and on the values that are under way (`Fetcher`). It promises that the seat stays one
 //! of the pool with its parts, and that a flight is filled with what its group's source may answer.
-ghost use Rattle.std.specs.Prelude.{◌≡◌, IfSome};
+ghost use Rattle.std.specs.Prelude.{IfSome};
 ghost use Rattle.peer_source.specs.Outcomes.{answer_of};
 ghost use Rattle.peer_fill.specs.Pools.{source_of, IsFillSeatOf};
 ghost use Rattle.peer_origin.specs.Origins.{IsOriginAnswer};
@@ -31,7 +31,7 @@ pub struct Jobs<'p, 'a, S: Source, L: Ledger, G> {
     pub plan: FetchPlan<'a>,
 }
 
-// Fills the flight of a job: with this outcome, where its group has a place. No job of another group comes here, and one
+// Fills the flight of a job: with this outcome, where its group has an endpoint. No job of another group comes here, and one
 // that did would be filled by a call of the source.
 fn fill<'a, S: Source, L: Ledger, G: Gate, H: Wait>(
     rt: &H,
@@ -45,7 +45,7 @@ fn fill<'a, S: Source, L: Ledger, G: Gate, H: Wait>(
     requires answer { IfSome (answer_of outcome) IsOriginAnswer }
     ensures { IsLaterSeat jobs.now.pool.now seat.old seat.new }
 {
-    match jobs.plan.places.of(job.group()) {
+    match jobs.plan.endpoints.of(job.group()) {
         Some(_) => jobs.pool.finish(rt, seat, job, outcome, jobs.gate),
         None => jobs.pool.fill_job(rt, jobs.alloc, seat, job, jobs.gate),
     }
@@ -72,7 +72,7 @@ fn fill_done<'a, S: Source, L: Ledger, G: Gate, H: Wait>(
     fill(rt, jobs, seat, job, outcome_of(jobs.alloc, got));
 }
 
-// Takes a job, and begins to fetch its value where its group has a place. Whether there was one.
+// Takes a job, and begins to fetch its value where its group has an endpoint. Whether there was one.
 fn take_job<'a, S: Source, L: Ledger, G: Gate, H: Network>(
     system: &System<'_, H>,
     jobs: &Jobs<'_, 'a, S, L, G>,
@@ -86,7 +86,7 @@ fn take_job<'a, S: Source, L: Ledger, G: Gate, H: Network>(
     let Some(job) = jobs.pool.take_job(system.rt, seat, jobs.gate) else {
         return false;
     };
-    match jobs.plan.places.of(job.group()) {
+    match jobs.plan.endpoints.of(job.group()) {
         Some(at) => {
             let done = fetcher.begin(system, at, job);
             fill_done(system.rt, jobs, seat, done);

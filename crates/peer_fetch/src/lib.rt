@@ -5,18 +5,18 @@
 //! `peer_origin`, and the readiness of sockets of `mio`. It promises of each value that it is the content of a whole reply
 //! with status 200 to the request for this very key, on bytes that came behind that request, and that two requests were
 //! sent at most (`Fetching`); and of a thread that it hands back its seat with its parts, as a worker does. For a group
-//! without a place it calls the source.
+//! without an endpoint it calls the source.
 #![tactic(auto)]
 
 mod bell;
 mod connections;
 mod done;
+mod endpoints;
 mod fetcher;
 mod fetching;
 mod jobs;
 mod link;
 mod opening;
-mod places;
 mod settings;
 mod stream;
 mod thread;
@@ -24,8 +24,8 @@ mod transfer;
 mod under_way;
 
 pub use bell::FetchBell;
+pub use endpoints::{Endpoints, Numbered};
 pub use fetching::{Answer, Fetching};
-pub use places::{Numbered, Places};
 pub use settings::{FetchPlan, FetchThreadSettings};
 pub use stream::{was_interrupted, would_block};
 pub use thread::{FetchParts, FetchThread};

@@ -1,6 +1,6 @@
 //! What can be set of a fetch thread, and what it fetches.
 
-use crate::places::Places;
+use crate::endpoints::Endpoints;
 use peer_origin::FetchSettings;
 use peer_stats::FailureSlots;
 use std::time::Duration;
@@ -30,8 +30,8 @@ impl FetchThreadSettings {
 /// What a fetch thread is to fetch, and how.
 #[derive(Clone, Copy)]
 pub struct FetchPlan<'a> {
-    /// The places of the groups that it fetches for. The source is called for all others.
-    pub places: Places<'a>,
+    /// The endpoints of the groups that it fetches for. The source is called for all others.
+    pub endpoints: Endpoints<'a>,
     pub settings: FetchThreadSettings,
     /// Where is counted why an origin gave no value.
     pub failures: &'a FailureSlots,

@@ -110,7 +110,7 @@ impl<'a> FetchThread<'a> {
     }
 
     /// Takes jobs of the pool and fills their flights with what the origins answer, until the bell was stopped, there is no
-    /// job, and no value is under way. For a group without a place the source is called.
+    /// job, and no value is under way. For a group without an endpoint the source is called.
     pub fn run<S: Source, L: Ledger, G: Gate, H: Network>(
         self,
         rt: &H,

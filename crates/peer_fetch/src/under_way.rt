@@ -1,13 +1,14 @@
-//! A value under way: a job, the place of its origin, and the fetch.
-ghost use Rattle.std.specs.Prelude.{◌≡◌, ◌+◌, ◌≤◌, ◌++◌, [], ◌∷◌, false, length, true, Err, IfErr, IfOk, IfSome, IsTrue, Ok};
+//! A value under way: a job, the endpoint of its origin, and the fetch.
+ghost use Rattle.std.specs.Prelude.{◌≡◌, ◌+◌, ◌≤◌, ◌↔◌, ◌++◌, [], ◌∷◌, false, length, true, Err, IfErr, IfOk, IfSome, IsTrue, Ok};
 ghost use Rattle.peer_view.specs.Sinks.{MAX_VALUE};
+ghost use Rattle.peer_origin.specs.declared.exchange.Failure.TheVariants as fail;
 ghost use Rattle.peer_fetch.specs.Fetchings.{request_at, use_by};
 ghost use Rattle.peer_fetch.specs.Values.{uses_of, IsFoundBy, IsSameTry, IsSecondTry};
 
 use crate::done::{Done, Fetched};
 use crate::fetching::{Answer, Fetching};
 use peer_fill::TakenJob;
-use peer_origin::{Failure, FetchFault, Place, request};
+use peer_origin::{Endpoint, Failure, FetchFault, request};
 use peer_source::Source;
 use std::alloc::Global;
 use std::time::Duration;
@@ -15,34 +16,34 @@ use std::time::Duration;
 /// A value under way. Its request is the one for the key of its job.
 #[derive(Drop)]
 pub struct UnderWay<'a, S: Source> {
-    place: &'a Place,
+    endpoint: &'a Endpoint,
     job: TakenJob<S>,
     fetching: Fetching,
     due: Duration,
-    ghost asks: { fetching.request.items ≡ request_at place.now job.place.key },
+    ghost asks: { fetching.request.items ≡ request_at endpoint.now job.place.key },
 }
 
 impl<'a, S: Source> UnderWay<'a, S> {
     /// The fetch of a job's value begins. It is given up when it is due.
     pub fn begin(
         alloc: Global,
-        place: &'a Place,
+        endpoint: &'a Endpoint,
         job: TakenJob<S>,
         due: Duration,
     ) -> Result<UnderWay<'a, S>, Done<'a, S>>
-        ensures kept { IfOk result (λ u. (u.place ≡ place.entry) × (u.job ≡ job) × (u.due ≡ due)) }
+        ensures kept { IfOk result (λ u. (u.endpoint ≡ endpoint.entry) × (u.job ≡ job) × (u.due ≡ due)) }
         ensures unused { IfOk result (λ u. uses_of u.fetching ≡ use_by u.fetching.request.items 0 [] false ∷ []) }
-        ensures given_back { IfErr result (λ d. (d.place ≡ place.entry) × (d.job ≡ job) × IfOk d.got (λ _. ⊥)) }
+        ensures given_back { IfErr result (λ d. (d.endpoint ≡ endpoint.entry) × (d.job ≡ job) × IfOk d.got (λ _. ⊥)) }
     {
-        match request(alloc, &place.host, &place.prefix, job.key()) {
+        match request(alloc, &endpoint.host, &endpoint.prefix, job.key()) {
             Ok(asked) => Ok(UnderWay {
-                place,
+                endpoint,
                 job,
                 fetching: Fetching::new(alloc, asked),
                 due,
             }),
             Err(why) => Err(Done {
-                place,
+                endpoint,
                 job,
                 got: Err(why),
             }),
@@ -51,21 +52,21 @@ impl<'a, S: Source> UnderWay<'a, S> {
 
     /// The fetch begins anew, on a new connection, where this may be.
     pub fn again(self, alloc: Global) -> Result<UnderWay<'a, S>, Done<'a, S>>
-        ensures kept { IfOk result (λ u. (u.place ≡ self.entry.place) × (u.job ≡ self.entry.job) × (u.due ≡ self.entry.due)) }
+        ensures kept { IfOk result (λ u. (u.endpoint ≡ self.entry.endpoint) × (u.job ≡ self.entry.job) × (u.due ≡ self.entry.due)) }
         ensures second { IfOk result (λ u. IsSecondTry self.entry.fetching u.fetching) }
-        ensures given_back { IfErr result (λ d. (d.place ≡ self.entry.place) × (d.job ≡ self.entry.job) × IfOk d.got (λ _. ⊥)) }
+        ensures given_back { IfErr result (λ d. (d.endpoint ≡ self.entry.endpoint) × (d.job ≡ self.entry.job) × IfOk d.got (λ _. ⊥)) }
     {
         let UnderWay {
-            place,
+            endpoint,
             job,
             mut fetching,
             due,
         } = self;
-        let asked = match request(alloc, &place.host, &place.prefix, job.key()) {
+        let asked = match request(alloc, &endpoint.host, &endpoint.prefix, job.key()) {
             Ok(asked) => asked,
             Err(why) => {
                 return Err(Done {
-                    place,
+                    endpoint,
                     job,
                     got: Err(why),
                 });
@@ -73,24 +74,24 @@ impl<'a, S: Source> UnderWay<'a, S> {
         };
         if fetching.again(alloc, asked) {
             return Ok(UnderWay {
-                place,
+                endpoint,
                 job,
                 fetching,
                 due,
             });
         }
         Err(Done {
-            place,
+            endpoint,
             job,
             got: Err(FetchFault::Lost),
         })
     }
 
-    /// The place of its origin.
-    pub fn place(&self) -> &'a Place
-        ensures { result ≡ self.now.place }
+    /// The endpoint of its origin.
+    pub fn endpoint(&self) -> &'a Endpoint
+        ensures { result ≡ self.now.endpoint }
     {
-        self.place
+        self.endpoint
     }
 
     /// When it is given up.
@@ -110,7 +111,7 @@ impl<'a, S: Source> UnderWay<'a, S> {
     /// So many bytes were sent.
     pub fn sent(&mut self, n: usize)
         requires { self.old.fetching.sent + n ≤ length self.old.fetching.request.items }
-        ensures kept { (self.new.place ≡ self.old.place) × (self.new.job ≡ self.old.job) × (self.new.due ≡ self.old.due) }
+        ensures kept { (self.new.endpoint ≡ self.old.endpoint) × (self.new.job ≡ self.old.job) × (self.new.due ≡ self.old.due) }
         ensures sent { self.new.fetching.sent ≡ self.old.fetching.sent + n }
         ensures request { self.new.fetching.request.items ≡ self.old.fetching.request.items }
         ensures came { self.new.fetching.receiving.came.bytes ≡ self.old.fetching.receiving.came.bytes }
@@ -130,7 +131,7 @@ impl<'a, S: Source> UnderWay<'a, S> {
     /// Bytes come. Gives the answer, once the reply is whole.
     pub fn receive(&mut self, bytes: &[u8]) -> Result<Option<Answer>, Failure>
         requires { length self.old.fetching.request.items ≤ self.old.fetching.sent }
-        ensures kept { (self.new.place ≡ self.old.place) × (self.new.job ≡ self.old.job) × (self.new.due ≡ self.old.due) }
+        ensures kept { (self.new.endpoint ≡ self.old.endpoint) × (self.new.job ≡ self.old.job) × (self.new.due ≡ self.old.due) }
         ensures same { IsSameTry self.old.fetching self.new.fetching }
         ensures came { self.new.fetching.receiving.came.bytes ≡ self.old.fetching.receiving.came.bytes ++ bytes.now }
         ensures ended { self.new.fetching.ended ≡ self.old.fetching.ended }
@@ -143,7 +144,7 @@ impl<'a, S: Source> UnderWay<'a, S> {
     /// The connection ended. Gives the answer, where the reply runs until then.
     pub fn end(&mut self) -> Result<Answer, Failure>
         requires { length self.old.fetching.request.items ≤ self.old.fetching.sent }
-        ensures kept { (self.new.place ≡ self.old.place) × (self.new.job ≡ self.old.job) × (self.new.due ≡ self.old.due) }
+        ensures kept { (self.new.endpoint ≡ self.old.endpoint) × (self.new.job ≡ self.old.job) × (self.new.due ≡ self.old.due) }
         ensures same { IsSameTry self.old.fetching self.new.fetching }
         ensures came { self.new.fetching.receiving.came.bytes ≡ self.old.fetching.receiving.came.bytes }
         ensures ended { self.new.fetching.ended ≡ true }
@@ -154,7 +155,9 @@ impl<'a, S: Source> UnderWay<'a, S> {
     }
 
     /// Why there is no value, where the connection failed.
-    pub fn cut(&self) -> Failure {
+    pub fn cut(&self) -> Failure
+        ensures { result ≡ fail.Silent ↔ (self.now.fetching.receiving.came.bytes ≡ []) }
+    {
         self.fetching.cut()
     }
 
@@ -162,12 +165,12 @@ impl<'a, S: Source> UnderWay<'a, S> {
     pub fn done(self, got: Result<Vec<u8>, FetchFault>) -> Done<'a, S>
         requires within { IfOk got (λ v. length v.items ≤ MAX_VALUE) }
         requires found { IfOk got (IsFoundBy self.fetching) }
-        ensures kept { (result.place ≡ self.entry.place) × (result.job ≡ self.entry.job) }
+        ensures kept { (result.endpoint ≡ self.entry.endpoint) × (result.job ≡ self.entry.job) }
         ensures got { IfOk result.got (λ f. (f.by ≡ self.entry.fetching) × (got ≡ Ok f.value)) }
         ensures fault { IfErr result.got (λ why. got ≡ Err why) }
     {
         let UnderWay {
-            place,
+            endpoint,
             job,
             fetching,
             ..
@@ -176,6 +179,6 @@ impl<'a, S: Source> UnderWay<'a, S> {
             Ok(value) => Ok(Fetched::new(value, fetching)),
             Err(fault) => Err(fault),
         };
-        Done { place, job, got }
+        Done { endpoint, job, got }
     }
 }

@@ -9,9 +9,9 @@ use mathlib.Core.Option.{some, some-ne-none}
 use lib.ListN.{get_elem?}
 use Rattle.crossbeam_queue.specs.Fifo.{Pushes, Pops, Forks, Merges, Learns}
 use Rattle.crossbeam_queue.proofs.Lists.{at_set, at_snoc}
-use Rattle.peer_fill.specs.declared.jobs.Hand.{Hand}
+use Rattle.peer_fill.specs.declared.jobs.PassLog.{PassLog}
 use Rattle.peer_fill.specs.declared.jobs.Ranked.{Ranked}
-use Rattle.peer_fill.specs.Jobs.{hand, ranked_at, ranked, Rises, Pushed, Popped, pushed_by, popped_by, weigh, total, ALL}
+use Rattle.peer_fill.specs.Jobs.{pass_log, ranked_at, ranked, Rises, Pushed, Popped, pushed_by, popped_by, weigh, total, ALL}
 use Rattle.peer_fill.specs.Jobs.{IdleIsEmpty, FirstInFirstOut, HasInOrder}
 
 weigh-append : (h : Ranked → ℕ) (xs ys : List Ranked) → weigh h (xs ++ ys) ≡ weigh h xs + weigh h ys
@@ -89,43 +89,43 @@ nil_rises i j x y at at' before = absurd (none-some x at)
 pub rises_none : (xs : List Ranked) → xs ≡ [] → Rises xs
 rises_none xs is = subst Rises (sym is) nil_rises
 
-total_set : (f : Hand → ℕ) (views : List Hand) (port : ℕ) (v w : Hand) → get_elem? views port ≡ some v
+total_set : (f : PassLog → ℕ) (views : List PassLog) (port : ℕ) (v w : PassLog) → get_elem? views port ≡ some v
     → total f (set views port w) + f v ≡ total f views + f w
 total_set f [] port v w at = absurd (some-ne-none v (sym at))
 total_set f (u ∷ us) zero v w at = let e : f u ≡ f v = ap f cc in omega (arith, e)
 total_set f (u ∷ us) (suc port) v w at = omega (arith, total_set f us port v w at)
 
-total-append : (f : Hand → ℕ) (xs ys : List Hand) → total f (xs ++ ys) ≡ total f xs + total f ys
+total-append : (f : PassLog → ℕ) (xs ys : List PassLog) → total f (xs ++ ys) ≡ total f xs + total f ys
 total-append f [] ys = omega arith
 total-append f (x ∷ xs) ys = omega (arith, total-append f xs ys)
 
 -- one pass is within the total
-at_most : (f : Hand → ℕ) (views : List Hand) (port : ℕ) (v : Hand) → get_elem? views port ≡ some v → f v ≤ total f views
+at_most : (f : PassLog → ℕ) (views : List PassLog) (port : ℕ) (v : PassLog) → get_elem? views port ≡ some v → f v ≤ total f views
 at_most f [] port v at = absurd (some-ne-none v (sym at))
 at_most f (u ∷ us) zero v at = let e : f u ≡ f v = ap f cc in omega (arith, e)
 at_most f (u ∷ us) (suc port) v at = omega (arith, at_most f us port v at)
 
-idle_set : (views : List Hand) (port : ℕ) (w : Hand) → (w.parts ≡ 0 → (w.pushed ≡ []) × (w.popped ≡ [])) → IdleIsEmpty views
+idle_set : (views : List PassLog) (port : ℕ) (w : PassLog) → (w.parts ≡ 0 → (w.pushed ≡ []) × (w.popped ≡ [])) → IdleIsEmpty views
     → IdleIsEmpty (set views port w)
 idle_set views port w mine old j u at none =
-    ⊎_elim (λ (x : (j ≡ port) × (w ≡ u)). subst (λ (y : Hand). (y.pushed ≡ []) × (y.popped ≡ [])) x.1
-    (mine (ap (λ (y : Hand). y.parts) x.1 ∙ none)))
+    ⊎_elim (λ (x : (j ≡ port) × (w ≡ u)). subst (λ (y : PassLog). (y.pushed ≡ []) × (y.popped ≡ [])) x.1
+    (mine (ap (λ (y : PassLog). y.parts) x.1 ∙ none)))
     (λ (x : (j ≢ port) × (get_elem? views j ≡ some u)). old j u x.1 none) (at_set views port j w u at)
 
-first_idle : (port : ℕ) (v : Hand) → get_elem? (hand ALL [] [] ∷ []) port ≡ some v → v.parts ≡ 0 → (v.pushed ≡ []) × (v.popped ≡ [])
-first_idle zero v at none = let e : hand ALL [] [] ≡ v = cc in let parts : ALL ≡ v.parts = ap (λ (y : Hand). y.parts) e in
+first_idle : (port : ℕ) (v : PassLog) → get_elem? (pass_log ALL [] [] ∷ []) port ≡ some v → v.parts ≡ 0 → (v.pushed ≡ []) × (v.popped ≡ [])
+first_idle zero v at none = let e : pass_log ALL [] [] ≡ v = cc in let parts : ALL ≡ v.parts = ap (λ (y : PassLog). y.parts) e in
     absurd (omega arith)
 first_idle (suc port) v at none = absurd (some-ne-none v (sym at))
 
 -- no rank of a pass is past those of the order
-below : (f : Hand → List Ranked) (order : List ℕ) (views : List Hand) (port : ℕ) (v : Hand) → get_elem? views port ≡ some v
+below : (f : PassLog → List Ranked) (order : List ℕ) (views : List PassLog) (port : ℕ) (v : PassLog) → get_elem? views port ≡ some v
     → ((h : Ranked → ℕ) → total (λ u. weigh h (f u)) views ≡ weigh h (ranked 0 order)) → All (λ x. x.rank < length order) (f v)
 below f order views port v at sum =
     let r = length order in
     let most = at_most (λ u. weigh (late r) (f u)) views port v at in
     all_below r (f v) (omega (arith, most, sum (late r), none_late r 0 order (omega arith)))
 
-pub begins : FirstInFirstOut [] (hand ALL [] [] ∷ [])
+pub begins : FirstInFirstOut [] (pass_log ALL [] [] ∷ [])
 begins = record {
   parts = refl;
   front = [];
@@ -134,7 +134,7 @@ begins = record {
   idle = first_idle;
 }
 
-pub pushes : (n port : ℕ) (v : Hand) (x : ℕ) → 0 < v.parts → Pushes FirstInFirstOut n port v x (Pushed v x)
+pub pushes : (n port : ℕ) (v : PassLog) (x : ℕ) → 0 < v.parts → Pushes FirstInFirstOut n port v x (Pushed v x)
 pushes n port v x some_part items views room b at =
     let order = b.front ++ items in
     let one = ranked_at (length order) x in
@@ -156,7 +156,7 @@ pushes n port v x some_part items views room b at =
       },
     )
 
-pub pops : (port : ℕ) (v : Hand) → 0 < v.parts → Pops FirstInFirstOut port v (Popped v)
+pub pops : (port : ℕ) (v : PassLog) → 0 < v.parts → Pops FirstInFirstOut port v (Popped v)
 pops port v some_part x items views b at =
     let one = ranked_at (length b.front) x in
     let w = popped_by v one in (
@@ -181,10 +181,10 @@ pops port v some_part x items views b at =
     )
 
 -- a pass gives some parts, but not its last one, and nothing of what it did
-pub forks : (port : ℕ) (v : Hand) (n : ℕ) → n < v.parts → Forks FirstInFirstOut port v (hand (v.parts - n) v.pushed v.popped) (hand n [] [])
+pub forks : (port : ℕ) (v : PassLog) (n : ℕ) → n < v.parts → Forks FirstInFirstOut port v (pass_log (v.parts - n) v.pushed v.popped) (pass_log n [] [])
 forks port v n rest items views b at =
-    let l = hand (v.parts - n) v.pushed v.popped in
-    let r = hand n [] [] in
+    let l = pass_log (v.parts - n) v.pushed v.popped in
+    let r = pass_log n [] [] in
     let vs = set views port l in
     let old : IdleIsEmpty vs = idle_set views port l (λ none. absurd (omega arith)) b.idle in
     record {
@@ -198,14 +198,14 @@ forks port v n rest items views b at =
           let t = total_set (λ u. weigh h u.popped) views port v l at in
           omega (arith, t, b.popped h, total-append (λ u. weigh h u.popped) vs (r ∷ []));
       idle = λ j u here none. ⊎_elim (λ (x : get_elem? vs j ≡ some u). old j u x none)
-          (λ (is : r ≡ u). (ap (λ (y : Hand). y.pushed) (sym is), ap (λ (y : Hand). y.popped) (sym is))) (at_snoc vs r u j here);
+          (λ (is : r ≡ u). (ap (λ (y : PassLog). y.pushed) (sym is), ap (λ (y : PassLog). y.popped) (sym is))) (at_snoc vs r u j here);
     }
 
-pub merges : (port : ℕ) (v : Hand) (other : ℕ) (u : Hand) → 0 < v.parts
-    → Merges FirstInFirstOut port v other u (hand (v.parts + u.parts) (v.pushed ++ u.pushed) (v.popped ++ u.popped)) (hand 0 [] [])
+pub merges : (port : ℕ) (v : PassLog) (other : ℕ) (u : PassLog) → 0 < v.parts
+    → Merges FirstInFirstOut port v other u (pass_log (v.parts + u.parts) (v.pushed ++ u.pushed) (v.popped ++ u.popped)) (pass_log 0 [] [])
 merges port v other u some_part items views b at apart at' =
-    let both = hand (v.parts + u.parts) (v.pushed ++ u.pushed) (v.popped ++ u.popped) in
-    let none = hand 0 [] [] in
+    let both = pass_log (v.parts + u.parts) (v.pushed ++ u.pushed) (v.popped ++ u.popped) in
+    let none = pass_log 0 [] [] in
     let vs = set views port both in
     record {
       parts = (let s = total_set (λ y. y.parts) views port v both at in let t = total_set (λ y. y.parts) vs other u none at' in let p =
@@ -223,26 +223,26 @@ merges port v other u some_part items views b at apart at' =
     }
 
 -- where no pass has a part, f, which is 0 of each pass with no part, is 0 in all
-none_left : (f : Hand → ℕ) (views : List Hand) → ((j : ℕ) (u : Hand) → get_elem? views j ≡ some u → u.parts ≡ 0 → f u ≡ 0)
+none_left : (f : PassLog → ℕ) (views : List PassLog) → ((j : ℕ) (u : PassLog) → get_elem? views j ≡ some u → u.parts ≡ 0 → f u ≡ 0)
     → total (λ u. u.parts) views ≡ 0 → total f views ≡ 0
 none_left f [] idle all = refl
 none_left f (u ∷ us) idle all = omega (arith, idle 0 u refl (omega arith), none_left f us (λ j v at. idle (suc j) v at) (omega arith))
 
 -- where a pass has all parts, the total of f is that pass's
-alone : (f : Hand → ℕ) (views : List Hand) (port : ℕ) (v : Hand) → ((j : ℕ) (u : Hand) → get_elem? views j ≡ some u → u.parts ≡ 0 → f u ≡ 0)
+alone : (f : PassLog → ℕ) (views : List PassLog) (port : ℕ) (v : PassLog) → ((j : ℕ) (u : PassLog) → get_elem? views j ≡ some u → u.parts ≡ 0 → f u ≡ 0)
     → get_elem? views port ≡ some v → total (λ u. u.parts) views ≡ v.parts → total f views ≡ f v
 alone f [] port v idle at all = absurd (some-ne-none v (sym at))
 alone f (u ∷ us) zero v idle at all =
     let e : u ≡ v = cc in
     let same : f u ≡ f v = ap f e in
-    let parts : u.parts ≡ v.parts = ap (λ (y : Hand). y.parts) e in
+    let parts : u.parts ≡ v.parts = ap (λ (y : PassLog). y.parts) e in
     omega (arith, none_left f us (λ j y here. idle (suc j) y here) (omega arith))
 alone f (u ∷ us) (suc port) v idle at all =
     let most = at_most (λ y. y.parts) us port v at in
     let rest : total (λ y. y.parts) us ≡ v.parts = omega arith in
     omega (arith, idle 0 u refl (omega arith), alone f us port v (λ j y here. idle (suc j) y here) at rest)
 
-pub learns : (port : ℕ) (v : Hand) → v.parts ≡ ALL → Learns FirstInFirstOut port v (λ items. HasInOrder items v)
+pub learns : (port : ℕ) (v : PassLog) → v.parts ≡ ALL → Learns FirstInFirstOut port v (λ items. HasInOrder items v)
 learns port v all items views b at = record {
   front = b.front;
   pushed = λ h.
@@ -254,10 +254,10 @@ learns port v all items views b at = record {
 }
 
 -- a push and a pop keep the order of what a pass did
-pub pushed_rises : (v w : Hand) (x : ℕ) → Pushed v x w → Rises v.pushed → Rises w.pushed
+pub pushed_rises : (v w : PassLog) (x : ℕ) → Pushed v x w → Rises v.pushed → Rises w.pushed
 pushed_rises v w x p up =
-    subst (λ (u : Hand). Rises u.pushed) (sym p.new) (rises_above v.pushed (ranked_at p.rank x) p.above up)
+    subst (λ (u : PassLog). Rises u.pushed) (sym p.new) (rises_above v.pushed (ranked_at p.rank x) p.above up)
 
-pub popped_rises : (v w : Hand) (x : ℕ) → Popped v x w → Rises v.popped → Rises w.popped
+pub popped_rises : (v w : PassLog) (x : ℕ) → Popped v x w → Rises v.popped → Rises w.popped
 popped_rises v w x p up =
-    subst (λ (u : Hand). Rises u.popped) (sym p.new) (rises_above v.popped (ranked_at p.rank x) p.above up)
+    subst (λ (u : PassLog). Rises u.popped) (sym p.new) (rises_above v.popped (ranked_at p.rank x) p.above up)

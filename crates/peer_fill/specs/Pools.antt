@@ -3,7 +3,7 @@ use Rattle.peer_source.specs.declared.source.Source as Source
 use Rattle.std.specs.declared.sync.ledger.Ledger as Ledger
 use Rattle.std.specs.Prelude.{ℕ}
 use Rattle.crossbeam_queue.specs.Passes.{IsPassOf, Pass}
-use Rattle.peer_fill.specs.declared.jobs.Hand.{Hand}
+use Rattle.peer_fill.specs.declared.jobs.PassLog.{PassLog}
 use Rattle.peer_fill.specs.declared.seats.ConnSeat.{ConnSeat}
 use Rattle.peer_fill.specs.declared.seats.FillSeat.{FillSeat}
 use Rattle.peer_fill.specs.declared.pool.Pool.{Pool}
@@ -14,7 +14,7 @@ module _ {S L : Type 0} {g : Source.Ghosts S} {h : Ledger.Ghosts L} where
   source_of pool = pool.source
 
   -- the seat, which has this pass, was dealt out when the pool was opened
-  abbrev pub IsSeatOf : {T : Type 0} → (T → Pass ℕ Hand) → Pool S L g h → T → Type 0
+  abbrev pub IsSeatOf : {T : Type 0} → (T → Pass ℕ PassLog) → Pool S L g h → T → Type 0
   IsSeatOf pass_of pool seat = IsPassOf pool.jobs (pass_of seat)
 
   -- the same of a connection's seat, and of a worker's

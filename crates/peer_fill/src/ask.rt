@@ -2,7 +2,8 @@
 //!
 //! It stands on the caches, the flights of `peer_flight` and the queue of jobs. It promises that a claim is of the group and
 //! the key that were asked for, that one which is ready shows a value that was found for them, and that it is counted once.
-ghost use Rattle.std.specs.Prelude.{◌≡◌, ◌+◌, ◌<◌, ◌^◌, Err, None, IfNone, IfOk, IfSome, IsSome, OnErr, OnOk, option_map};
+ghost use Rattle.std.specs.Prelude.{◌≡◌, ◌+◌, ◌<◌, ◌^◌, ◌↔◌, Err, None, IfNone, IfOk, IfSome, IsErrOf, IsSome};
+ghost use Rattle.std.specs.Prelude.{OnErr, OnOk, option_map};
 ghost use Rattle.peer_flight.specs.SingleFlight.{place_of};
 ghost use Rattle.peer_fill.specs.Seats.{asks_of, left_of, IsUnchanged};
 
@@ -66,7 +67,7 @@ impl<S: Source, L: Ledger> Pool<S, L> {
         ensures seat { KeepsSeat self.now seat.old seat.new }
         ensures left { left_of seat.new ≡ left_of seat.old }
         ensures most { OnOk result ((asks_of seat.old).asked < 2 ^ 56) }
-        ensures worn { (asks_of seat.old).asked ≡ 2 ^ 56 → result ≡ Err AskFault.Worn }
+        ensures worn { IsErrOf result AskFault.Worn ↔ ((asks_of seat.old).asked ≡ 2 ^ 56) }
         ensures claim { IfOk result (λ found. IfSome found
             (GivesClaim (place_of group.number key.now) (asks_of seat.old) (asks_of seat.new))) }
         ensures none { IfOk result (λ found. IfNone found (asks_of seat.new ≡ asks_of seat.old)) }
@@ -209,9 +210,6 @@ impl<S: Source, L: Ledger> Pool<S, L> {
         ensures refused { OnErr result (asks_of seat.new ≡ asks_of seat.old) }
         ensures worn { (asks_of seat.old).asked ≡ 2 ^ 56 → result ≡ Err AskFault.Worn }
     {
-        if seat.asks.asked == MAX_COUNT {
-            return Err(AskFault::Worn);
-        }
         let found = self.hit(rt, seat, group, key)?;
         if let Some(claim) = found {
             return Ok(Some(claim));

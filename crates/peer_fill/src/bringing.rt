@@ -18,8 +18,8 @@ use std::marker::Model;
 use std::sync::Wait;
 use std::sync::ledger::Ledger;
 
-/// A job that was taken, for whoever brings its answer. Each is to be handed to `Pool::finish`: those who wait for the
-/// flight of one that is let go wait for ever.
+/// A job that was taken, for whoever brings its answer. Each is to be handed to `Pool::finish` or `Pool::fill_job`: those
+/// who wait for the flight of one that is let go wait for ever.
 #[derive(Drop)]
 pub struct TakenJob<S: Source> {
     right: FillRight<S>,
@@ -59,7 +59,8 @@ impl<S: Source, L: Ledger> Pool<S, L> {
     ghost use Rattle.peer_source.specs.Outcomes.{answer_of};
 
     /// The oldest job, where there is one, for a caller that brings its answer from elsewhere and hands it to `finish`. It
-    /// waits for no job. The seat counts a call for it. Jobs whose value is kept by then are filled on the way.
+    /// waits for no job, and takes none once its seat has taken 2^56. The seat counts a call for it. Jobs whose value is
+    /// kept by then are filled on the way.
     pub fn take_job<R: Wait, G: Gate>(
         &self,
         rt: &R,

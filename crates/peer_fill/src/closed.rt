@@ -3,7 +3,7 @@ ghost use Rattle.std.specs.Prelude.{◌≡◌};
 ghost use Rattle.crossbeam_queue.specs.Passes.{IsPassOf};
 
 use crate::jobs::Jobs;
-use crate::table::{Counted, HasSixteenParts};
+use crate::table::{CountedTable, HasSixteenParts};
 use crate::totals::Totals;
 use peer_source::Source;
 use std::sync::ledger::Ledger;
@@ -12,7 +12,7 @@ use std::sync::ledger::Ledger;
 #[derive(Drop)]
 pub struct Closed<S: Source, L: Ledger> {
     pub(crate) jobs: Jobs<S>,
-    pub(crate) table: Counted<S, L>,
+    pub(crate) table: CountedTable<S, L>,
     pub(crate) sixteen: HasSixteenParts<L>,
     pub(crate) totals: Totals<S, L>,
     ghost all_parts: { (totals.conn_parts ≡ 16) × (totals.fill_parts ≡ 16) },

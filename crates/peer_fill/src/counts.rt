@@ -20,7 +20,7 @@ pub struct AskCounts {
 /// What workers counted.
 #[derive(Clone, Copy, Debug)]
 pub struct FillCounts {
-    /// The jobs for which the source was called.
+    /// The jobs that were filled: the source was called, or they were taken out of the pool for that.
     pub calls: u64,
     /// The jobs whose fill was there already.
     pub rehits: u64,

@@ -2,10 +2,11 @@
 ghost use Rattle.std.specs.Prelude.{◌≡◌, ◌<◌, ◌≤◌, [], All, IfOk, vec_len};
 ghost use Rattle.crossbeam_queue.specs.Passes.{view, IsPassOf};
 ghost use Rattle.peer_fill.specs.Counts.{no_asks, no_fills};
-ghost use Rattle.peer_fill.specs.Jobs.{hand};
+ghost use Rattle.peer_fill.specs.Jobs.{pass_log};
 ghost use Rattle.peer_fill.specs.Seats.{asks_of, fills_of, HaveAllConns, HaveAllFills};
 
-use crate::jobs::{Half, Hand, Job, Jobs, OnePart, empty_queue};
+use crate::jobs::{Half, Job, Jobs, OnePart, PassLog, empty_queue};
+use crate::seat::MAX_SEATS;
 use crate::seats::{ConnSeat, FillSeat};
 use crossbeam_queue::Pass;
 use peer_source::Source;
@@ -25,18 +26,18 @@ pub struct Dealt<S: Source, L: Ledger> {
 fn deal_fills<S: Source, L: Ledger>(
     alloc: Global,
     jobs: &Jobs<S>,
-    mut pass: Pass<Job<S>, Hand>,
+    mut pass: Pass<Job<S>, PassLog>,
     count: usize,
 ) -> Result<Vec<FillSeat<S, L>>, AllocError>
     requires count { (0 < count) × (count ≤ 16) }
-    requires pass { IsPassOf jobs.now pass × (view pass ≡ hand 16 [] []) }
+    requires pass { IsPassOf jobs.now pass × (view pass ≡ pass_log 16 [] []) }
     ensures count { IfOk result (λ seats. vec_len seats ≡ count) }
     ensures pass { IfOk result (λ seats. All (λ s. IsPassOf jobs.now s.pass) seats.items) }
     ensures counts { IfOk result (λ seats. All (λ s. fills_of s ≡ no_fills) seats.items) }
     ensures all { IfOk result (λ seats. HaveAllFills seats.items) }
 {
     let mut seats = Vec::new(alloc);
-    let mut left = 16;
+    let mut left = MAX_SEATS;
     for _i in 1..count {
         let one = jobs.another::<OnePart>(&mut pass);
         left -= 1;
@@ -50,12 +51,12 @@ fn deal_fills<S: Source, L: Ledger>(
 fn deal_conns<S: Source, L: Ledger>(
     alloc: Global,
     jobs: &Jobs<S>,
-    mut pass: Pass<Job<S>, Hand>,
+    mut pass: Pass<Job<S>, PassLog>,
     mut share: Share<L>,
     count: usize,
 ) -> Result<Vec<ConnSeat<S, L>>, AllocError>
     requires count { (0 < count) × (count ≤ 16) }
-    requires pass { IsPassOf jobs.now pass × (view pass ≡ hand 16 [] []) }
+    requires pass { IsPassOf jobs.now pass × (view pass ≡ pass_log 16 [] []) }
     requires share { (share.parts ≡ 16) × (share.amount ≡ 0) }
     ensures count { IfOk result (λ seats. vec_len seats ≡ count) }
     ensures pass { IfOk result (λ seats. All (λ s. IsPassOf jobs.now s.pass) seats.items) }
@@ -63,7 +64,7 @@ fn deal_conns<S: Source, L: Ledger>(
     ensures all { IfOk result (λ seats. HaveAllConns seats.items) }
 {
     let mut seats = Vec::new(alloc);
-    let mut left = 16;
+    let mut left = MAX_SEATS;
     for _i in 1..count {
         let one = jobs.another::<OnePart>(&mut pass);
         let part = share.split_off(1, 0);

@@ -2,10 +2,10 @@
 //!
 //! It stands on the flights of `peer_flight`, the sources, fills and caches of `peer_source`, the waits of `peer_wait`
 //! and the ruled queue of `crossbeam_queue`. It promises that a claim is of the group and the key that were asked for,
-//! that one which is ready is the entry that a cache keeps for them, that each ask is counted once by what it gave, that
-//! jobs are first in, first out, and that a pool is closed exactly where all its seats are handed in, with a report that
-//! adds up: what was led is what was called for, was kept by then, or is left. Threads that are handed seats give them
-//! back with their parts.
+//! that one which is ready shows a value that was found for them, that each ask is counted once by what it gave, that jobs
+//! are first in, first out, and that a pool is closed exactly where all its seats are handed in, with a report that adds
+//! up: what was led is what was called for, was kept by then, or is left. Threads that are handed seats give them back
+//! with their parts.
 #![tactic(auto)]
 
 mod ask;
@@ -41,10 +41,10 @@ pub use closed::Closed;
 pub use counts::{AskCounts, FillCounts};
 pub use gate::{Gate, NoGate};
 pub use handing::pop_seat;
-pub use jobs::{Hand, Job};
+pub use jobs::{Job, PassLog};
 pub use keeping::{Keeps, join_seats};
 pub use lists::Seats;
 pub use open::{OpenFault, Opened};
 pub use pool::Pool;
-pub use seat::Seat;
+pub use seat::{MAX_SEATS, Seat};
 pub use seats::{ConnSeat, FillSeat};

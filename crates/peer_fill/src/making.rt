@@ -1,7 +1,7 @@
 //! How a worker comes by the fill of a job: a cache keeps its value by then, or the source is called.
 //!
-//! It stands on the caches and fills of `peer_source`. It promises a fill of the group and the key that were asked for, whose
-//! answer is one that the source may give.
+//! It stands on the caches and fills of `peer_source`. It promises a fill of the group and the key that were asked for: a
+//! value that a cache kept for them, or what the source may answer.
 ghost use Rattle.std.specs.Prelude.{◌≡◌, ◌<◌, ◌^◌, [], IfNone, IfSome};
 
 use crate::counts::FillCounts;

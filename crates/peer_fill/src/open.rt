@@ -3,6 +3,7 @@ ghost use Rattle.std.specs.Prelude.{◌≡◌, ◌<◌, ◌≤◌, ◌↔◌, Is
 ghost use Rattle.peer_fill.specs.Opens.{IsOutside, IsWithin};
 
 use crate::pool::Pool;
+use crate::seat::MAX_SEATS;
 use crate::seats::{ConnSeat, FillSeat};
 use peer_source::{MAX_GROUPS, Source};
 use std::alloc::AllocError;
@@ -32,8 +33,6 @@ impl From<AllocError> for OpenFault {
     }
 }
 
-const MAX_SEATS: usize = 16;
-
 /// Whether a pool can be opened with so many workers, connections and groups.
 pub(crate) fn check_numbers(workers: usize, conns: usize, groups: usize) -> Result<(), OpenFault>
     ensures workers { IsErrOf result OpenFault.Workers ↔ IsOutside 16 workers }
@@ -42,10 +41,10 @@ pub(crate) fn check_numbers(workers: usize, conns: usize, groups: usize) -> Resu
     ensures memory { ¬ IsErrOf result OpenFault.Memory }
     ensures within { OnOk result (IsWithin 16 workers × IsWithin 16 conns × IsWithin 64 groups) }
 {
-    if workers == 0 || workers > MAX_SEATS {
+    if workers == 0 || workers > MAX_SEATS as usize {
         return Err(OpenFault::Workers);
     }
-    if conns == 0 || conns > MAX_SEATS {
+    if conns == 0 || conns > MAX_SEATS as usize {
         return Err(OpenFault::Conns);
     }
     if groups == 0 || groups > MAX_GROUPS {

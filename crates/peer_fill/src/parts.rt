@@ -2,13 +2,10 @@
 ghost use Rattle.std.specs.Prelude.{◌≡◌, ◌↔◌, IsTrue, sum_by};
 ghost use Rattle.peer_fill.specs.Seats.{HaveAllConns, HaveAllFills};
 
-use crate::seat::Seat;
+use crate::seat::{MAX_SEATS, Seat};
 use crate::seats::{ConnSeat, FillSeat};
 use peer_source::Source;
 use std::sync::ledger::Ledger;
-
-// The parts of the seats of one kind.
-const PARTS: u64 = 16;
 
 // Whether these seats have all parts of their kind.
 fn have_all_parts<T: Seat>(seats: &[T]) -> bool
@@ -17,11 +14,11 @@ fn have_all_parts<T: Seat>(seats: &[T]) -> bool
     let mut sum = 0;
     for seat in seats {
         sum += seat.parts();
-        if sum > PARTS {
+        if sum > MAX_SEATS {
             return false;
         }
     }
-    sum == PARTS
+    sum == MAX_SEATS
 }
 
 /// Whether these seats have all parts of the connections.

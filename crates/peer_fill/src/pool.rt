@@ -12,7 +12,7 @@ use crate::open::{OpenFault, Opened, check_numbers};
 use crate::parts::{has_all_conns, has_all_fills};
 use crate::seats::{ConnSeat, FillSeat};
 use crate::signals::Signals;
-use crate::table::{Counted, HasSixteenParts};
+use crate::table::{CountedTable, HasSixteenParts};
 use crossbeam_utils::CachePadded;
 use peer_source::{Names, Source};
 use peer_wait::lock;
@@ -28,7 +28,7 @@ use std::sync::{Mutex, Wait};
 pub struct Pool<S: Source, L: Ledger> {
     pub(crate) source: S,
     pub(crate) jobs: Jobs<S>,
-    pub(crate) table: Mutex<Counted<S, L>>,
+    pub(crate) table: Mutex<CountedTable<S, L>>,
     pub(crate) caches: Mutex<Caches<S>>,
     pub(crate) signals: Signals,
     pub(crate) stopping: CachePadded<AtomicBool>,
@@ -69,7 +69,7 @@ impl<S: Source, L: Ledger> Pool<S, L> {
         let pool = Pool {
             source,
             jobs: dealt.jobs,
-            table: Mutex::new(Counted::new(alloc, dealt.book)),
+            table: Mutex::new(CountedTable::new(alloc, dealt.book)),
             caches: Mutex::new(caches),
             signals: Signals::new(),
             stopping: CachePadded::new(AtomicBool::new(false)),
@@ -83,7 +83,7 @@ impl<S: Source, L: Ledger> Pool<S, L> {
     }
 
     /// The names of the source's groups.
-    pub fn source(&self) -> Names<'_, S>
+    pub fn names(&self) -> Names<'_, S>
         ensures { result ≡ source_of self.now }
     {
         Names::of(&self.source)

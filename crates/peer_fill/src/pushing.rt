@@ -7,7 +7,7 @@ ghost use Rattle.crossbeam_queue.specs.Passes.{view, IsPassOf};
 ghost use Rattle.peer_fill.specs.Jobs.{Pushed};
 ghost use Rattle.peer_fill.specs.Seats.{asks_of, left_of};
 
-use crate::jobs::{Hand, Job, Push};
+use crate::jobs::{Job, PassLog, Push};
 use crate::pool::Pool;
 use crate::seats::ConnSeat;
 use crossbeam_queue::Pass;
@@ -24,7 +24,7 @@ impl<S: Source, L: Ledger> Pool<S, L> {
     pub(crate) fn push<R: Wait>(
         &self,
         rt: &R,
-        pass: &mut Pass<Job<S>, Hand>,
+        pass: &mut Pass<Job<S>, PassLog>,
         job: Job<S>,
     ) -> Option<Job<S>>
         requires pass { IsPassOf self.now.jobs pass.old }

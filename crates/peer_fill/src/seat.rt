@@ -4,16 +4,19 @@
 ghost use Rattle.std.specs.Prelude.{◌≡◌, ◌≤◌, ℕ};
 ghost use Rattle.crossbeam_queue.specs.Passes.{Pass};
 ghost use Rattle.peer_fill.specs.Seats.{conn_parts, fill_parts};
-ghost use Rattle.peer_fill.specs.declared.jobs.Hand.{Hand};
+ghost use Rattle.peer_fill.specs.declared.jobs.PassLog.{PassLog};
 
 use crate::seats::{ConnSeat, FillSeat};
 use peer_source::Source;
 use std::sync::ledger::Ledger;
 
+/// The most seats of a kind: the queue of jobs and the ledger have so many parts, and a seat has one at least.
+pub const MAX_SEATS: u64 = 16;
+
 /// A seat of a pool.
 pub trait Seat {
     // Its pass of the queue of jobs.
-    ghost pass_of: { Self → Pass ℕ Hand };
+    ghost pass_of: { Self → Pass ℕ PassLog };
 
     // Its parts of the pool.
     ghost parts_of: { Self → ℕ };

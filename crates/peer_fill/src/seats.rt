@@ -2,10 +2,10 @@
 ghost use Rattle.std.specs.Prelude.{◌≡◌, ℕ, ◌+◌, ◌^◌, ◌≤◌, ◌<◌, ◌↔◌, [], length, min, None, IsSome, IsTrue};
 ghost use Rattle.crossbeam_queue.specs.Passes.{view};
 ghost use Rattle.peer_fill.specs.Counts.{no_asks, no_fills, taken_of};
-ghost use Rattle.peer_fill.specs.Jobs.{hand, left_count, Rises};
+ghost use Rattle.peer_fill.specs.Jobs.{pass_log, left_count, Rises};
 
 use crate::counts::{AskCounts, FillCounts, Found};
-use crate::jobs::{Hand, Job};
+use crate::jobs::{Job, PassLog};
 use crossbeam_queue::Pass;
 use peer_source::{Evicted, MAX_ENTRIES, Source};
 use std::alloc::Global;
@@ -18,7 +18,7 @@ pub(crate) const MAX_COUNT: u64 = 1 << 56;
 /// A connection's seat.
 #[derive(Drop)]
 pub struct ConnSeat<S: Source, L: Ledger> {
-    pub(crate) pass: Pass<Job<S>, Hand>,
+    pub(crate) pass: Pass<Job<S>, PassLog>,
     pub(crate) share: Share<L>,
     pub(crate) parts: u64,
     pub(crate) asks: AskCounts,
@@ -39,7 +39,7 @@ pub struct ConnSeat<S: Source, L: Ledger> {
 /// A worker's seat.
 #[derive(Drop)]
 pub struct FillSeat<S: Source, L: Ledger> {
-    pub(crate) pass: Pass<Job<S>, Hand>,
+    pub(crate) pass: Pass<Job<S>, PassLog>,
     pub(crate) of: PhantomData<L>,
     pub(crate) parts: u64,
     pub(crate) fills: FillCounts,
@@ -59,9 +59,9 @@ impl<S: Source, L: Ledger> ConnSeat<S, L> {
     ghost use Rattle.peer_fill.specs.Counts.{with_found};
 
     // A seat that has asked nothing.
-    pub(crate) fn new(pass: Pass<Job<S>, Hand>, share: Share<L>, parts: u64) -> ConnSeat<S, L>
+    pub(crate) fn new(pass: Pass<Job<S>, PassLog>, share: Share<L>, parts: u64) -> ConnSeat<S, L>
         requires parts { (0 < parts) × (parts ≤ 16) }
-        requires pass { view pass ≡ hand parts [] [] }
+        requires pass { view pass ≡ pass_log parts [] [] }
         requires share { (share.parts ≡ parts) × (share.amount ≡ 0) }
         ensures pass { result.pass ≡ pass }
         ensures parts { conn_parts result ≡ parts }
@@ -149,9 +149,9 @@ impl<S: Source, L: Ledger> FillSeat<S, L> {
     ghost use Rattle.peer_fill.specs.Seats.{fills_of, fill_parts};
 
     // A seat that has taken no job.
-    pub(crate) fn new(alloc: Global, pass: Pass<Job<S>, Hand>, parts: u64) -> FillSeat<S, L>
+    pub(crate) fn new(alloc: Global, pass: Pass<Job<S>, PassLog>, parts: u64) -> FillSeat<S, L>
         requires parts { (0 < parts) × (parts ≤ 16) }
-        requires pass { view pass ≡ hand parts [] [] }
+        requires pass { view pass ≡ pass_log parts [] [] }
         ensures pass { result.pass ≡ pass }
         ensures parts { fill_parts result ≡ parts }
         ensures fills { fills_of result ≡ no_fills }
@@ -191,7 +191,7 @@ impl<S: Source, L: Ledger> FillSeat<S, L> {
         self.fills.calls
     }
 
-    /// The jobs whose fill was there before the source was called.
+    /// The jobs whose fill was there before they were filled.
     pub fn rehits(&self) -> u64
         ensures { result ≡ (fills_of self.now).rehits }
     {

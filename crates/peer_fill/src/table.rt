@@ -9,9 +9,9 @@ use std::alloc::{AllocError, Global};
 use std::marker::PhantomData;
 use std::sync::ledger::{Book, Ledger, Share};
 
-/// A flight table, and the book whose total is the number of its flights.
+/// A flight table, and the book whose total is the number of the flights that it led.
 #[derive(Drop)]
-pub struct Counted<S: Source, L: Ledger> {
+pub struct CountedTable<S: Source, L: Ledger> {
     table: Table<S>,
     led: Book<L>,
     ghost counted: { (state_of table).number ≡ led.total },
@@ -24,15 +24,15 @@ pub struct HasSixteenParts<L: Ledger> {
     ghost is: { L.parts ≡ 16 },
 }
 
-impl<S: Source, L: Ledger> Counted<S, L> {
+impl<S: Source, L: Ledger> CountedTable<S, L> {
     ghost use Rattle.peer_flight.specs.SingleFlight.{Lands, place_of};
     ghost use Rattle.peer_flight.specs.Tables.{Gives, Stands, flight_at};
     ghost use Rattle.peer_fill.specs.Asks.{led_count};
 
-    pub fn new(alloc: Global, led: Book<L>) -> Counted<S, L>
+    pub fn new(alloc: Global, led: Book<L>) -> CountedTable<S, L>
         requires { led.total ≡ 0 }
     {
-        Counted {
+        CountedTable {
             table: Table::new(alloc),
             led,
         }
@@ -53,7 +53,7 @@ impl<S: Source, L: Ledger> Counted<S, L> {
         ensures refused { OnErr result (share.new.amount ≡ share.old.amount) }
         ensures parts { share.new.parts ≡ share.old.parts }
     {
-        let Counted { table, led } = self;
+        let CountedTable { table, led } = self;
         match table.want(alloc, group, key) {
             Ok(Ask::Led(flight, right)) => {
                 led.add(share, 1);
@@ -86,7 +86,7 @@ impl<S: Source, L: Ledger> Counted<S, L> {
         ensures seats { result ≡ all.old.amount }
     {
         let _ = &parts.of;
-        let Counted { table, led } = self;
+        let CountedTable { table, led } = self;
         led.audit(all);
         table.counts().0
     }

@@ -5,7 +5,7 @@ ghost use Rattle.std.specs.Prelude.{◌≡◌, ◌<◌, MatchOption};
 ghost use Rattle.crossbeam_queue.specs.Passes.{view, IsPassOf};
 ghost use Rattle.peer_fill.specs.Jobs.{Popped};
 
-use crate::jobs::{Hand, Job, Pop};
+use crate::jobs::{Job, PassLog, Pop};
 use crate::pool::Pool;
 use crossbeam_queue::Pass;
 use peer_source::Source;
@@ -25,7 +25,11 @@ pub(crate) enum Take {
 
 impl<S: Source, L: Ledger> Pool<S, L> {
     // The oldest job, where there is one. Where there is none, all who wait for room are told.
-    pub(crate) fn pop_job<R: Wait>(&self, rt: &R, pass: &mut Pass<Job<S>, Hand>) -> Option<Job<S>>
+    pub(crate) fn pop_job<R: Wait>(
+        &self,
+        rt: &R,
+        pass: &mut Pass<Job<S>, PassLog>,
+    ) -> Option<Job<S>>
         requires pass { IsPassOf self.now.jobs pass.old }
         requires part { 0 < (view pass.old).parts }
         ensures pass { IsPassOf self.now.jobs pass.new }
@@ -39,7 +43,7 @@ impl<S: Source, L: Ledger> Pool<S, L> {
     }
 
     // The oldest job, once there is one, or none where the pool was stopped before a look that found none.
-    fn next_job<R: Wait>(&self, rt: &R, pass: &mut Pass<Job<S>, Hand>) -> Option<Job<S>>
+    fn next_job<R: Wait>(&self, rt: &R, pass: &mut Pass<Job<S>, PassLog>) -> Option<Job<S>>
         requires pass { IsPassOf self.now.jobs pass.old }
         requires part { 0 < (view pass.old).parts }
         ensures pass { IsPassOf self.now.jobs pass.new }
@@ -66,7 +70,7 @@ impl<S: Source, L: Ledger> Pool<S, L> {
     pub(crate) fn take<R: Wait>(
         &self,
         rt: &R,
-        pass: &mut Pass<Job<S>, Hand>,
+        pass: &mut Pass<Job<S>, PassLog>,
         take: Take,
     ) -> Option<Job<S>>
         requires pass { IsPassOf self.now.jobs pass.old }
@@ -81,7 +85,7 @@ impl<S: Source, L: Ledger> Pool<S, L> {
     }
 
     // A worker that was woken wakes the next one, where more jobs are left.
-    fn wake_next(&self, pass: &mut Pass<Job<S>, Hand>)
+    fn wake_next(&self, pass: &mut Pass<Job<S>, PassLog>)
         requires pass { IsPassOf self.now.jobs pass.old }
         ensures pass { IsPassOf self.now.jobs pass.new }
         ensures same { view pass.new ≡ view pass.old }

@@ -6,7 +6,7 @@ ghost use Rattle.peer_fill.specs.Jobs.{left_count};
 ghost use Rattle.peer_fill.specs.Seats.{asks_of, conn_parts, fill_parts};
 
 use crate::counts::{AskCounts, FillCounts};
-use crate::jobs::{Hand, Job, Jobs, OnePart};
+use crate::jobs::{Job, Jobs, OnePart, PassLog};
 use crate::seats::{ConnSeat, FillSeat};
 use crossbeam_queue::Pass;
 use peer_source::Source;
@@ -15,7 +15,7 @@ use std::sync::ledger::{Ledger, Share};
 /// Sums over seats, of which one at least is a connection's.
 #[derive(Drop)]
 pub struct Totals<S: Source, L: Ledger> {
-    pub pass: Pass<Job<S>, Hand>,
+    pub pass: Pass<Job<S>, PassLog>,
     pub share: Share<L>,
     pub conn_parts: u64,
     pub fill_parts: u64,

@@ -1,7 +1,8 @@
 //! What becomes of a claim: its fill is waited for, and where one of strangers came, another is made.
 //!
-//! It stands on the claims of `peer_flight` and the waits of `peer_wait`. It promises the fill that the claim shows, and a
-//! fill of the claim's own group and key in place of a stranger's.
+//! It stands on the claims of `peer_flight` and the waits of `peer_wait`. It promises the fill of a claim that is ready,
+//! and a fill of the claim's own group and key in place of a stranger's. Of a fill that comes with a flight the clause says
+//! that it is learned, not which it is.
 ghost use Rattle.std.specs.Prelude.{◌≡◌, None, Ok, Some, IfNone, IfOk, IfSome};
 ghost use Rattle.peer_flight.specs.Claims.{claim_place, Looked};
 ghost use Rattle.peer_flight.specs.SingleFlight.{place_of};

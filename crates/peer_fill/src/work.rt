@@ -75,7 +75,8 @@ impl<S: Source, L: Ledger> Pool<S, L> {
         seat
     }
 
-    /// Fills the jobs that are there, so many at most, and waits for none. How many it filled.
+    /// Fills the jobs that are there, so many at most, and waits for none. Once its seat has taken 2^56, it fills none. How
+    /// many it filled.
     pub fn work_some<R: Wait, G: Gate>(
         &self,
         rt: &R,

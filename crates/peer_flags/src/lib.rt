@@ -1,7 +1,7 @@
 //! The words that `peer_front` is called with: its flags, their defaults and their bounds.
 //!
-//! It stands on `clap`. It promises a number within the bounds of its flag, and for each word that cannot be used a
-//! sentence that names it; and never more connections or values under way than were asked for.
+//! It stands on `clap`. It promises numbers within the bounds of their flags, and room for one connection and one value at
+//! least, and for no more than were asked for. Its tests show the sentence for each word that cannot be used.
 #![tactic(auto)]
 
 mod flags;
@@ -14,4 +14,3 @@ mod tests;
 pub use flags::command;
 pub use options::{BadWord, Options, PageAddress, WordFault};
 pub use room::Room;
-pub use size::{bytes_of, number_of};

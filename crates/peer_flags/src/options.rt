@@ -1,5 +1,5 @@
 //! The words that the program is called with.
-ghost use Rattle.std.specs.Prelude.{◌≤◌};
+ghost use Rattle.std.specs.Prelude.{◌≤◌, IfOk};
 
 use crate::size::{bytes_of, number_of};
 use clap::ArgMatches;
@@ -40,9 +40,9 @@ pub enum WordFault {
     Page,
 }
 
-/// A word that cannot be used, behind the flag that it was given to.
+/// A word that cannot be used, and the flag that it was given to, without its dashes.
 #[derive(Clone, Copy, Debug, PartialEq, Eq, Error)]
-#[error("{flag} {word}: {fault}")]
+#[error("--{flag} {word}: {fault}")]
 pub struct BadWord<'w> {
     pub flag: &'w str,
     pub word: &'w str,
@@ -92,11 +92,12 @@ pub struct Options<'w> {
 fn number<'w>(
     matches: &ArgMatches<'w>,
     flag: &'w str,
-    name: &str,
     least: u64,
     most: u64,
-) -> Result<u64, BadWord<'w>> {
-    let word = matches.get_str(name).unwrap_or("");
+) -> Result<u64, BadWord<'w>>
+    ensures { IfOk result (λ number. (least ≤ number) × (number ≤ most)) }
+{
+    let word = matches.get_str(flag).unwrap_or("");
     match number_of(word, least, most) {
         Some(number) => Ok(number),
         None => Err(BadWord {
@@ -108,8 +109,8 @@ fn number<'w>(
 }
 
 // The size of a flag.
-fn size<'w>(matches: &ArgMatches<'w>, flag: &'w str, name: &str) -> Result<u64, BadWord<'w>> {
-    let word = matches.get_str(name).unwrap_or("");
+fn size<'w>(matches: &ArgMatches<'w>, flag: &'w str) -> Result<u64, BadWord<'w>> {
+    let word = matches.get_str(flag).unwrap_or("");
     match bytes_of(word) {
         Some(bytes) => Ok(bytes),
         None => Err(BadWord {
@@ -135,7 +136,7 @@ fn listen<'w>(matches: &ArgMatches<'w>) -> Result<&'w str, BadWord<'w>> {
         return Ok(word);
     }
     Err(BadWord {
-        flag: "--listen",
+        flag: "listen",
         word,
         fault: WordFault::Address,
     })
@@ -160,7 +161,7 @@ fn stats<'w>(matches: &ArgMatches<'w>) -> Result<Option<PageAddress<'w>>, BadWor
     match page_address(word) {
         Some(address) => Ok(Some(address)),
         None => Err(BadWord {
-            flag: "--stats",
+            flag: "stats",
             word,
             fault: WordFault::Page,
         }),
@@ -179,25 +180,25 @@ fn first_for_services(matches: &ArgMatches<'_>) -> Option<&'static str> {
 
 impl<'w> Options<'w> {
     /// What the words say, or the first that cannot be used.
-    pub fn of(matches: &ArgMatches<'w>) -> Result<Options<'w>, BadWord<'w>> {
+    pub fn of(matches: &ArgMatches<'w>) -> Result<Options<'w>, BadWord<'w>>
+        ensures fetchers { IfOk result (λ o. (1 ≤ o.fetchers) × (o.fetchers ≤ 4)) }
+        ensures under_way { IfOk result (λ o. (1 ≤ o.under_way) × (o.under_way ≤ 1024)) }
+        ensures workers { IfOk result (λ o. o.workers ≤ 16) }
+        ensures loops { IfOk result (λ o. (1 ≤ o.loops) × (o.loops ≤ 16)) }
+        ensures connections { IfOk result (λ o. (1 ≤ o.connections) × (o.connections ≤ 65536)) }
+    {
         Ok(Options {
             listen: listen(matches)?,
             demo: matches.get_flag("demo"),
             table: matches.get_str("table"),
-            fetchers: number(matches, "--fetchers", "fetchers", 1, MAX_FETCHERS)? as usize,
-            under_way: number(matches, "--under-way", "under-way", 1, MAX_UNDER_WAY)? as usize,
-            workers: number(matches, "--workers", "workers", 0, MAX_THREADS)? as usize,
-            loops: number(matches, "--loops", "loops", 1, MAX_THREADS)? as usize,
-            connections: number(
-                matches,
-                "--connections",
-                "connections",
-                1,
-                MAX_CONNECTIONS,
-            )? as usize,
-            cache_bytes: size(matches, "--cache", "cache")?,
-            memory: size(matches, "--memory", "memory")? as usize,
-            timeout: Duration::from_secs(number(matches, "--timeout", "timeout", 1, MAX_TIMEOUT)?),
+            fetchers: number(matches, "fetchers", 1, MAX_FETCHERS)? as usize,
+            under_way: number(matches, "under-way", 1, MAX_UNDER_WAY)? as usize,
+            workers: number(matches, "workers", 0, MAX_THREADS)? as usize,
+            loops: number(matches, "loops", 1, MAX_THREADS)? as usize,
+            connections: number(matches, "connections", 1, MAX_CONNECTIONS)? as usize,
+            cache_bytes: size(matches, "cache")?,
+            memory: size(matches, "memory")? as usize,
+            timeout: Duration::from_secs(number(matches, "timeout", 1, MAX_TIMEOUT)?),
             connection_for_each: matches.get_flag("connection-for-each"),
             stats: stats(matches)?,
             until_eof: matches.get_flag("until-eof"),

@@ -43,6 +43,8 @@ impl<'w> Options<'w> {
     pub fn room_within(&self, files: usize, has_services: bool) -> Room
         ensures connections { result.connections ≤ self.now.connections }
         ensures under_way { result.under_way ≤ self.now.under_way }
+        ensures connection { 1 ≤ self.now.connections → 1 ≤ result.connections }
+        ensures value { 1 ≤ self.now.under_way → 1 ≤ result.under_way }
     {
         let left = files.saturating_sub(OWN_FILES);
         let most = if !has_services || self.files(has_services) <= files {

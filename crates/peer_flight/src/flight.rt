@@ -15,16 +15,16 @@ use std::sync::Arc;
 
 // What the shares of a flight have in common.
 #[derive(Drop)]
-struct Landing<S: Source> {
+struct Shared<S: Source> {
     number: u64,
     place: Place,
     cell: OnceBox<Fill<S>>,
 }
 
-/// One run of the source, whose fill all that wait share.
+/// A fill on its way, which all that wait for it share.
 #[derive(Drop)]
 pub struct Flight<S: Source> {
-    landing: Arc<Landing<S>>,
+    shared: Arc<Shared<S>>,
 }
 
 impl<S: Source> Model for Flight<S> {
@@ -35,9 +35,9 @@ impl<S: Source> Model for Flight<S> {
     ghost Value = { FlightId };
 
     ghost view = { λ f. record {
-      number = (arc_value f.landing).number;
-      place = (arc_value f.landing).place;
-      cell = cell_name (arc_value f.landing).cell;
+      number = (arc_value f.shared).number;
+      place = (arc_value f.shared).place;
+      cell = cell_name (arc_value f.shared).cell;
     } };
 }
 
@@ -75,28 +75,28 @@ impl<S: Source> Flight<S> {
     pub fn number(&self) -> u64
         ensures { result ≡ self.now.number }
     {
-        self.landing.number
+        self.shared.number
     }
 
     /// The group that was wanted.
     pub fn group(&self) -> GroupId
         ensures { result.number ≡ self.now.place.group }
     {
-        self.landing.place.group()
+        self.shared.place.group()
     }
 
     /// The key that was wanted.
     pub fn key(&self) -> &ByteView
         ensures { result.now ≡ self.now.place.key }
     {
-        self.landing.place.key()
+        self.shared.place.key()
     }
 
     /// The group and the key.
     pub fn place(&self) -> &Place
         ensures { result.now ≡ self.now.place }
     {
-        &self.landing.place
+        &self.shared.place
     }
 
     /// A note that knows nothing yet.
@@ -104,7 +104,7 @@ impl<S: Source> Flight<S> {
         ensures cell { result.cell ≡ self.now.cell }
         ensures known { result.known ≡ None }
     {
-        self.landing.cell.note()
+        self.shared.cell.note()
     }
 
     /// The fill, where it is set. A note that has seen one sees the same one again.
@@ -114,7 +114,7 @@ impl<S: Source> Flight<S> {
         ensures value { MatchOption result ((note.old.known ≡ None) × (note.new.known ≡ None))
             (λ fill. (note.new.known ≡ Some fill.now) × Agrees note.old.known fill.now) }
     {
-        self.landing.cell.get_as(note)
+        self.shared.cell.get_as(note)
     }
 
     /// What two notes of this flight know is the same fill.
@@ -133,7 +133,7 @@ impl<S: Source> Flight<S> {
         ensures kept { IsTrue result → note.new.known ≡ Some fill.value }
         ensures known { IsSomeAnd note.new.known (λ x. Agrees note.old.known x) }
     {
-        self.landing.cell.set_as(fill, note).is_ok()
+        self.shared.cell.set_as(fill, note).is_ok()
     }
 
     // A flight with an empty cell.
@@ -141,13 +141,13 @@ impl<S: Source> Flight<S> {
         ensures number { IfOk result (λ f. f.number ≡ number) }
         ensures place { IfOk result (λ f. f.place ≡ place) }
     {
-        let landing = Landing {
+        let shared = Shared {
             number,
             place,
             cell: OnceBox::new(alloc),
         };
         Ok(Flight {
-            landing: Arc::new(alloc, landing)?,
+            shared: Arc::new(alloc, shared)?,
         })
     }
 
@@ -156,7 +156,7 @@ impl<S: Source> Flight<S> {
         ensures { IfOk result (λ f. f ≡ self.now) }
     {
         Ok(Flight {
-            landing: Arc::try_clone(&self.landing)?,
+            shared: Arc::try_clone(&self.shared)?,
         })
     }
 

@@ -1,7 +1,7 @@
 //! The laws of flights: single flight over every interleaving of a pool's events, and one answer for all that wait.
 //!
-//! The world, its eight events and each fact are defined in `specs/`. No code is needed here: the contracts are the
-//! laws.
+//! The world, its eight events and each fact are defined in `specs/`. The contracts are the laws; the only code compares
+//! what two holders have learned.
 ghost use Rattle.std.specs.Prelude.{◌≡◌, option_map};
 ghost use Rattle.peer_flight.specs.Claims.{claim_cell, known_of};
 ghost use Rattle.peer_flight.specs.Flights.{Agree};

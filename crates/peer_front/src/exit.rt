@@ -21,7 +21,7 @@ pub const CANNOT_BIND: Exit = Exit { status: 2 };
 /// Where standard output fails.
 pub const NO_OUTPUT: Exit = Exit { status: 4 };
 
-/// Where memory or a thread was refused.
+/// Where memory, a thread or a descriptor was refused.
 pub const OUT_OF_MEMORY: Exit = Exit { status: 5 };
 
 /// Where the system gives no random seed for the caches, so that clients could choose keys that collide.

@@ -103,15 +103,15 @@ fn serve_named<S: Source, H: AllocGlobal + Host>(
 ) -> Result<Report, ServerFault>
     requires { IfSome service.plan (Allows (S.answers service.source)) }
 {
-    let places = match &service.plan {
-        Some(plan) if has_names(plan.places.each) => plan.places.each,
+    let endpoints = match &service.plan {
+        Some(plan) if has_names(plan.endpoints.each) => plan.endpoints.each,
         _ => return serve_paged(rt, service, page),
     };
     let end = End::new();
     let end = &end;
     serve_beside(
         rt,
-        move || look_up_names(rt, places, end),
+        move || look_up_names(rt, endpoints, end),
         move || end.tell(),
         move || -> Result<Report, ServerFault>
             requires { IfSome service.plan (Allows (S.answers service.source)) }

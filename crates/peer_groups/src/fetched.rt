@@ -1,12 +1,13 @@
 //! What threads of their own fetch: the groups of services.
-ghost use Rattle.std.specs.Prelude.{◌≡◌, IfSome, length};
+ghost use Rattle.std.specs.Prelude.{◌≡◌, IfSome, length, map};
 ghost use Rattle.peer_fetch.specs.Threads.{AllowsOrigins};
+ghost use Rattle.peer_origin.specs.Endpoints.{asked_at};
 ghost use Rattle.peer_groups.specs.Besides.{AnswersOrigins};
 
 use crate::beside::Beside;
-use peer_fetch::{FetchPlan, FetchThreadSettings, Places};
+use peer_fetch::{Endpoints, FetchPlan, FetchThreadSettings};
 use peer_host::Network;
-use peer_origin::{FetchSettings, OriginSource, Place};
+use peer_origin::{Endpoint, FetchSettings, OriginSource};
 use peer_source::Source;
 use peer_stats::FailureSlots;
 use std::alloc::Global;
@@ -15,7 +16,7 @@ use std::alloc::Global;
 #[derive(Drop)]
 pub struct Fetched {
     first: usize,
-    each: Vec<Place>,
+    each: Vec<Endpoint>,
 }
 
 impl Fetched {
@@ -26,11 +27,13 @@ impl Fetched {
         under_way: usize,
         failures: &'a FailureSlots,
     ) -> FetchPlan<'a>
-        ensures first { result.places.first ≡ self.now.first }
-        ensures each { result.places.each.now ≡ self.now.each.items }
+        ensures first { result.endpoints.first ≡ self.now.first }
+        ensures each { result.endpoints.each.now ≡ self.now.each.items }
+        ensures fetch { result.settings.fetch ≡ fetch }
+        ensures under_way { result.settings.under_way ≡ under_way }
     {
         FetchPlan {
-            places: Places {
+            endpoints: Endpoints {
                 first: self.first,
                 each: self.each.as_slice(),
             },
@@ -49,13 +52,16 @@ pub fn fetched_of<'a, A: Source, B: Source, H: Network + Sync>(
     alloc: Global,
     source: &Beside<Beside<A, OriginSource<'a, H>>, B>,
 ) -> Option<Fetched>
-    ensures { IfSome result (λ fetched. AllowsOrigins (AnswersOrigins (A.count source.now.first.first)
+    ensures first { IfSome result (λ fetched. fetched.first ≡ A.count source.now.first.first) }
+    ensures each { IfSome result (λ fetched. map asked_at fetched.each.items
+        ≡ map (λ o. asked_at o.endpoint) source.now.first.second.origins.items) }
+    ensures allows { IfSome result (λ fetched. AllowsOrigins (AnswersOrigins (A.count source.now.first.first)
         (length source.now.first.second.origins.items) (A.answers source.now.first.first) (B.answers source.now.second))
         fetched.first fetched.each.items) }
 {
     let services = source.first();
     let first = services.first().group_count();
-    let Ok(each) = services.second().places(alloc) else {
+    let Ok(each) = services.second().endpoints(alloc) else {
         return None;
     };
     Some(Fetched { first, each })

@@ -2,7 +2,7 @@
 
 use crate::beside::Beside;
 use crate::maybe::Maybe;
-use peer_origin::{Origin, OriginSource, Place, PlaceFault};
+use peer_origin::{Endpoint, EndpointFault, Origin, OriginSource};
 use peer_source::{DemoSource, MAX_GROUPS, Source};
 use peer_table::TableSource;
 use std::alloc::Global;
@@ -25,7 +25,7 @@ pub enum GroupFault {
     #[error("there are more than 64 groups")]
     Groups,
     #[error("{0}")]
-    Place(PlaceFault),
+    Endpoint(EndpointFault),
     #[error("out of memory")]
     Memory,
 }
@@ -50,9 +50,9 @@ fn origin_of<H: Net<Listener = TcpListener, Stream = TcpStream>>(
     if name.is_empty() || url.is_empty() {
         return Err(GroupFault::Form);
     }
-    let place = Place::of_url(rt, alloc, url).map_err(GroupFault::Place)?;
+    let endpoint = Endpoint::of_url(rt, alloc, url).map_err(GroupFault::Endpoint)?;
     match name.as_bytes().to_vec(alloc) {
-        Ok(name) => Ok(Origin::new(alloc, name, place)),
+        Ok(name) => Ok(Origin::new(alloc, name, endpoint)),
         Err(_) => Err(GroupFault::Memory),
     }
 }

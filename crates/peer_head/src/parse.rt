@@ -1,7 +1,7 @@
 //! Which blocks are request heads, and where their parts stand.
 //!
-//! `httparse` also takes a line that ends in LF alone, a target past ASCII and empty lines in front;
-//! the tests here refuse these.
+//! `httparse` also takes a line that ends in LF alone and a target past ASCII; the tests here refuse these. Of the empty
+//! lines in front that it takes, a block has none.
 ghost use Rattle.std.specs.Prelude.{◌≡◌, ◌↔◌, ◌+◌, ◌<◌, length, All, IsTrue, MatchOption};
 ghost use Rattle.peer_head.specs.Heads.{IsPaired, NeighboursMatch, IsVisible, HasNoHead};
 ghost use Rattle.peer_head.specs.Views.{IsHeadAt};

@@ -8,7 +8,7 @@ use Rattle.http1.specs.declared.decode.Decoder.{Decoder}
 use Rattle.http1.specs.declared.conn.Reading.{Reading}
 use Rattle.http1.specs.declared.conn.Reading.TheVariants as Reads
 use Rattle.http1.specs.Message.{AcceptsResponse}
-use Rattle.peer_http.specs.Asks.{LIMITS}
+use Rattle.peer_http.specs.Requests.{LIMITS}
 use Rattle.peer_http.specs.Replies.{Interims, none, more, TakesEnd, TakesNothing}
 use Rattle.http1.specs.declared.client.Client.{Client}
 use Rattle.http1.specs.declared.conn.Event.TheVariants as Event

@@ -2,7 +2,7 @@
 use mathlib.Core.Logic.{∥∥₁_map}
 use Rattle.std.proofs.KnownBytes.{Appends-trans}
 use Rattle.std.specs.Io.KnownBytes.{Appends}
-use Rattle.std.proofs.Common.{true, false, ◌≡◌, ℕ, ◌≤◌, length, IfOk, IfSome, List, [], ◌++◌, drop, Option, Some, None, Result, Ok, Err, sym, refl, ap, ◌∙◌, subst, subst₂, append_assoc, append-nil}
+use Rattle.std.proofs.Common.{Bool, true, false, true≢false, ◌≡◌, ℕ, ◌≤◌, ◌==◌, ◌&&◌, ◌↔◌, ◌∷◌, length, IsTrue, IfOk, IfSome, List, [], ◌++◌, drop, Option, Some, None, Result, Ok, Err, sym, refl, ap, ◌∙◌, subst, subst₂, append_assoc, append-nil, arith}
 use Rattle.http1.specs.declared.client.Client.{Client}
 use Rattle.http1.specs.declared.conn.Reading.TheVariants as Reads
 use Rattle.http1.specs.declared.decode.Decoder.{Decoder}
@@ -10,7 +10,7 @@ use Rattle.http1.specs.declared.decode.Decoder.TheVariants.{UntilClose}
 use Rattle.http1.specs.Body.{body_of}
 use Rattle.http1.specs.Decoder.{Completes, decoder_for, with_front}
 use Rattle.http1.proofs.OneParse.{body_from_completes}
-use Rattle.peer_http.specs.Asks.{LIMITS}
+use Rattle.peer_http.specs.Requests.{LIMITS}
 use Rattle.peer_http.specs.Replies.{Interims, IsReply, ReadsOn, TakesEnd, TakesFinal, TakesNothing, TakesPiece}
 use Rattle.peer_http.specs.Receivings.{FindsHead, IsInContent, IsReadTo, IsStanding, Proceeds, TakesContent}
 use Rattle.peer_http.specs.declared.stage.Stage.{Stage}
@@ -19,6 +19,19 @@ use Rattle.peer_http.specs.declared.reply.Reply.{Reply}
 use Rattle.peer_http.specs.declared.fault.ReplyFault.{ReplyFault}
 use Rattle.peer_http.specs.declared.fault.ReplyFault.TheVariants as told
 use Rattle.peer_http.proofs.ReadLemmas.{accepts_append, interims_append, same_body}
+
+no_front : (front back : List ℕ) → front ++ back ≡ [] → front ≡ []
+no_front [] back h = refl
+no_front (x ∷ front) back h = absurd (omega (arith, ap length h))
+
+-- no byte came, where none came before and none comes now
+pub silence_kept : (silent empty : Bool) (came bytes came' : List ℕ) → (IsTrue silent ↔ (came ≡ [])) → came' ≡ came ++ bytes
+    → empty ≡ (length bytes == 0) → IsTrue (silent && empty) ↔ (came' ≡ [])
+silence_kept true empty came [] came' none grown is = ((λ t. grown ∙ append-nil came ∙ none.0 refl), (λ z. is))
+silence_kept true empty came (x ∷ bytes) came' none grown is =
+    ((λ t. absurd (grind (arith, is, t))), (λ z. absurd (omega (arith, ap length (ap (λ cs. cs ++ (x ∷ bytes)) (sym (none.0 refl)) ∙ sym grown ∙ z)))))
+silence_kept false empty came bytes came' none grown is =
+    ((λ t. absurd (true≢false (sym t))), (λ z. absurd (true≢false (sym (none.1 (no_front came bytes (sym grown ∙ z)))))))
 
 -- the head of the final reply
 pub begins : (came : List ℕ) (c : Client) (unread unread' : List ℕ) (status : ℕ) → Interims came unread → TakesFinal c unread unread' status → IsInContent came status c unread' []

@@ -6,7 +6,7 @@ use Rattle.http1.specs.declared.decode.Decoder.{Decoder}
 use Rattle.http1.specs.declared.decode.Decoder.TheVariants.{UntilClose}
 use Rattle.http1.specs.Body.{Body}
 use Rattle.http1.specs.Decoder.{Completes}
-use Rattle.peer_http.specs.Asks.{Awaits}
+use Rattle.peer_http.specs.Requests.{Awaits}
 use Rattle.peer_http.specs.Replies.{Interims, IsReply}
 use Rattle.peer_http.specs.declared.fault.Fault.{Fault}
 use Rattle.peer_http.specs.declared.fault.ReplyFault.{ReplyFault}

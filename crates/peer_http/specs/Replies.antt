@@ -11,7 +11,7 @@ use Rattle.http1.specs.declared.decode.Decoder.TheVariants.{UntilClose}
 use Rattle.http1.specs.Body.{body_of}
 use Rattle.http1.specs.Decoder.{Completes, Continues, decoder_for}
 use Rattle.http1.specs.Message.{AcceptsResponse, Response, ReadsResponseMessage}
-use Rattle.peer_http.specs.Asks.{LIMITS, Awaits}
+use Rattle.peer_http.specs.Requests.{LIMITS, Awaits}
 use Rattle.peer_http.specs.declared.fault.Fault.{Fault}
 use Rattle.peer_http.specs.declared.heads.Found.{Found}
 use Rattle.peer_http.specs.declared.heads.Found.TheVariants as find
@@ -48,7 +48,7 @@ abbrev pub GaveReply : Option (List ℕ) → Option (List ℕ) → ℕ → ℕ �
 GaveReply given given' ends ends' most r =
     ((text : List ℕ) × Appends given given' text × StandsAs ends ends' text r.status r.value.items) × (length r.value.items ≤ most)
 
--- what reading a reply answers: where nothing is told of it, no byte came
+-- what reading a reply answers: the reply, or a fault, of which `Silent` says that no byte came
 abbrev pub RepliesAs : Option (List ℕ) → Option (List ℕ) → ℕ → ℕ → ℕ → Result Reply ReplyFault → Type 0
 RepliesAs given given' ends ends' most (Ok r) = GaveReply given given' ends ends' most r
 RepliesAs given given' ends ends' most (Err fault.Silent) = Appends given given' []

@@ -9,9 +9,10 @@ pub enum ReplyFault {
     Silent,
     /// The connection ended, or a read failed, within the reply.
     Lost,
-    /// What came is no reply, by the rules of `http1`.
+    /// What came is no reply by the rules of `http1`, has a coding that was not asked for, or too many interim replies
+    /// before it.
     Malformed,
-    /// The body is longer than was allowed.
+    /// The body is longer than was allowed, or the reply took more reads or pieces than are made for one.
     TooLong,
     /// A reply of this status other than 200 came, whose body could not be read.
     Status(u16),
@@ -24,9 +25,10 @@ pub enum ReplyFault {
 pub(crate) enum Fault {
     /// The connection ended, or a read failed.
     Lost,
-    /// What came is no reply, by the rules of `http1`.
+    /// What came is no reply by the rules of `http1`, has a coding that was not asked for, or too many interim replies
+    /// before it.
     Malformed,
-    /// The body is longer than was allowed.
+    /// The body is longer than was allowed, or came in more pieces than are taken at once.
     TooLong,
     /// Memory was refused.
     Memory,

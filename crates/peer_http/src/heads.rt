@@ -1,7 +1,7 @@
 //! The heads of a reply: those of interim ones, and that of the final one.
 ghost use Rattle.std.specs.Prelude.{◌≤◌};
 ghost use Rattle.http1.specs.Client.{IsReadWithin};
-ghost use Rattle.peer_http.specs.Asks.{Awaits};
+ghost use Rattle.peer_http.specs.Requests.{Awaits};
 ghost use Rattle.peer_http.specs.Receivings.{FindsHead};
 ghost use Rattle.peer_http.specs.Replies.{FindsNext};
 

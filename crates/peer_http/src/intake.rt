@@ -4,7 +4,7 @@ ghost use Rattle.std.specs.Prelude.{◌≡◌, ◌≤◌, ◌++◌, [], drop, le
 use std::alloc::{AllocError, Global};
 use std::marker::Model;
 
-/// The bytes that were read and not taken yet, for contracts.
+/// The bytes that were read. Contracts see those that were not taken yet.
 #[derive(Drop)]
 pub struct Intake {
     bytes: Vec<u8>,

@@ -17,4 +17,4 @@ mod stage;
 pub use fault::ReplyFault;
 pub use receiving::Receiving;
 pub use reply::{Reply, read_reply};
-pub use request::{Asked, ask};
+pub use request::Request;

@@ -2,8 +2,8 @@
 //!
 //! It stands on `heads` and `content`, and on a history of the bytes that came, which only contracts see.
 //! It promises of a reply that is given that the bytes that came begin with it.
-ghost use Rattle.std.specs.Prelude.{◌≡◌, ◌≢◌, ◌≤◌, ◌++◌, [], length, true, Err, IfOk, IfSome, IsTrue, Ok};
-ghost use Rattle.peer_http.specs.Asks.{Awaits};
+ghost use Rattle.std.specs.Prelude.{◌≡◌, ◌≢◌, ◌≤◌, ◌↔◌, ◌++◌, [], length, true, Err, IfOk, IfSome, IsTrue, Ok};
+ghost use Rattle.peer_http.specs.Requests.{Awaits};
 ghost use Rattle.peer_http.specs.Receivings.{IsReadTo, IsStanding, ReadsBody};
 ghost use Rattle.peer_http.specs.Replies.{IsReply};
 ghost use Rattle.peer_http.specs.declared.stage.Stage.TheVariants as at;
@@ -36,7 +36,7 @@ pub struct Receiving {
     silent: bool,
     came: History,
     ghost within: { length value.items ≤ most },
-    ghost silence: { IsTrue silent → came.bytes ≡ [] },
+    ghost silence: { IsTrue silent ↔ came.bytes ≡ [] },
     ghost awaits: { stage ≡ at.Head → Awaits client },
     ghost reads: { ∥ IsReadTo came.bytes stage client intake value.items ∥₁ },
 }
@@ -191,14 +191,14 @@ impl Receiving {
 
     /// Whether no byte came.
     pub fn is_silent(&self) -> bool
-        ensures { IsTrue result → self.now.came.bytes ≡ [] }
+        ensures { IsTrue result ↔ self.now.came.bytes ≡ [] }
     {
         self.silent
     }
 
     /// Why there is no reply, where the connection ended, or failed, within it.
     pub fn cut(&self) -> ReplyFault
-        ensures { result ≡ told.Silent → self.now.came.bytes ≡ [] }
+        ensures { result ≡ told.Silent ↔ self.now.came.bytes ≡ [] }
     {
         match self.stage {
             _ if self.silent => ReplyFault::Silent,

@@ -1,6 +1,6 @@
 //! A reply that is read from a reader.
 ghost use Rattle.std.specs.Prelude.{◌≡◌, ◌+◌, ◌-◌, ◌^◌, ◌<◌, ◌≤◌, OnOk, length};
-ghost use Rattle.peer_http.specs.Asks.{Awaits};
+ghost use Rattle.peer_http.specs.Requests.{Awaits};
 ghost use Rattle.peer_http.specs.Replies.{ReadsOn, RepliesAs};
 
 use crate::fault::ReplyFault;

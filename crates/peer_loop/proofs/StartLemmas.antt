@@ -1,4 +1,4 @@
--- What a threads keeps in one step and the next, and what one seat does to the parts of all.
+-- What the threads of a server keep in one step and the next, and what one seat does to the parts of all.
 use Rattle.std.proofs.Common.{◌≡◌, ◌∙◌, ℕ, ◌+◌, List, [], ◌∷◌, ◌++◌, arith, sum_by}
 use Rattle.peer_source.specs.declared.source.Source as Source
 use Rattle.std.specs.declared.sync.ledger.Ledger as Ledger

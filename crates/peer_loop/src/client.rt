@@ -10,7 +10,7 @@ use crate::client_state::ClientState;
 use crate::facts::Facts;
 use crate::limits::{ASKS_OF_ROUND, MAX_UNCOUNTED, ROUNDS_OF_TURN};
 use crate::occupancy::Occupancy;
-use crate::seat::{Asked, LoopSeat};
+use crate::seat::{LoopSeat, Progress};
 use crate::stream::{Readiness, skip};
 use mio::event::Event;
 use mio::net::TcpStream;
@@ -171,7 +171,7 @@ impl<'a, S: Source, F: Facts<S>> Client<'a, S, F> {
         rt: &H,
         seat: &mut LoopSeat<'a, S, L, F>,
         occupancy: &Occupancy,
-    ) -> Asked
+    ) -> Progress
         ensures pool { seat.new.pool.now ≡ seat.old.pool.now }
         ensures parts { KeepsParts seat.old.seats seat.new.seats }
     {
@@ -182,25 +182,25 @@ impl<'a, S: Source, F: Facts<S>> Client<'a, S, F> {
                 }
                 self.exchange.narrow();
             }
-            let asked = seat.serve(rt, &mut self.exchange);
-            if asked != Asked::More {
-                return asked;
+            let progress = seat.serve(rt, &mut self.exchange);
+            if progress != Progress::More {
+                return progress;
             }
         }
-        Asked::More
+        Progress::More
     }
 
     // What it waits for behind a round, none where more can be done at once: also since a fill came behind the look at it, or
     // since the replies that had to be sent first were.
-    fn state(&self, asked: Asked) -> Option<ClientState> {
+    fn state(&self, progress: Progress) -> Option<ClientState> {
         let awaits = self.awaits();
         let came = awaits.is_none() && self.exchange.rest().fill;
-        let sent = asked == Asked::Unsent && self.exchange.output().is_empty();
-        if came || sent || asked == Asked::More || self.reads() || self.writes() {
+        let sent = progress == Progress::Unsent && self.exchange.output().is_empty();
+        if came || sent || progress == Progress::More || self.reads() || self.writes() {
             return None;
         }
         match awaits {
-            _ if asked == Asked::NoRoom => Some(ClientState::NoRoom),
+            _ if progress == Progress::NoRoom => Some(ClientState::NoRoom),
             Some(number) => Some(ClientState::Awaits(number)),
             None => Some(ClientState::Idle),
         }
@@ -218,7 +218,7 @@ impl<'a, S: Source, F: Facts<S>> Client<'a, S, F> {
         ensures parts { KeepsParts seat.old.seats seat.new.seats }
     {
         self.receive(seat.buffer.as_mut_slice(), now);
-        let asked = self.serve(rt, seat, occupancy);
+        let progress = self.serve(rt, seat, occupancy);
         self.send(now);
         if self.failed {
             return Some(ClientState::Gone);
@@ -226,7 +226,7 @@ impl<'a, S: Source, F: Facts<S>> Client<'a, S, F> {
         if self.exchange.is_over() {
             return Some(self.close(now));
         }
-        self.state(asked)
+        self.state(progress)
     }
 
     /// Counts what it holds among what all clients hold, where that is more than each may.
@@ -245,10 +245,11 @@ impl<'a, S: Source, F: Facts<S>> Client<'a, S, F> {
         self.counted = 0;
     }
 
-    /// Reads nothing more of it, as if it had told its end. Whether it holds nothing, and can be let go.
+    /// Reads nothing more of it, as if it had told its end. Whether it can be let go: it holds nothing, and its close does not
+    /// linger.
     pub fn stop(&mut self) -> bool {
         self.exchange.end();
-        !self.is_ready && self.holds_nothing() && !self.exchange.rest().job
+        !self.is_ready && !self.lingers && self.holds_nothing() && !self.exchange.rest().job
     }
 
     /// Reads, answers and writes, as far as that goes in one turn.

@@ -1,7 +1,8 @@
 //! The clients of a loop: which are to have a turn, which wait for a fill, and which for room in the queue of jobs.
 //!
 //! It stands on `Client`, a stream and its connection, and on the lists by slot (`WaitLists`). It promises nothing that
-//! contracts see: a client is on each list once at most, and to list one takes no memory, which is had as it is added.
+//! contracts see: a client is put on each list once at most, and to list one takes no memory, which is had as it is
+//! added. A key that a client left behind gives the next one under it a turn too many.
 
 use crate::client::Client;
 use crate::facts::Facts;
@@ -18,7 +19,7 @@ use std::collections::VecDeque;
 pub struct Clients<'a, S: Source, F: Facts<S>> {
     /// All of them.
     pub each: Slab<Client<'a, S, F>>,
-    /// Those that are to have a turn, each once.
+    /// Those that are to have a turn.
     pub ready: VecDeque<usize>,
     // Those that wait for room in the queue of jobs.
     for_room: VecDeque<usize>,

@@ -1,9 +1,9 @@
 //! A peer server for thousands of clients: a few threads, each with an event loop and all of its connections.
 //!
 //! It stands on the connections of `peer_exchange`, which are states without input or output, on the pool of `peer_fill`,
-//! and on the readiness of `mio`. It promises that a server which ends gives the report of its pool, which adds up, and
-//! that a connection is served by calls of `Exchange` alone, whose law says what is sent. What a socket carries, and how
-//! long a call waits, no contract can say.
+//! and on the readiness of `mio`. It promises that the report which a server gives adds up, and when it is refused
+//! for its numbers. A connection is served by calls of `Exchange` alone, whose law says what is sent: that, what a socket
+//! carries, and how long a call waits, no contract can say.
 #![tactic(auto)]
 
 mod acceptor;

@@ -29,14 +29,14 @@ use std::sync::atomic::{AtomicBool, AtomicU64};
 /// The token under which a loop is woken.
 pub const WOKEN: Token = Token(usize::MAX);
 
-/// How many words of 64 slots there are.
+/// How many slots a word has.
+pub const SLOTS_OF_WORD: usize = 64;
+
+/// How many words of slots there are.
 pub const WORDS: usize = 8;
 
 /// How many slots there are.
 pub const SLOTS: usize = 512;
-
-/// How many slots a word has.
-pub const SLOTS_OF_WORD: usize = 64;
 
 /// The slot of the flight with this number.
 pub fn slot_of(number: u64) -> usize {
@@ -45,7 +45,7 @@ pub fn slot_of(number: u64) -> usize {
 
 // The bit of a slot in its word.
 fn bit_of(slot: usize) -> u64 {
-    1u64.wrapping_shl((slot % 64) as u32)
+    1u64.wrapping_shl((slot % SLOTS_OF_WORD) as u32)
 }
 
 /// The slots of one word that were told.
@@ -63,7 +63,7 @@ impl ToldSlots {
         }
         let bit = self.bits.trailing_zeros() as usize;
         self.bits &= !bit_of(bit);
-        Some(self.word.wrapping_mul(64).wrapping_add(bit))
+        Some(self.word.wrapping_mul(SLOTS_OF_WORD).wrapping_add(bit))
     }
 }
 
@@ -99,7 +99,7 @@ impl Mailbox {
 
     /// The loop wants to be told of fills at the slot. It looks at the fill behind this.
     pub fn want(&self, slot: usize) {
-        self.wanted[slot / 64 % WORDS].fetch_or(bit_of(slot), SeqCst);
+        self.wanted[slot / SLOTS_OF_WORD % WORDS].fetch_or(bit_of(slot), SeqCst);
     }
 
     /// The loop wants to be told that the queue of jobs has room. It tries to push its job behind this.
@@ -123,7 +123,7 @@ impl Mailbox {
 
     /// A fill of the slot was set.
     pub fn tell(&self, slot: usize) {
-        let word = slot / 64 % WORDS;
+        let word = slot / SLOTS_OF_WORD % WORDS;
         let bit = bit_of(slot);
         if self.wanted[word].fetch_and(!bit, SeqCst) & bit != 0 {
             self.told[word].fetch_or(bit, SeqCst);

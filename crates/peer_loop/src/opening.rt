@@ -134,7 +134,8 @@ fn parts_without_threads<'a>(
     })
 }
 
-/// What a server needs that serves as these orders say. None where memory or a descriptor was refused.
+/// What a server needs that serves as these orders say. None where memory or a descriptor was refused, or where the stop is
+/// another server's.
 pub fn open_parts<'a, H: Net>(
     rt: &H,
     alloc: Global,

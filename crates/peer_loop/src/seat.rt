@@ -34,7 +34,7 @@ pub struct LoopSeat<'a, S: Source, L: Ledger, F: Facts<S>> {
 
 /// What became of the requests that a connection holds.
 #[derive(Clone, Copy, PartialEq, Eq, Debug)]
-pub enum Asked {
+pub enum Progress {
     /// All of them were judged, or the fill of the first ticket has to come first.
     Done,
     /// Replies have to be sent first.
@@ -45,19 +45,19 @@ pub enum Asked {
     NoRoom,
 }
 
-impl Asked {
+impl Progress {
     // What became of them, by what `ask_held` said, where the first ticket waits for a fill or does not.
-    fn of(rest: Rest, waits: bool) -> Asked {
+    fn of(rest: Rest, waits: bool) -> Progress {
         if rest.job {
-            Asked::NoRoom
+            Progress::NoRoom
         } else if rest.bytes {
-            Asked::Done
+            Progress::Done
         } else if !rest.fill {
-            Asked::Unsent
+            Progress::Unsent
         } else if waits {
-            Asked::Done
+            Progress::Done
         } else {
-            Asked::More
+            Progress::More
         }
     }
 }
@@ -70,30 +70,30 @@ impl<'a, S: Source, L: Ledger, F: Facts<S>> LoopSeat<'a, S, L, F> {
     pub fn exchange(&self) -> Exchange<'a, S>
         ensures { F.source ≡ Some result.names }
     {
-        Exchange::new(self.alloc, self.pool.source())
+        Exchange::new(self.alloc, self.pool.names())
     }
 
     /// Judges what a connection holds, asks for it, and puts the replies whose fills are there.
-    pub fn serve<H: Wait>(&mut self, rt: &H, exchange: &mut Exchange<'a, S>) -> Asked
+    pub fn serve<H: Wait>(&mut self, rt: &H, exchange: &mut Exchange<'a, S>) -> Progress
         requires { F.source ≡ Some exchange.old.names }
         ensures names { exchange.new.names ≡ exchange.old.names }
         ensures pool { self.new.pool.now ≡ self.old.pool.now }
         ensures parts { KeepsParts self.old.seats self.new.seats }
     {
         let Ok(rest) = exchange.ask_held(rt, self.pool, &mut self.seats.conn) else {
-            return Asked::Done;
+            return Progress::Done;
         };
         if exchange
             .answer_ready(self.pool, &mut self.seats.conn)
             .is_err()
         {
-            return Asked::Done;
+            return Progress::Done;
         }
-        Asked::of(rest, exchange.awaits().is_some())
+        Progress::of(rest, exchange.awaits().is_some())
     }
 
     /// Puts the replies whose fills are there, and asks for nothing more.
-    pub fn answer(&mut self, exchange: &mut Exchange<'a, S>) -> Asked
+    pub fn answer(&mut self, exchange: &mut Exchange<'a, S>) -> Progress
         requires { F.source ≡ Some exchange.old.names }
         ensures names { exchange.new.names ≡ exchange.old.names }
         ensures pool { self.new.pool.now ≡ self.old.pool.now }
@@ -101,9 +101,9 @@ impl<'a, S: Source, L: Ledger, F: Facts<S>> LoopSeat<'a, S, L, F> {
     {
         let _ = exchange.answer_ready(self.pool, &mut self.seats.conn);
         if exchange.rest().output {
-            Asked::Unsent
+            Progress::Unsent
         } else {
-            Asked::Done
+            Progress::Done
         }
     }
 

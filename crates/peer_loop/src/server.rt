@@ -13,7 +13,7 @@ use crate::settings::{Orders, Settings};
 use crate::site::Site;
 use crate::threads::use_threads;
 use peer_fetch::FetchPlan;
-use peer_fill::{OpenFault, Opened, Pool, Report, Seats};
+use peer_fill::{MAX_SEATS, OpenFault, Opened, Pool, Report, Seats};
 use peer_host::Host;
 use peer_source::Source;
 use std::alloc::Global;
@@ -31,7 +31,7 @@ pub enum ServerFault {
     /// The pool could not be opened.
     #[error("no pool: {0}")]
     Open(OpenFault),
-    /// Memory, a thread or a descriptor was refused. No connection was accepted.
+    /// Memory, a thread or a descriptor was refused, or the stop is another server's. No connection was accepted.
     #[error("out of memory, threads or descriptors")]
     Refused,
 }
@@ -70,7 +70,8 @@ fn serve_parts<S: Source, L: Ledger + Send + Sync, H: Host>(
     use_threads(rt, alloc, pool, seats, threads, acceptor)
 }
 
-// Serves over a pool that was opened. None where memory, a thread or a descriptor was refused.
+// Serves over a pool that was opened. None where memory, a thread or a descriptor was refused, or where the stop is another
+// server's.
 fn serve_seats<S: Source, L: Ledger + Send + Sync, H: Host>(
     rt: &H,
     alloc: Global,
@@ -157,7 +158,7 @@ where
     ensures { ServesWith (fill_seats settings.now) settings.now.loops (S.count source) result }
 {
     let orders = Orders { settings, plan };
-    over_pool::<S, Brand, H>(rt, alloc, source, listener, orders, Blank::new(16))
+    over_pool::<S, Brand, H>(rt, alloc, source, listener, orders, Blank::new(MAX_SEATS))
 }
 
 /// The same without a plan: all values are had by calls of the source.

@@ -44,7 +44,7 @@ impl<'a> Orders<'a> {
     /// How many threads fetch, and from how many origins.
     pub fn fetchers(&self) -> (usize, usize) {
         match (self.plan, self.settings.fillers) {
-            (Some(plan), Fillers::Threads(count)) => (count, plan.places.each.len()),
+            (Some(plan), Fillers::Threads(count)) => (count, plan.endpoints.each.len()),
             _ => (0, 0),
         }
     }

@@ -6,19 +6,19 @@ use Rattle.std.specs.List.{flat_map}
 use Rattle.percent_encoding.specs.AsciiSet.{should_percent_encode}
 use Rattle.percent_encoding.specs.Percent.{percent_encode, percent_encode_byte}
 use Rattle.peer_origin.specs.Targets.{escaped_byte, is_unreserved}
-use Rattle.peer_origin.specs.declared.target.TheConstants.{RESERVED}
+use Rattle.peer_origin.specs.declared.target.TheConstants.{ESCAPED}
 
-below : agree_below (should_percent_encode RESERVED) (λ b. not (is_unreserved b)) 128 ≡ true
+below : agree_below (should_percent_encode ESCAPED) (λ b. not (is_unreserved b)) 128 ≡ true
 unfolding should_percent_encode
 below = refl
 
-above : (b : ℕ) → 128 ≤ b → should_percent_encode RESERVED b ≡ not (is_unreserved b)
+above : (b : ℕ) → 128 ≤ b → should_percent_encode ESCAPED b ≡ not (is_unreserved b)
 unfolding should_percent_encode
 above b high = grind (arith, nat_tests)
 
-judged : (b : ℕ) → should_percent_encode RESERVED b ≡ not (is_unreserved b)
+judged : (b : ℕ) → should_percent_encode ESCAPED b ≡ not (is_unreserved b)
 judged b = elim (cases_lt b 128) [
-  | inl low ↦ agree_below_at (should_percent_encode RESERVED) (λ b. not (is_unreserved b)) 128 b below low
+  | inl low ↦ agree_below_at (should_percent_encode ESCAPED) (λ b. not (is_unreserved b)) 128 b below low
   | inr high ↦ above b high
 ]
 
@@ -28,7 +28,7 @@ either b false true e = refl
 either b true true e = absurd (grind (arith, e))
 either b false false e = absurd (grind (arith, e))
 
-pub escapes : (key : List ℕ) → percent_encode RESERVED key ≡ flat_map escaped_byte key
+pub escapes : (key : List ℕ) → percent_encode ESCAPED key ≡ flat_map escaped_byte key
 unfolding percent_encode
 escapes [] = refl
-escapes (b ∷ bs) = ap₂ (λ x y. x ++ y) (either b (should_percent_encode RESERVED b) (is_unreserved b) (judged b)) (escapes bs)
+escapes (b ∷ bs) = ap₂ (λ x y. x ++ y) (either b (should_percent_encode ESCAPED b) (is_unreserved b) (judged b)) (escapes bs)

@@ -1,6 +1,6 @@
 pub mod Fetches
 pub mod Kinds
 pub mod Origins
-pub mod Places
+pub mod Endpoints
 pub mod Targets
 pub mod Texts

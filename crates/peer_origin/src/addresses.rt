@@ -1,6 +1,6 @@
 //! The addresses of an origin's host. Those of a name are looked up again while others connect to what was found last.
 
-use crate::place::PlaceFault;
+use crate::endpoint::EndpointFault;
 use peer_host::Network;
 use peer_wait::lock;
 use std::alloc::Global;
@@ -29,16 +29,16 @@ impl Name {
         &self,
         rt: &H,
         alloc: Global,
-    ) -> Result<Vec<SocketAddr>, PlaceFault> {
+    ) -> Result<Vec<SocketAddr>, EndpointFault> {
         let mut addresses = Vec::new(alloc);
         let found = (self.host.as_str(), self.port)
             .to_socket_addrs(rt)
-            .map_err(|_| PlaceFault::Host)?;
+            .map_err(|_| EndpointFault::Host)?;
         for address in found {
-            addresses.push(address).map_err(|_| PlaceFault::Memory)?;
+            addresses.push(address).map_err(|_| EndpointFault::Memory)?;
         }
         if addresses.is_empty() {
-            return Err(PlaceFault::Host);
+            return Err(EndpointFault::Host);
         }
         Ok(addresses)
     }
@@ -46,11 +46,11 @@ impl Name {
 
 impl Addresses {
     // One address, which no name stands for.
-    fn of_address(alloc: Global, ip: IpAddr, port: u16) -> Result<Addresses, PlaceFault> {
+    fn of_address(alloc: Global, ip: IpAddr, port: u16) -> Result<Addresses, EndpointFault> {
         let mut addresses = Vec::new(alloc);
         addresses
             .push(SocketAddr::new(ip, port))
-            .map_err(|_| PlaceFault::Memory)?;
+            .map_err(|_| EndpointFault::Memory)?;
         Ok(Addresses {
             name: None,
             found: Mutex::new(addresses),
@@ -63,8 +63,8 @@ impl Addresses {
         alloc: Global,
         host: &str,
         port: u16,
-    ) -> Result<Addresses, PlaceFault> {
-        let host = host.to_string(alloc).map_err(|_| PlaceFault::Memory)?;
+    ) -> Result<Addresses, EndpointFault> {
+        let host = host.to_string(alloc).map_err(|_| EndpointFault::Memory)?;
         let name = Name { host, port };
         let found = name.look_up(rt, alloc)?;
         Ok(Addresses {
@@ -79,7 +79,7 @@ impl Addresses {
         alloc: Global,
         host: Host<&str>,
         port: u16,
-    ) -> Result<Addresses, PlaceFault> {
+    ) -> Result<Addresses, EndpointFault> {
         match host {
             Host::Ipv4(ip) => Addresses::of_address(alloc, IpAddr::V4(ip), port),
             Host::Ipv6(ip) => Addresses::of_address(alloc, IpAddr::V6(ip), port),

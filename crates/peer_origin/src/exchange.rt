@@ -1,6 +1,6 @@
 //! The fetch of a value: a request for its key, and one more where a kept connection ended before a byte of the reply.
-ghost use Rattle.std.specs.Prelude.{◌≡◌, ◌≢◌, ◌+◌, ◌-◌, ◌^◌, ◌<◌, ◌≤◌, length, Err, IfOk};
-ghost use Rattle.peer_http.specs.Asks.{Awaits, IsAsked, request_for};
+ghost use Rattle.std.specs.Prelude.{◌≡◌, ◌≢◌, ◌+◌, ◌-◌, ◌^◌, ◌<◌, ◌≤◌, false, length, Err, IfOk};
+ghost use Rattle.peer_http.specs.Requests.{Awaits, IsRequest, request_for};
 ghost use Rattle.peer_http.specs.declared.fault.ReplyFault.TheVariants as told;
 ghost use Rattle.peer_origin.specs.declared.exchange.Failure.TheVariants as fail;
 ghost use Rattle.peer_origin.specs.Fetches.{AttemptsAs, ExchangesAs, Fetches, FetchesAnew, IsUnused, use_of};
@@ -10,8 +10,8 @@ use crate::connections::{Connection, Connections};
 use crate::fault::FetchFault;
 use crate::target::target;
 use http1::WriteError;
-use peer_http::{Asked, Reply, ReplyFault, ask, read_reply};
-use peer_view::{PeerRead, PeerWrite, VALUE_LIMIT, write_all};
+use peer_http::{Reply, ReplyFault, Request, read_reply};
+use peer_view::{MAX_VALUE, PeerRead, PeerWrite, write_all};
 use std::alloc::Global;
 
 /// Why an attempt on one connection gave no value.
@@ -23,9 +23,10 @@ pub enum Failure {
     Fetch(FetchFault),
 }
 
-/// What the fault of a reply is for an attempt, and whether it came with the end of the time.
+/// What the fault of a reply is for an attempt. `late` says whether a call of the connection failed for its time.
 pub fn failure_of(fault: ReplyFault, late: bool) -> Failure
-    ensures { result ≡ fail.Silent → fault ≡ told.Silent }
+    ensures silent { result ≡ fail.Silent → fault ≡ told.Silent }
+    ensures in_time { late ≡ false → fault ≡ told.Silent → result ≡ fail.Silent }
 {
     match fault {
         ReplyFault::Silent | ReplyFault::Lost if late => Failure::Fetch(FetchFault::Late),
@@ -51,13 +52,13 @@ fn value_of(reply: Reply) -> Result<Vec<u8>, Failure>
 }
 
 /// The request for a key of the origin with this `Host` and this prefix, and the client that awaits the reply.
-pub fn request(alloc: Global, host: &[u8], prefix: &[u8], key: &[u8]) -> Result<Asked, FetchFault>
-    ensures { IfOk result (IsAsked host.now (target_of prefix.now key.now)) }
+pub fn request(alloc: Global, host: &[u8], prefix: &[u8], key: &[u8]) -> Result<Request, FetchFault>
+    ensures { IfOk result (IsRequest host.now (target_of prefix.now key.now)) }
 {
     let Ok(target) = target(alloc, prefix, key) else {
         return Err(FetchFault::Memory);
     };
-    match ask(alloc, host, &target) {
+    match Request::get(alloc, host, &target) {
         Ok(asked) => Ok(asked),
         Err(WriteError::OutOfMemory) => Err(FetchFault::Memory),
         Err(_) => Err(FetchFault::Malformed),
@@ -68,7 +69,7 @@ pub fn request(alloc: Global, host: &[u8], prefix: &[u8], key: &[u8]) -> Result<
 fn exchange<R: PeerRead, W: PeerWrite>(
     alloc: Global,
     connection: &mut Connection<R, W>,
-    asked: Asked,
+    asked: Request,
 ) -> Result<Reply, ReplyFault>
     requires awaits { Awaits asked.client }
     requires calls { R.calls connection.old.reader ≡ 0 }
@@ -77,9 +78,9 @@ fn exchange<R: PeerRead, W: PeerWrite>(
         (use_of R.PeerRead W.PeerWrite connection.old) (use_of R.PeerRead W.PeerWrite connection.new)
         (R.ends connection.old.reader) (R.ends connection.new.reader) result }
 {
-    let Asked { client, bytes } = asked;
+    let Request { client, bytes } = asked;
     match write_all(&mut connection.writer, &bytes) {
-        Ok(()) => read_reply(alloc, &mut connection.reader, client, VALUE_LIMIT),
+        Ok(()) => read_reply(alloc, &mut connection.reader, client, MAX_VALUE),
         Err(_) => Err(ReplyFault::Silent),
     }
 }
@@ -89,7 +90,7 @@ fn attempt<R: PeerRead + Drop, W: PeerWrite + Drop, C: Connections<R, W>>(
     alloc: Global,
     connections: &mut C,
     connection: Connection<R, W>,
-    asked: Asked,
+    asked: Request,
 ) -> Result<Vec<u8>, Failure>
     requires awaits { Awaits asked.client }
     requires unused { IsUnused R.PeerRead W.PeerWrite C.blank connection }
@@ -116,7 +117,7 @@ fn attempt<R: PeerRead + Drop, W: PeerWrite + Drop, C: Connections<R, W>>(
 fn fetch_anew<R: PeerRead + Drop, W: PeerWrite + Drop, C: Connections<R, W>>(
     alloc: Global,
     connections: &mut C,
-    asked: Asked,
+    asked: Request,
 ) -> Result<Vec<u8>, FetchFault>
     requires awaits { Awaits asked.client }
     requires uses { length (C.uses connections.old) < 2 ^ 64 - 1 }

@@ -10,11 +10,11 @@
 mod addresses;
 mod connections;
 mod deadline;
+mod endpoint;
 mod exchange;
 mod fault;
 mod line;
 mod origin;
-mod place;
 mod settings;
 mod sockets;
 mod source;
@@ -23,9 +23,9 @@ mod target;
 
 pub use addresses::Addresses;
 pub use connections::{Connection, Connections};
+pub use endpoint::{Endpoint, EndpointFault};
 pub use exchange::{Failure, failure_of, fetch, request};
 pub use fault::{FetchFault, get_fault};
 pub use origin::Origin;
-pub use place::{Place, PlaceFault};
 pub use settings::FetchSettings;
 pub use source::OriginSource;

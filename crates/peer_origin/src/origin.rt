@@ -1,7 +1,7 @@
 //! The origin of one group.
-ghost use Rattle.std.specs.Prelude.{◌≡◌};
+ghost use Rattle.std.specs.Prelude.{◌≡◌, bytes_eq};
 
-use crate::place::Place;
+use crate::endpoint::Endpoint;
 use crate::sockets::is_quiet;
 use peer_wait::lock;
 use std::alloc::Global;
@@ -15,24 +15,26 @@ const MAX_IDLE: usize = 16;
 #[derive(Drop)]
 pub struct Origin {
     pub(crate) name: Vec<u8>,
-    pub(crate) place: Place,
+    pub(crate) endpoint: Endpoint,
     idle: Mutex<Vec<Arc<TcpStream>>>,
 }
 
 impl Origin {
     /// The origin of a group of this name.
-    pub fn new(alloc: Global, name: Vec<u8>, place: Place) -> Origin
+    pub fn new(alloc: Global, name: Vec<u8>, endpoint: Endpoint) -> Origin
         ensures { result.name ≡ name }
     {
         Origin {
             name,
-            place,
+            endpoint,
             idle: Mutex::new(Vec::new(alloc)),
         }
     }
 
     /// Whether both are origins of groups of one name.
-    pub fn has_name_of(&self, other: &Origin) -> bool {
+    pub fn has_name_of(&self, other: &Origin) -> bool
+        ensures { result ≡ bytes_eq self.now.name.items other.now.name.items }
+    {
         self.name == other.name
     }
 

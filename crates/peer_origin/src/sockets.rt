@@ -118,7 +118,7 @@ impl<'a, H: Network> Connections<StreamReader<'a, H>, StreamWriter<'a, H>> for S
     fn open(&mut self) -> Result<Connection<StreamReader<'a, H>, StreamWriter<'a, H>>, FetchFault> {
         let stream = match connect(
             self.rt,
-            &self.origin.place.addresses,
+            &self.origin.endpoint.addresses,
             self.settings.connect,
             self.deadline,
         ) {

@@ -6,10 +6,10 @@ ghost use Rattle.peer_origin.specs.Origins.{IsOriginAnswer, number_from, origin_
 ghost use Rattle.peer_origin.specs.Texts.{text_of};
 
 use crate::deadline::Deadline;
+use crate::endpoint::Endpoint;
 use crate::exchange::fetch;
 use crate::fault::{FetchFault, get_fault};
 use crate::origin::Origin;
-use crate::place::Place;
 use crate::settings::FetchSettings;
 use crate::sockets::Sockets;
 use bytes::Bytes;
@@ -20,7 +20,7 @@ use peer_view::{AllocSink, ByteView, SinkFault};
 use std::alloc::{AllocError, Global};
 
 /// A source of what origins answer, one for each group. It holds the runtime, by which it connects and tells the time, and
-/// counts there why an origin gave no value.
+/// the slots in which it counts why an origin gave no value.
 #[derive(Drop)]
 pub struct OriginSource<'a, H> {
     rt: &'a H,
@@ -31,7 +31,7 @@ pub struct OriginSource<'a, H> {
 
 impl<'a, H> OriginSource<'a, H> {
     ghost use Rattle.std.specs.Prelude.{◌≡◌, IfOk, map};
-    ghost use Rattle.peer_origin.specs.Places.{asked_at};
+    ghost use Rattle.peer_origin.specs.Endpoints.{asked_at};
 
     /// A source over these origins, in the order of their groups' numbers.
     pub fn new(
@@ -39,7 +39,9 @@ impl<'a, H> OriginSource<'a, H> {
         failures: &'a FailureSlots,
         origins: Vec<Origin>,
         settings: FetchSettings,
-    ) -> OriginSource<'a, H> {
+    ) -> OriginSource<'a, H>
+        ensures { result.origins ≡ origins }
+    {
         OriginSource {
             rt,
             failures,
@@ -48,15 +50,15 @@ impl<'a, H> OriginSource<'a, H> {
         }
     }
 
-    /// The places of its origins, in the order of their groups' numbers.
-    pub fn places(&self, alloc: Global) -> Result<Vec<Place>, AllocError>
-        ensures { IfOk result (λ places. map asked_at places.items ≡ map (λ o. asked_at o.place) self.now.origins.items) }
+    /// The endpoints of its origins, in the order of their groups' numbers.
+    pub fn endpoints(&self, alloc: Global) -> Result<Vec<Endpoint>, AllocError>
+        ensures { IfOk result (λ endpoints. map asked_at endpoints.items ≡ map (λ o. asked_at o.endpoint) self.now.origins.items) }
     {
-        let mut places = Vec::new(alloc);
+        let mut endpoints = Vec::new(alloc);
         for origin in &self.origins {
-            places.push(origin.place.copy(alloc)?)?;
+            endpoints.push(origin.endpoint.copy(alloc)?)?;
         }
-        Ok(places)
+        Ok(endpoints)
     }
 }
 
@@ -124,8 +126,8 @@ impl<'a, H: Network + Sync> Source for OriginSource<'a, H> {
         match fetch(
             alloc,
             &mut sockets,
-            &origin.place.host,
-            &origin.place.prefix,
+            &origin.endpoint.host,
+            &origin.endpoint.prefix,
             key,
         ) {
             Ok(value) => put(value, sink),

@@ -6,7 +6,7 @@ use percent_encoding::{AsciiSet, NON_ALPHANUMERIC, ascii_set, percent_encode};
 use std::alloc::{AllocError, Global};
 
 // All bytes but the unreserved ones of RFC 3986, section 2.3.
-const RESERVED: AsciiSet = ascii_set!(
+const ESCAPED: AsciiSet = ascii_set!(
     NON_ALPHANUMERIC
         .remove(b'-')
         .remove(b'.')
@@ -19,7 +19,7 @@ pub fn target(alloc: Global, prefix: &[u8], key: &[u8]) -> Result<Vec<u8>, Alloc
     ensures { IfOk result (λ t. t.items ≡ target_of prefix.now key.now) }
 {
     let mut escaped = String::new(alloc);
-    percent_encode(key, RESERVED).append_to(&mut escaped)?;
+    percent_encode(key, ESCAPED).append_to(&mut escaped)?;
     let mut target = prefix.to_vec(alloc)?;
     target.extend_from_slice(escaped.as_bytes())?;
     Ok(target)

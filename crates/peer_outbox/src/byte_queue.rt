@@ -1,6 +1,7 @@
 //! Bytes that come at the back and go at the front.
 //!
-//! It stands on nothing. It promises the bytes that came and did not go, in order; and it takes no memory before the first.
+//! It stands on the shared bytes of `bytes`, and on the views of `peer_view`. It promises the bytes that came and did not
+//! go, in order; and it takes no memory before the first.
 ghost use Rattle.std.specs.Prelude.{◌≡◌, ◌==◌, ◌≤◌, [], ◌++◌, length, drop, OnErr, OnOk, IfOk};
 ghost use Rattle.peer_reply.specs.Texts.{joined};
 

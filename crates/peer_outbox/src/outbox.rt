@@ -1,4 +1,5 @@
-//! The bytes that wait to be sent: large values are lent from where they are shared, and all others lie in one list.
+//! The bytes that wait to be sent: large values are lent from where they are shared, and what lies between them is copied
+//! together.
 //!
 //! It stands on the queue of bytes and on the views of `peer_view`. It promises the bytes that came and did not go, in
 //! order, and lends them a piece at a time.
@@ -15,7 +16,7 @@ use std::alloc::{AllocError, Global};
 use std::collections::VecDeque;
 use std::marker::Model;
 
-/// A part of more bytes is sent from where it lies, and not copied.
+/// Up to so many bytes are copied, to be sent with others. A longer value is lent from where it lies.
 pub const MAX_COPIED: usize = 8192;
 
 /// How many pieces have room that is kept while none is there.

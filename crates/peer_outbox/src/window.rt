@@ -19,7 +19,7 @@ pub struct Window {
 }
 
 // How many may wait behind a reply of `len` bytes, where `tickets` might before. As in TCP's slow start it grows with what
-// was taken: a client of large values that reads none has one ticket that waits.
+// was put: a client of large values that reads none has one ticket that waits.
 fn tickets_after(len: usize, tickets: usize) -> usize
     requires { tickets ≤ 64 }
     ensures { result ≡ window_after len tickets }

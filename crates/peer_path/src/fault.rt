@@ -1,6 +1,7 @@
 //! Why a request target names no place.
 
-/// The first reason, in this order, why a request target names no group and key.
+/// The first reason, in this order, why a request target names no group and key; `Memory` comes before those behind
+/// `Escape`.
 #[derive(Clone, Copy, Debug, PartialEq, Eq)]
 pub enum PathFault {
     /// The target is neither an origin form nor an absolute form of `http` (RFC 9112, sections 3.2.1 and 3.2.2).

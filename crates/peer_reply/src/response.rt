@@ -3,7 +3,7 @@ ghost use Rattle.std.specs.Prelude.{◌≤◌, ◌<◌, ◌+◌, ◌*◌, ◌-�
 ghost use Rattle.peer_reply.specs.Responses.{ReadsAs};
 ghost use Rattle.peer_reply.specs.Lengths.{ReadsLength, HoldsExactly};
 
-use peer_view::VALUE_LIMIT;
+use peer_view::MAX_VALUE;
 
 /// Why bytes are no body. At most one of them applies.
 #[derive(Clone, Copy, Debug, PartialEq, Eq)]
@@ -12,7 +12,7 @@ pub enum PbFault {
     Truncated,
     /// The first byte is not the tag of the value.
     Tag,
-    /// The length has more than three bytes, is not the shortest, or is above `VALUE_LIMIT`.
+    /// The length has more than three bytes, is not the shortest, or is above `MAX_VALUE`.
     Varint,
     /// Bytes follow a body.
     Extra,
@@ -59,7 +59,7 @@ fn check_length(bytes: &[u8], count: usize) -> Result<&[u8], PbFault>
     }
 }
 
-// Reads a shortest varint of at most `VALUE_LIMIT`.
+// Reads a shortest varint of at most `MAX_VALUE`.
 fn read_length(bytes: &[u8]) -> Result<Length<'_>, PbFault>
     ensures { ReadsLength bytes.now result }
 {
@@ -112,7 +112,7 @@ fn read_third(low: u8, middle: u8, bytes: &[u8]) -> Result<Length<'_>, PbFault>
             let value = usize::from(low - 0x80)
                 + 0x80 * usize::from(middle - 0x80)
                 + 0x4000 * usize::from(*high);
-            if *high == 0 || *high >= 0x80 || value > VALUE_LIMIT {
+            if *high == 0 || *high >= 0x80 || value > MAX_VALUE {
                 Err(PbFault::Varint)
             } else {
                 Ok(Length { value, rest })

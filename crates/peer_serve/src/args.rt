@@ -2,6 +2,8 @@
 ghost use Rattle.std.specs.Prelude.{◌≡◌, ℕ, IfSome, IsNone, string_bytes};
 ghost use Rattle.peer_serve.specs.Words.{IsNumber, IsServer, ReadsAs};
 
+use peer_fill::MAX_SEATS;
+
 /// A server, as the words ask for it.
 #[derive(Clone, Copy, Debug, PartialEq, Eq)]
 pub struct ServerWords<'w> {
@@ -51,8 +53,8 @@ fn server<'w>(
 {
     Some(Mode::Server(ServerWords {
         address: address.as_str(),
-        workers: read_number(workers.as_str(), 16)? as usize,
-        conns: read_number(conns.as_str(), 16)? as usize,
+        workers: read_number(workers.as_str(), MAX_SEATS)? as usize,
+        conns: read_number(conns.as_str(), MAX_SEATS)? as usize,
         rounds: read_number(rounds.as_str(), 1_000_000_000)?,
         table,
     }))

@@ -1,4 +1,4 @@
-//! The main cache of a group: the values found last, up to a limit in bytes (`cache` of `groupcache.go`).
+//! The main cache of a group: the values used last, up to a limit in bytes (`cache` of `groupcache.go`).
 //!
 //! It stands on a map by use (`entries`). A get gives a fill of the cache's group and of the key, or none.
 ghost use Rattle.std.specs.Prelude.{◌≡◌, ◌==◌, ℕ, ◌<◌, ◌≤◌, [], None, IfOk, OnOk, OnErr, IsOk, All, length, bytes_eq};
@@ -24,7 +24,7 @@ use std::num::NonZeroUsize;
 /// The most entries of a cache.
 pub const MAX_ENTRIES: usize = 4096;
 
-/// The values found last for the keys of a group. The bytes of an entry are those of its key and of its value.
+/// The values used last for the keys of a group. The bytes of an entry are those of its key and of its value.
 #[derive(Drop)]
 pub struct MainCache<S: Source> {
     alloc: Global,

@@ -11,10 +11,10 @@ use crate::group::GroupId;
 use crate::source::{GetFault, GetResult, Source};
 use bytes::Bytes;
 use itoa::Buffer;
-use peer_view::{AllocSink, ByteView, SinkFault, VALUE_LIMIT};
+use peer_view::{AllocSink, ByteView, MAX_VALUE, SinkFault};
 use std::alloc::{AllocError, Global};
 
-// The largest number of bytes that `fill` knows; above `VALUE_LIMIT` they are too long.
+// The largest number of bytes that `fill` knows; above `MAX_VALUE` they are too long.
 const MAX_FILL: u64 = 2_000_000;
 
 /// Three groups, in this order: `echo` finds the key, `square` the square of a number of at most 9 digits, `fill` so
@@ -97,7 +97,7 @@ fn fill(alloc: Global, key: &[u8], sink: &mut AllocSink) -> Result<(), GetFault>
 fn find_letters(alloc: Global, count: usize, sink: &mut AllocSink) -> Result<(), GetFault>
     ensures { IfSome (reported result sink.new) (λ a. a ≡ found_within (replicate count 120)) }
 {
-    if count > VALUE_LIMIT {
+    if count > MAX_VALUE {
         return Err(GetFault::TooLong);
     }
     match letters(alloc, count) {

@@ -68,8 +68,8 @@ fn failure_of(text: Vec<u8>) -> Outcome
     }
 }
 
-// The text of the failure of a value over the limit.
-fn too_long_text() -> ByteView
+/// The text of the failure of a value over the limit.
+pub fn too_long_text() -> ByteView
     ensures { result ≡ too_long_text }
 {
     ByteView::from_shared(Bytes::from_static(b"value too long"))

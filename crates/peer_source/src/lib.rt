@@ -1,5 +1,5 @@
 //! Sources of values by group and key; fills: what a source answered for a group and a key; and the main cache of a
-//! group, which keeps the values found last.
+//! group, which keeps the values used last.
 //!
 //! It stands on the views and sinks of `peer_view`, and on the kit's `lru`. It promises that an answer is one that the
 //! source gives, that a fill's answer is one that the type of its source allows for its group and key, and that a cache
@@ -20,7 +20,7 @@ mod source;
 pub use cache::{MAX_ENTRIES, MainCache};
 pub use demo::DemoSource;
 pub use entries::Evicted;
-pub use fill::{Fill, Outcome};
+pub use fill::{Fill, Outcome, too_long_text};
 pub use functional::FunctionalSource;
 pub use group::{GroupId, MAX_GROUPS};
 pub use kept::Kept;

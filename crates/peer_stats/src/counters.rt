@@ -6,10 +6,11 @@ use crossbeam_utils::CachePadded;
 use std::sync::atomic::AtomicU64;
 use std::sync::atomic::Ordering::SeqCst;
 
-/// How many slots there are of each kind: as many as a pool has seats.
+/// How many slots there are of each kind: the most seats of a kind that a pool has.
 pub const MAX_SLOTS: usize = 16;
 
-/// The slots of a server. No two threads write the same line of memory, but where origins fail.
+/// The slots of a server. No two threads write the same line of memory, but where origins fail and where the bytes of the
+/// caches are published.
 #[derive(Drop)]
 pub struct Counters {
     loops: [CachePadded<LoopSlot>; MAX_SLOTS],

@@ -2,7 +2,7 @@
 ghost use Rattle.std.specs.Prelude.{◌≡◌};
 ghost use Rattle.peer_stats.specs.Sums.{loop_sum, worker_sum};
 
-/// What one loop has counted, or all of them. Each is what the getters of its seat give.
+/// What one loop has counted, or all of them. Each but the last is what a getter of its seat gives.
 #[derive(Clone, Copy, Debug, PartialEq, Eq)]
 pub struct LoopCounts {
     pub asked: u64,

@@ -2,8 +2,7 @@
 //!
 //! `Counters` has a slot for each thread of a server, which publishes there what it has counted; whoever reads adds the
 //! slots up. `StatsServer` serves the sums over HTTP as Prometheus reads them. It stands on the toolchain's `http_server`
-//! and `mio`. It promises the text of the page, to the byte, and which answer each path gets. What a slot holds at a
-//! moment no contract can say.
+//! and `mio`. It promises the text of the page, to the byte. What a slot holds at a moment no contract can say.
 #![tactic(auto)]
 
 mod answer;

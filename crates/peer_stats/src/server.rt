@@ -27,7 +27,7 @@ const MAX_EVENTS: usize = 64;
 // How often the server looks for clients that are overdue, where it has some.
 const TICK_SECONDS: u64 = 1;
 
-// The pause behind a call of the system that failed.
+// The pause behind a wait for events that failed.
 const PAUSE_MILLIS: u64 = 100;
 
 /// What a server of the page waits by.

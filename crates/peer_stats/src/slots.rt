@@ -1,8 +1,8 @@
 //! Where threads publish what they have counted.
 //!
-//! A slot has one writer: the thread that it was dealt to. So a publish is a store of each number that changed, and no
-//! step that reads and writes at once. What a loop asks is told last, and read first: a reader never sees more asked than
-//! hit, led and joined together.
+//! The slot of a loop or of a worker has one writer: the thread that it was dealt to. So a publish is a store of each number
+//! that changed. What several threads count, accepts and failures of origins, is added in one step. What a loop asks is told
+//! last, and read first: a reader never sees more asked than hit, led and joined together.
 
 use crate::counts::{AcceptCounts, FailureCounts, LoopCounts, WorkerCounts};
 use crate::failure::OriginFailure;

@@ -10,12 +10,12 @@ use Rattle.std.proofs.lemmas.List.{drop-take, take-take, drop-drop, length-take}
 use Rattle.std.proofs.lemmas.Option.{same_Some}
 use Rattle.peer_view.specs.Sinks.{MAX_VALUE}
 use Rattle.peer_table.specs.Holds.{Adds, ArePlain, Holds}
-use Rattle.peer_table.specs.Indexes.{AreNumbers, ArePlaces, AreTabs, Numbers, Places, PutsName, joined, part_of, value_of_joined}
+use Rattle.peer_table.specs.Indexes.{AreNumbers, AreSpans, AreTabs, Numbers, Spans, PutsName, joined, part_of, value_of_joined}
 use Rattle.peer_table.specs.Tables.{IsPlain, Line, bad_line, fault_behind, line_of, names_behind, names_of, value_in, with_name, MAX_GROUPS}
 use Rattle.peer_table.specs.declared.fault.TableFault.{TableFault}
 use Rattle.peer_table.specs.declared.fault.TableFault.TheVariants as fault
 use Rattle.peer_table.specs.declared.index.Index.{Index}
-use Rattle.peer_table.specs.declared.index.Place.{Place}
+use Rattle.peer_table.specs.declared.index.Span.{Span}
 use Rattle.peer_table.proofs.NameLemmas.{same, other, same_or_other, or_else}
 
 not_plain : (x : ℕ) (g : List ℕ) → 9 ≡ x → IsPlain (x ∷ g) → ⊥
@@ -91,7 +91,7 @@ pub names_push : (names : List (List ℕ)) (lines : List Line) (line : Line)
 names_push names [] line = refl
 names_push names (l ∷ lines) line = names_push (with_name names l.group) lines line
 
--- a place was found exactly where there is a value
+-- a span was found exactly where there is a value
 pub is_some_map : {A B : Type 0} (f : A → B) (o : Option A) → is_some (option_map f o) ≡ is_some o
 is_some_map f None = refl
 is_some_map f (Some x) = refl
@@ -104,38 +104,38 @@ some_of : {A B : Type 0} (f : A → B) (o : Option A) → false ≡ is_none o �
 some_of f None h = cc
 some_of f (Some x) h = refl
 
-at_cond : (text : List ℕ) (b : Bool) (place : Place) (o n : Option Place) → n ≡ cond b (Some place) o → b ≡ true
-    → option_map (part_of text) n ≡ Some (part_of text place)
-at_cond text b place o n put passes = rw (put, passes)
+at_cond : (text : List ℕ) (b : Bool) (span : Span) (o n : Option Span) → n ≡ cond b (Some span) o → b ≡ true
+    → option_map (part_of text) n ≡ Some (part_of text span)
+at_cond text b span o n put passes = rw (put, passes)
 
-past_cond : (text : List ℕ) (b : Bool) (place : Place) (o n : Option Place) → n ≡ cond b (Some place) o → b ≡ false
+past_cond : (text : List ℕ) (b : Bool) (span : Span) (o n : Option Span) → n ≡ cond b (Some span) o → b ≡ false
     → option_map (part_of text) n ≡ option_map (part_of text) o
-past_cond text b place o n put fails = rw (put, fails)
+past_cond text b span o n put fails = rw (put, fails)
 
-inside_put : (text : List ℕ) (b : Bool) (place p : Place) (o n : Option Place) → n ≡ cond b (Some place) o
-    → ((r : Place) → o ≡ Some r → (r.from ≤ r.to) × (r.to ≤ length text)) → place.from ≤ place.to → place.to ≤ length text → n ≡ Some p
+inside_put : (text : List ℕ) (b : Bool) (span p : Span) (o n : Option Span) → n ≡ cond b (Some span) o
+    → ((r : Span) → o ≡ Some r → (r.from ≤ r.to) × (r.to ≤ length text)) → span.from ≤ span.to → span.to ≤ length text → n ≡ Some p
     → (p.from ≤ p.to) × (p.to ≤ length text)
-inside_put text true place p o n put old low high found = let same : place ≡ p = same_Some place p (sym put ∙ found) in
-    (subst (λ (r : Place). r.from ≤ r.to) same low, subst (λ (r : Place). r.to ≤ length text) same high)
-inside_put text false place p o n put old low high found = old p (sym put ∙ found)
+inside_put text true span p o n put old low high found = let same : span ≡ p = same_Some span p (sym put ∙ found) in
+    (subst (λ (r : Span). r.from ≤ r.to) same low, subst (λ (r : Span). r.to ≤ length text) same high)
+inside_put text false span p o n put old low high found = old p (sym put ∙ found)
 
--- the places with one more
-pub places_push : (text : List ℕ) (old new : Places) (lines : List Line) (line : Line) (place : Place) (named : List ℕ)
-    → ArePlaces text old lines → named ≡ joined line.group line.key → part_of text place ≡ line.value
+-- the spans with one more
+pub spans_push : (text : List ℕ) (old new : Spans) (lines : List Line) (line : Line) (span : Span) (named : List ℕ)
+    → AreSpans text old lines → named ≡ joined line.group line.key → part_of text span ≡ line.value
     → true ≡ is_none (get bytes_eq old named)
-    → ((q : List ℕ) → get bytes_eq new q ≡ cond (bytes_eq named q) (Some place) (get bytes_eq old q))
-    → ArePlaces text new (lines ++ line ∷ [])
-places_push text old new lines line place named are is part fresh put q =
+    → ((q : List ℕ) → get bytes_eq new q ≡ cond (bytes_eq named q) (Some span) (get bytes_eq old q))
+    → AreSpans text new (lines ++ line ∷ [])
+spans_push text old new lines line span named are is part fresh put q =
     elim (same_or_other named q) [
       | same e passes ↦
           let here : value_of_joined lines q ≡ None =
           ap (value_of_joined lines) (sym e) ∙ sym (are named) ∙ none_of (part_of text) (get bytes_eq old named) fresh in
           let hit : bytes_eq q (joined line.group line.key) ≡ true = ap (bytes_eq q) (sym is) ∙ nat_list_eq_equiv.symm q named ∙ passes in
-          at_cond text (bytes_eq named q) place (get bytes_eq old q) (get bytes_eq new q) (put q) passes ∙ ap (λ v. Some v) part
+          at_cond text (bytes_eq named q) span (get bytes_eq old q) (get bytes_eq new q) (put q) passes ∙ ap (λ v. Some v) part
           ∙ sym (value_push lines line q ∙ rw (here, hit))
       | other fails fails' ↦
           let miss : bytes_eq q (joined line.group line.key) ≡ false = ap (bytes_eq q) (sym is) ∙ fails' in
-          past_cond text (bytes_eq named q) place (get bytes_eq old q) (get bytes_eq new q) (put q) fails ∙ are q
+          past_cond text (bytes_eq named q) span (get bytes_eq old q) (get bytes_eq new q) (put q) fails ∙ are q
           ∙ sym (value_push lines line q ∙ rw miss (stays (value_of_joined lines q)))
     ] where
       stays : (o : Option (List ℕ)) → or_else o None ≡ o
@@ -170,11 +170,11 @@ module _ (text bytes : List ℕ) (from to first second : ℕ) (order : from ≤ 
   value_is =
       let left = to - (from + second + 1) in
       let sum : to - from ≡ second + 1 + left = omega (arith, tabs.within, size) in
-      let place : from + second + 1 ≡ from + (second + 1) = omega arith in
+      let span : from + second + 1 ≡ from + (second + 1) = omega arith in
       sym (
       ap (drop (second + 1)) (is ∙ ap (λ m. take m (drop from text)) sum)
       ∙ drop-take (second + 1) left (drop from text)
-      ∙ ap (take left) (drop-drop (second + 1) from text ∙ ap (λ m. drop m text) (sym place))
+      ∙ ap (take left) (drop-drop (second + 1) from text ∙ ap (λ m. drop m text) (sym span))
       )
 
 not_below : (a b : ℕ) → b ≤ a → nat_lt a b ≡ false
@@ -211,22 +211,22 @@ module _ (text bytes : List ℕ) (from to first second n : ℕ) (order : from �
   joined_is : named ≡ joined (take first bytes) (slice_range bytes (first + 1) second)
   joined_is = named_at ∙ named_is text bytes from to first second order within is tabs
 
-  stood : option_map (part_of text) (get bytes_eq index.places named)
+  stood : option_map (part_of text) (get bytes_eq index.spans named)
       ≡ value_in seen (take first bytes) (slice_range bytes (first + 1) second)
-  stood = holds.places named ∙ ap (value_of_joined seen) joined_is
+  stood = holds.spans named ∙ ap (value_of_joined seen) joined_is
       ∙ value_joined seen (take first bytes) (slice_range bytes (first + 1) second) tabs.plain plain
 
-  pub repeated : false ≡ is_none (get bytes_eq index.places named)
+  pub repeated : false ≡ is_none (get bytes_eq index.spans named)
       → bad_line n seen (line_of (slice_range text from to)) ≡ Some (fault.Repeated n)
   repeated there =
       bad_is (Some (fault.Repeated n)) (is_repeated n seen (line_at bytes first second)
-      (ap is_some (sym stood) ∙ some_of (part_of text) (get bytes_eq index.places named) there))
+      (ap is_some (sym stood) ∙ some_of (part_of text) (get bytes_eq index.spans named) there))
 
-  new_line : true ≡ is_none (get bytes_eq index.places named)
+  new_line : true ≡ is_none (get bytes_eq index.spans named)
       → is_some (value_in seen (take first bytes) (slice_range bytes (first + 1) second)) ≡ false
-  new_line fresh = ap is_some (sym stood ∙ none_of (part_of text) (get bytes_eq index.places named) fresh)
+  new_line fresh = ap is_some (sym stood ∙ none_of (part_of text) (get bytes_eq index.spans named) fresh)
 
-  module _ (fresh : true ≡ is_none (get bytes_eq index.places named)) (name : List ℕ)
+  module _ (fresh : true ≡ is_none (get bytes_eq index.spans named)) (name : List ℕ)
       (name_at : name ≡ slice_range text from (from + first)) (numbers' : Numbers) (names' : List (List ℕ)) where
     group_is : name ≡ take first bytes
     group_is = name_at ∙ name_is text bytes from to first second order within is tabs
@@ -254,11 +254,11 @@ module _ (text bytes : List ℕ) (from to first second n : ℕ) (order : from �
           (omega (arith, value_size text bytes from to first second order within is tabs)))
 
       -- the index with the line
-      pub adds : (index' : Index) (place : Place) → index'.numbers ≡ numbers' → index'.names.items ≡ names' → place.from ≡ from + second + 1
-          → place.to ≡ to
-          → ((q : List ℕ) → get bytes_eq index'.places q ≡ cond (bytes_eq named q) (Some place) (get bytes_eq index.places q))
+      pub adds : (index' : Index) (span : Span) → index'.numbers ≡ numbers' → index'.names.items ≡ names' → span.from ≡ from + second + 1
+          → span.to ≡ to
+          → ((q : List ℕ) → get bytes_eq index'.spans q ≡ cond (bytes_eq named q) (Some span) (get bytes_eq index.spans q))
           → to - (from + second + 1) ≤ MAX_VALUE → Adds text n seen (slice_range text from to) index'
-      adds index' place numbers_are same_names place_from place_to put_there short =
+      adds index' span numbers_are same_names span_from span_to put_there short =
           record {
             line = line_at bytes first second;
             is = ap line_of (sym is) ∙ tabs.line;
@@ -269,13 +269,13 @@ module _ (text bytes : List ℕ) (from to first second n : ℕ) (order : from �
               names = same_names ∙ names_are ∙ sym (names_push [] seen (line_at bytes first second));
               numbers = subst (λ (m : Numbers). AreNumbers m index'.names.items) (sym numbers_are)
                   (subst (AreNumbers numbers') (sym same_names) (put holds.numbers).0);
-              places = places_push text index.places index'.places seen (line_at bytes first second) place named holds.places joined_is
-                  (ap (λ m. slice_range text m place.to) place_from ∙ ap (slice_range text (from + second + 1)) place_to
+              spans = spans_push text index.spans index'.spans seen (line_at bytes first second) span named holds.spans joined_is
+                  (ap (λ m. slice_range text m span.to) span_from ∙ ap (slice_range text (from + second + 1)) span_to
                   ∙ value_is text bytes from to first second order within is tabs) fresh put_there;
-              inside = λ q p found. inside_put text (bytes_eq named q) place p (get bytes_eq index.places q) (get bytes_eq index'.places q)
+              inside = λ q p found. inside_put text (bytes_eq named q) span p (get bytes_eq index.spans q) (get bytes_eq index'.spans q)
                   (put_there q) (holds.inside q)
-                  (omega (arith, place_from, place_to, tabs.within, size text bytes from to first second order within is tabs))
-                  (omega (arith, place_to)) found;
+                  (omega (arith, span_from, span_to, tabs.within, size text bytes from to first second order within is tabs))
+                  (omega (arith, span_to)) found;
               few = subst (λ l. length l ≤ MAX_GROUPS) (sym (same_names ∙ names_are)) few;
             };
           }

@@ -1,6 +1,6 @@
 -- An index holds lines.
 use Rattle.std.specs.Prelude.{◌≡◌, ℕ, ◌≤◌, List, [], ◌∷◌, ◌++◌, length, Some, None, Result, Ok, Err}
-use Rattle.peer_table.specs.Indexes.{AreNumbers, ArePlaces, ArePlacesInside}
+use Rattle.peer_table.specs.Indexes.{AreNumbers, AreSpans, AreSpansInside}
 use Rattle.peer_table.specs.Tables.{Line, IsPlain, line_of, names_of, bad_line, first_bad, lines_of, MAX_GROUPS}
 use Rattle.peer_table.specs.declared.fault.TableFault.{TableFault}
 use Rattle.peer_table.specs.declared.fault.TableFault.TheVariants as fault
@@ -11,12 +11,12 @@ abbrev pub ArePlain : List Line → Type 0
 ArePlain [] = Unit {0}
 ArePlain (line ∷ lines) = IsPlain line.group × ArePlain lines
 
--- the names, numbers and places of an index are those of the lines
+-- the names, numbers and spans of an index are those of the lines
 pub record Holds (text : List ℕ) (index : Index) (lines : List Line) : Type 0 where
   pub names : index.names.items ≡ names_of lines
   pub numbers : AreNumbers index.numbers index.names.items
-  pub places : ArePlaces text index.places lines
-  pub inside : ArePlacesInside text index.places
+  pub spans : AreSpans text index.spans lines
+  pub inside : AreSpansInside text index.spans
   pub few : length index.names.items ≤ MAX_GROUPS
 
 -- the line of these bytes is good behind the lines seen, and the index holds it too

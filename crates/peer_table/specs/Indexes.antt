@@ -7,15 +7,15 @@ use Rattle.std.specs.declared.hash.BuildHasherDefault.{BuildHasherDefault}
 use Rattle.std.specs.HashMap.{get, get_by, HashMap}
 use Rattle.std.specs.List.{position_from}
 use Rattle.peer_table.specs.Tables.{Line, IsPlain, line_of, with_name, MAX_GROUPS}
-use Rattle.peer_table.specs.declared.index.Place.{Place}
+use Rattle.peer_table.specs.declared.index.Span.{Span}
 
 -- numbers by name
 abbrev pub Numbers : Type 0
 Numbers = HashMap (Vec ℕ Global) ℕ (BuildHasherDefault FoldHasher)
 
--- places of values by group, 09 and key
-abbrev pub Places : Type 0
-Places = HashMap (List ℕ) Place (BuildHasherDefault FoldHasher)
+-- spans of values by group, 09 and key
+abbrev pub Spans : Type 0
+Spans = HashMap (List ℕ) Span (BuildHasherDefault FoldHasher)
 
 -- the number that is kept for a name
 abbrev pub number_at : Numbers → List ℕ → Option ℕ
@@ -34,13 +34,13 @@ abbrev pub value_of_joined : List Line → List ℕ → Option (List ℕ)
 value_of_joined [] q = None
 value_of_joined (line ∷ lines) q = cond (bytes_eq q (joined line.group line.key)) (Some line.value) (value_of_joined lines q)
 
--- the bytes at a place
-abbrev pub part_of : List ℕ → Place → List ℕ
+-- the bytes at a span
+abbrev pub part_of : List ℕ → Span → List ℕ
 part_of text p = slice_range text p.from p.to
 
--- the place for each group and key of the lines is that of the value
-abbrev pub ArePlaces : List ℕ → Places → List Line → Type 0
-ArePlaces text places lines = (q : List ℕ) → option_map (part_of text) (get bytes_eq places q) ≡ value_of_joined lines q
+-- the span for each group and key of the lines is that of the value
+abbrev pub AreSpans : List ℕ → Spans → List Line → Type 0
+AreSpans text spans lines = (q : List ℕ) → option_map (part_of text) (get bytes_eq spans q) ≡ value_of_joined lines q
 
 -- a line's three fields lie round the bytes at these two places, and neither its group nor its key has a byte 09
 pub record AreTabs (bytes : List ℕ) (first second : ℕ) : Type 0 where
@@ -61,6 +61,6 @@ PutsName old new names names' name true =
     × (length names ≤ MAX_GROUPS → length names' ≤ MAX_GROUPS)
 PutsName old new names names' name false = AreNumbers old names → MAX_GROUPS < length (with_name names name)
 
--- each place lies in the text
-abbrev pub ArePlacesInside : List ℕ → Places → Type 0
-ArePlacesInside text places = (q : List ℕ) (p : Place) → get bytes_eq places q ≡ Some p → (p.from ≤ p.to) × (p.to ≤ length text)
+-- each span lies in the text
+abbrev pub AreSpansInside : List ℕ → Spans → Type 0
+AreSpansInside text spans = (q : List ℕ) (p : Span) → get bytes_eq spans q ≡ Some p → (p.from ≤ p.to) × (p.to ≤ length text)

@@ -22,7 +22,7 @@ abbrev pub before_pieces : ℕ → List (List ℕ) → List (List ℕ)
 before_pieces b [] = (b ∷ []) ∷ []
 before_pieces b (p ∷ ps) = (b ∷ p) ∷ ps
 
--- the pieces of bytes round each byte of this value: one more than there are such bytes
+-- the pieces of bytes round each byte that is this one: one more than there are such bytes
 abbrev pub pieces : ℕ → List ℕ → List (List ℕ)
 pieces between [] = [] ∷ []
 pieces between (b ∷ bytes) = cond (b == between) ([] ∷ pieces between bytes) (before_pieces b (pieces between bytes))

@@ -9,7 +9,7 @@ ghost use Rattle.peer_table.specs.Tables.{number_below, number_in, table_allowed
 ghost use Rattle.peer_source.specs.Answers.{Failed};
 ghost use Rattle.peer_source.specs.Reports.{reported};
 
-use crate::fault::{TableFault, memory_fault};
+use crate::fault::TableFault;
 use crate::fields::next_of;
 use crate::index::{Index, add_line, find};
 use crate::intake::read_all;

@@ -7,11 +7,6 @@ abbrev pub moved : {E : Type 0} → Result ℕ E → List ℕ → List ℕ
 moved (Ok n) xs = take n xs
 moved (Err e) xs = []
 
--- how many bytes a call moved
-abbrev pub moved_count : {E : Type 0} → Result ℕ E → ℕ
-moved_count (Ok n) = n
-moved_count (Err e) = 0
-
 -- 1 where the call failed
 abbrev pub failure_count : {E : Type 0} → Result ℕ E → ℕ
 failure_count (Ok n) = 0

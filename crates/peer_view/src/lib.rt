@@ -26,7 +26,7 @@ pub use mem_reader::MemReader;
 pub use mem_writer::MemWriter;
 pub use read_counts::ReadCounts;
 pub use reader::{PeerRead, ReadFailed};
-pub use sink::{Sink, SinkFault, VALUE_LIMIT};
+pub use sink::{MAX_VALUE, Sink, SinkFault};
 pub use std_reader::StdReader;
 pub use std_writer::StdWriter;
 pub use trunc_sink::TruncSink;

@@ -35,9 +35,9 @@ impl Model for MemReader {
     } };
 }
 
-/// A place in a list of pieces: the index of a piece, and how much of it was given.
+/// How far a list of pieces was given: the index of a piece, and how much of it was given.
 #[derive(Clone, Copy)]
-struct Place {
+struct Cursor {
     index: usize,
     offset: usize,
 }
@@ -50,8 +50,8 @@ fn piece(pieces: &[Vec<u8>], index: usize) -> &[u8]
     pieces[index].as_slice()
 }
 
-// The first place from here on where a byte is left.
-fn next_place(pieces: &[Vec<u8>], from: Place) -> Place
+// The first piece from here on of which a byte is left.
+fn next_left(pieces: &[Vec<u8>], from: Cursor) -> Cursor
     ensures given { given_of pieces.now result.index result.offset ≡ given_of pieces.now from.index from.offset }
     ensures left { left_of pieces.now result.index result.offset ≡ left_of pieces.now from.index from.offset }
     ensures within { result.index < length pieces.now → result.offset < length (piece_at pieces.now result.index) }
@@ -63,7 +63,7 @@ fn next_place(pieces: &[Vec<u8>], from: Place) -> Place
         if at.offset < piece(pieces, at.index).len() {
             return at;
         }
-        at = Place {
+        at = Cursor {
             index: at.index + 1,
             offset: 0,
         };
@@ -71,8 +71,8 @@ fn next_place(pieces: &[Vec<u8>], from: Place) -> Place
     at
 }
 
-// Gives from a place where a byte is left.
-fn give(pieces: &[Vec<u8>], at: Place, room: &mut [u8]) -> usize
+// Gives of a piece of which a byte is left.
+fn give(pieces: &[Vec<u8>], at: Cursor, room: &mut [u8]) -> usize
     requires within { at.index < length pieces.now }
     requires left { at.offset < length (piece_at pieces.now at.index) }
     ensures bound { result ≤ length room.old }
@@ -120,9 +120,9 @@ impl PeerRead for MemReader {
         ensures piece { GivesPiece (length room.old) (moved result room.new) self.old self.new }
         ensures fails { IsErr result ↔ ((0 < length room.old) × (self.old.left ≡ []) × IsTrue self.old.fails) }
     {
-        let at = next_place(
+        let at = next_left(
             &self.pieces,
-            Place {
+            Cursor {
                 index: self.index,
                 offset: self.offset,
             },

@@ -7,12 +7,12 @@ use crate::view::ByteView;
 use std::alloc::{AllocError, Global};
 
 /// The longest value, in bytes.
-pub const VALUE_LIMIT: usize = 1_048_576;
+pub const MAX_VALUE: usize = 1_048_576;
 
 /// Why a sink refused a value.
 #[derive(Clone, Copy, Debug, PartialEq, Eq)]
 pub enum SinkFault {
-    /// The value is longer than `VALUE_LIMIT`.
+    /// The value is longer than `MAX_VALUE`.
     TooLong,
     /// Memory for the value was refused.
     Memory,
@@ -63,7 +63,7 @@ pub(crate) fn copy_for_sink(alloc: Global, bytes: &[u8]) -> Result<ByteView, Sin
     ensures fits { OnOk result (length bytes.now ≤ MAX_VALUE) }
     ensures too_long { (result ≡ Err SinkFault.TooLong) ↔ (MAX_VALUE < length bytes.now) }
 {
-    if bytes.len() > VALUE_LIMIT {
+    if bytes.len() > MAX_VALUE {
         return Err(SinkFault::TooLong);
     }
     ByteView::copy_of(alloc, bytes).map_err(memory_fault)
@@ -75,7 +75,7 @@ pub(crate) fn share_for_sink(view: &ByteView) -> Result<ByteView, SinkFault>
     ensures fits { OnOk result (length view.now ≤ MAX_VALUE) }
     ensures too_long { (result ≡ Err SinkFault.TooLong) ↔ (MAX_VALUE < length view.now) }
 {
-    if view.len() > VALUE_LIMIT {
+    if view.len() > MAX_VALUE {
         return Err(SinkFault::TooLong);
     }
     view.share().map_err(memory_fault)

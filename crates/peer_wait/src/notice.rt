@@ -6,8 +6,9 @@ use std::sync::atomic::Ordering::SeqCst;
 
 /// Tells threads that wait of a change, which is made before.
 ///
-/// A notice stands until one of them announces a sleep again, and others meanwhile wake nobody: many changes cost one
-/// wake-up. None is lost by that, since who announces a sleep looks once more behind it.
+/// A notice stands until one of them announces a sleep again, a notice to one also until it is acknowledged, and others of
+/// its kind meanwhile wake nobody: many changes cost one wake-up. None is lost by that, since who announces a sleep looks
+/// once more behind it.
 #[derive(Drop)]
 pub struct Notice {
     changed: EventCount,

@@ -6,7 +6,7 @@ pub fn has_one_list_of_wishes()
     ensures { HasOneListOfWishes }
 {}
 
-/// And it has one.
+/// And it has one, where fewer wishes than a connection may have stand before it.
 pub fn has_list_of_wishes()
     ensures { HasListOfWishes }
 {}
@@ -16,7 +16,7 @@ pub fn begins_with_first()
     ensures { BeginsWithFirst }
 {}
 
-/// More bytes only add wishes, and so replies.
+/// More bytes only add wishes.
 pub fn keeps_wishes()
     ensures { KeepsWishes }
 {}

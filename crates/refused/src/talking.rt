@@ -168,7 +168,7 @@ fn connect<L: Ledger, R: Wait>(
     ensures { AreOf lent.now.pool.now seats.new }
 {
     let mut talking = Talking {
-        exchange: Exchange::new(lent.alloc, lent.pool.source()),
+        exchange: Exchange::new(lent.alloc, lent.pool.names()),
         rest: &script.text,
         replies: &script.replies,
         step,

@@ -267,7 +267,7 @@ pub fn calls<L: Ledger, R: Wait>(lent: &Demo<'_, L, R>, seats: &mut DemoSeats<L>
     let claim = lent.ask_for(seats, b"k")?;
     window::begin(lent.alloc);
     lent.pool.stop();
-    let named = lent.pool.source().group(b"echo") == Some(ECHO);
+    let named = lent.pool.names().group(b"echo") == Some(ECHO);
     let refilled = is_enough(lent.pool.refill(lent.alloc, &claim, &own));
     seats.conn.add_strangers(1);
     let counted = seats.counts() == [1, 0, 1, 0] && seats.conn.strangers() == 1;

@@ -38,6 +38,6 @@ pub fn ask_for<S: Source, L: Ledger, R: Wait>(
     requires { IsConnSeatOf pool.now seat.old }
     ensures { IsConnSeatOf pool.now seat.new }
 {
-    let group = pool.source().group(b"echo")?;
+    let group = pool.names().group(b"echo")?;
     ask_in(rt, alloc, pool, seat, group, key)
 }

@@ -12,7 +12,7 @@ use std::sync::ledger::Ledger;
 use std::thread;
 use std::thread::Threads;
 
-/// Has a worker of this list do the jobs of a pool that was stopped. None where the list is empty.
+/// Has a worker of this list do the jobs of a pool that was stopped. None where the list is empty or memory was refused.
 pub fn do_jobs<S: Source, L: Ledger, R: Wait>(
     rt: &R,
     alloc: Global,

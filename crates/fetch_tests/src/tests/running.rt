@@ -5,10 +5,10 @@ ghost use Rattle.peer_fetch.specs.Threads.{Allows};
 
 use super::asking::{Answered, Client, Plan};
 use super::origin::{Told, serve};
-use peer_fetch::{FetchBell, FetchParts, FetchPlan, FetchThread, FetchThreadSettings, Places};
+use peer_fetch::{Endpoints, FetchBell, FetchParts, FetchPlan, FetchThread, FetchThreadSettings};
 use peer_fill::{ConnSeat, FillSeat, NoGate, Pool, Report, pop_seat};
 use peer_host::{Host, Network};
-use peer_origin::{FetchSettings, Origin, OriginSource, Place};
+use peer_origin::{Endpoint, FetchSettings, Origin, OriginSource};
 use peer_source::Source;
 use peer_stats::Counters;
 use std::alloc::Global;
@@ -156,14 +156,14 @@ fn run_opened<S: Source, L: Ledger + Send + Sync, H: Host>(
     (answered, close_pool(rt, pool, lists))
 }
 
-// The place of the listener, under the prefix `/v/`.
-fn place_of<H: Network>(rt: &H, alloc: Global, listener: &TcpListener) -> Option<Place> {
+// The endpoint of the listener, under the prefix `/v/`.
+fn endpoint_of<H: Network>(rt: &H, alloc: Global, listener: &TcpListener) -> Option<Endpoint> {
     let port = listener.local_addr().ok()?.port();
     let url = format!(in alloc; "http://127.0.0.1:{port}/v/").ok()?;
-    Place::of_url(rt, alloc, &url).ok()
+    Endpoint::of_url(rt, alloc, &url).ok()
 }
 
-/// A listener, and the origins at its place.
+/// A listener, and the origins at its endpoint.
 #[derive(Drop)]
 pub struct Prepared {
     pub listener: TcpListener,
@@ -174,13 +174,13 @@ pub struct Prepared {
 pub fn prepare<H: Network>(rt: &H, alloc: Global) -> Option<Prepared> {
     let listener = TcpListener::bind(rt, "127.0.0.1:0").ok()?;
     let mut origins = Vec::new(alloc);
-    let place = place_of(rt, alloc, &listener)?;
+    let endpoint = endpoint_of(rt, alloc, &listener)?;
     let name = b"echo".to_vec(alloc).ok()?;
-    origins.push(Origin::new(alloc, name, place)).ok()?;
+    origins.push(Origin::new(alloc, name, endpoint)).ok()?;
     Some(Prepared { listener, origins })
 }
 
-// What is seen of a setting at the places of these origins.
+// What is seen of a setting at the endpoints of these origins.
 fn see_at<L: Ledger + Send + Sync, H: Host>(
     rt: &H,
     alloc: Global,
@@ -194,12 +194,12 @@ fn see_at<L: Ledger + Send + Sync, H: Host>(
     let settings = beside.setting.settings;
     let counters = Counters::new();
     let source = OriginSource::new(rt, counters.failures(), origins, settings.fetch);
-    let places = source.places(alloc).ok()?;
-    let (parts, bell) = FetchParts::new(rt, alloc, places.len())?;
+    let endpoints = source.endpoints(alloc).ok()?;
+    let (parts, bell) = FetchParts::new(rt, alloc, endpoints.len())?;
     let plan = FetchPlan {
-        places: Places {
+        endpoints: Endpoints {
             first: 0,
-            each: places.as_slice(),
+            each: endpoints.as_slice(),
         },
         settings,
         failures: counters.failures(),

@@ -3,7 +3,7 @@ ghost use Rattle.peer_fetch.specs.Threads.{Allows};
 
 use super::origin::{Told, serve};
 use super::running::{Prepared, patient, prepare};
-use peer_fetch::{FetchPlan, Places};
+use peer_fetch::{Endpoints, FetchPlan};
 use peer_fill::Report;
 use peer_host::{Host, Network};
 use peer_limits::Limits;
@@ -147,12 +147,12 @@ fn serve_prepared<
 >(rt: &'x H, outside: &'x Outside) -> Option<bool> {
     let Prepared { listener, origins } = prepare(rt, rt.alloc())?;
     let source = OriginSource::new(rt, outside.counters.failures(), origins, patient().fetch);
-    let places = source.places(rt.alloc()).ok()?;
+    let endpoints = source.endpoints(rt.alloc()).ok()?;
     let fetched = Counters::new();
     let plan = FetchPlan {
-        places: Places {
+        endpoints: Endpoints {
             first: 0,
-            each: places.as_slice(),
+            each: endpoints.as_slice(),
         },
         settings: patient(),
         failures: fetched.failures(),

@@ -27,6 +27,13 @@ fn writes_what_was_counted(rt: HostRuntime) {
         writer.taken(),
         b"asked 2 hits 0 led 2 joined 0 calls 2 rehits 0 left 18446744073709551615\n".as_slice()
     );
+    let none_left = Report { left: 0, ..REPORT };
+    let mut writer = MemWriter::new(rt.alloc(), 7, None);
+    assert_eq!(rt; write_totals(&none_left, &mut writer), Ok(()));
+    assert_eq!(rt;
+        writer.taken(),
+        b"asked 2 hits 0 led 2 joined 0 calls 2 rehits 0 left 0\n".as_slice()
+    );
 }
 
 #[test]

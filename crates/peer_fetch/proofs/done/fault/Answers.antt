@@ -8,4 +8,4 @@ pub returns-in-Text : goal.returns-in-Text
 returns-in-Text c = subst (λ a. AnswersBy a (answer_of c.failed.result)) (c.in-Text.ensures []) c.failed.ensures
 
 pub returns-in-TooLong : goal.returns-in-TooLong
-returns-in-TooLong c = inl (ap Some (ap Failed c.too_long.ensures ∙ c.in-TooLong.ensures []))
+returns-in-TooLong c = inl (ap Some (ap Failed c.too_long_text.ensures ∙ c.in-TooLong.ensures []))

@@ -1,6 +1,6 @@
 use Rattle.std.proofs.Common.{ap, arith, rules, ◌∙◌}
 use Rattle.crossbeam_queue.specs.Passes.{IsPassOf}
-use Rattle.peer_fill.specs.declared.jobs.Hand.{Hand}
+use Rattle.peer_fill.specs.declared.jobs.PassLog.{PassLog}
 use Rattle.peer_fill.specs.Seats.{pushed_of}
 use Rattle.peer_fill.proofs.Gathering.{first_taken, next_taken, none_more}
 use Rattle.peer_fill.proofs.Lasts.{sum_last, of_last, of_front}
@@ -46,6 +46,6 @@ loop-seat-preserved g c =
       led = omega (arith, k.adds.asks.led, i.led, sum_last (λ s. s.asks.led) _ _ _ e);
       joined = omega (arith, k.adds.asks.joined, i.joined, sum_last (λ s. s.asks.joined) _ _ _ e);
       strangers = omega (arith, k.adds.asks.strangers, i.strangers, sum_last (λ s. s.asks.strangers) _ _ _ e);
-      pushed = λ w. next_taken pushed_of _ _ _ _ _ w _ e (ap (λ (y : Hand). y.pushed) k.adds.pass) (i.pushed w);
-      popped = none_more _ _ _ (ap (λ (y : Hand). y.popped) k.adds.pass) c.in-Some-pop.seat.popped ∙ i.popped;
+      pushed = λ w. next_taken pushed_of _ _ _ _ _ w _ e (ap (λ (y : PassLog). y.pushed) k.adds.pass) (i.pushed w);
+      popped = none_more _ _ _ (ap (λ (y : PassLog). y.popped) k.adds.pass) c.in-Some-pop.seat.popped ∙ i.popped;
     }

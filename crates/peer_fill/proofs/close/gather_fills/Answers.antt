@@ -1,6 +1,6 @@
 use Rattle.std.proofs.Common.{ap, arith, rules, ◌∙◌}
 use Rattle.crossbeam_queue.specs.Passes.{IsPassOf}
-use Rattle.peer_fill.specs.declared.jobs.Hand.{Hand}
+use Rattle.peer_fill.specs.declared.jobs.PassLog.{PassLog}
 use Rattle.peer_fill.specs.Seats.{popped_of}
 use Rattle.peer_fill.proofs.Gathering.{next_taken, none_more}
 use Rattle.peer_fill.proofs.Lasts.{sum_last, of_front}
@@ -19,6 +19,6 @@ loop-seat-preserved g c =
       asks = search rules;
       calls = omega (arith, k.adds.fills.calls, i.calls, sum_last (λ s. s.fills.calls) _ _ _ e);
       rehits = omega (arith, k.adds.fills.rehits, i.rehits, sum_last (λ s. s.fills.rehits) _ _ _ e);
-      pushed = none_more _ _ _ (ap (λ (y : Hand). y.pushed) k.adds.pass) c.in-Some.seat.pushed ∙ i.pushed;
-      popped = λ w. next_taken popped_of _ _ _ _ _ w _ e (ap (λ (y : Hand). y.popped) k.adds.pass) (i.popped w);
+      pushed = none_more _ _ _ (ap (λ (y : PassLog). y.pushed) k.adds.pass) c.in-Some.seat.pushed ∙ i.pushed;
+      popped = λ w. next_taken popped_of _ _ _ _ _ w _ e (ap (λ (y : PassLog). y.popped) k.adds.pass) (i.popped w);
     }

@@ -2,13 +2,13 @@ use Rattle.std.proofs.Common.{◌≡◌, arith, rules, ap}
 use Rattle.std.proofs.lemmas.List.Elements.{All-push}
 use Rattle.peer_fill.proofs.Lasts.{sum_last}
 use Rattle.crossbeam_queue.specs.Passes.{IsPassOf}
-use Rattle.peer_fill.specs.declared.jobs.Hand.{Hand}
+use Rattle.peer_fill.specs.declared.jobs.PassLog.{PassLog}
 use Rattle.peer_fill.specs.Counts.{no_asks}
 use Rattle.peer_fill.proofs.Ordering.{forks}
 use Rattle.peer_fill.proofs.deal.deal_conns.Goals as goal
 
 pub another-one-requires-clause-rule : goal.another-one-requires-clause-rule
-another-one-requires-clause-rule g c = forks _ _ 1 (omega (arith, ap (λ (v : Hand). v.parts) c.loop-i.invariant.has))
+another-one-requires-clause-rule g c = forks _ _ 1 (omega (arith, ap (λ (v : PassLog). v.parts) c.loop-i.invariant.has))
 
 pub loop-i-preserved : goal.loop-i-preserved
 loop-i-preserved g c =

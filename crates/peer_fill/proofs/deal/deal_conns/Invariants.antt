@@ -1,13 +1,13 @@
 use Rattle.std.specs.Prelude.{◌≡◌, ◌+◌, [], All, sum_by, vec_len}
 use Rattle.crossbeam_queue.specs.Passes.{view, IsPassOf}
 use Rattle.peer_fill.specs.Counts.{no_asks}
-use Rattle.peer_fill.specs.Jobs.{hand}
+use Rattle.peer_fill.specs.Jobs.{pass_log}
 use Rattle.peer_fill.proofs.deal.deal_conns.Given as goal
 
 abbrev pub invariant-loop-i : goal.invariant-loop-i
 invariant-loop-i g l = record {
   own : IsPassOf l.jobs l.pass;
-  has : view l.pass ≡ hand l.left [] [];
+  has : view l.pass ≡ pass_log l.left [] [];
   share : (l.share.parts ≡ l.left) × (l.share.amount ≡ 0);
   left : l.left + l._i ≡ 17;
   count : vec_len l.seats + 1 ≡ l._i;

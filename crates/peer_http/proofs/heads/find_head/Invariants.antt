@@ -1,5 +1,5 @@
 use Rattle.std.proofs.Common.{ℕ, List}
-use Rattle.peer_http.specs.Asks.{Awaits}
+use Rattle.peer_http.specs.Requests.{Awaits}
 use Rattle.peer_http.specs.Replies.{Interims}
 use Rattle.peer_http.proofs.heads.find_head.Given as goal
 

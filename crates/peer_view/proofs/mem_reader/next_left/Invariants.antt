@@ -1,6 +1,6 @@
 use Rattle.std.proofs.Common.{◌≡◌, ◌-◌, length}
 use Rattle.peer_view.specs.Pieces.{given_of, left_of}
-use Rattle.peer_view.proofs.mem_reader.next_place.Given as goal
+use Rattle.peer_view.proofs.mem_reader.next_left.Given as goal
 
 abbrev pub invariant-loop-at : goal.invariant-loop-at
 invariant-loop-at l = record {

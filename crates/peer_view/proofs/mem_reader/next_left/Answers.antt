@@ -2,7 +2,7 @@ use Rattle.std.proofs.Common.{◌<◌, ◌≤◌, ◌∙◌, length, ap, arith, 
 use Rattle.std.proofs.lemmas.Grind.{common_steps}
 use Rattle.peer_view.specs.Pieces.{given_of, left_of, piece_at}
 use Rattle.peer_view.proofs.PieceLemmas.{used_up, used_up_left, first_left, some_piece, none_left, some_left}
-use Rattle.peer_view.proofs.mem_reader.next_place.Goals as goal
+use Rattle.peer_view.proofs.mem_reader.next_left.Goals as goal
 
 pub loop-at-preserved : goal.loop-at-preserved
 loop-at-preserved c =

@@ -1,0 +1,34 @@
+//! Which groups are fetched for, and where.
+ghost use Rattle.std.specs.Prelude.{◌≡◌, ◌+◌, IfSome};
+ghost use Rattle.peer_fetch.specs.Endpoints.{HasEndpoint};
+
+use peer_origin::Endpoint;
+use peer_source::GroupId;
+
+/// The endpoints of groups whose numbers follow one another.
+#[derive(Clone, Copy)]
+pub struct Endpoints<'a> {
+    /// The number of the first group.
+    pub first: usize,
+    /// The endpoint of each group, from the first on.
+    pub each: &'a [Endpoint],
+}
+
+/// The endpoint of a group, and its number among the endpoints.
+#[derive(Clone, Copy)]
+pub struct Numbered<'a> {
+    pub number: usize,
+    pub endpoint: &'a Endpoint,
+}
+
+impl<'a> Endpoints<'a> {
+    /// The endpoint of a group, where it has one.
+    pub fn of(&self, group: GroupId) -> Option<Numbered<'a>>
+        ensures number { IfSome result (λ numbered. self.now.first + numbered.number ≡ group.number) }
+        ensures has { IfSome result (λ numbered. HasEndpoint self.now.first self.now.each.now group.number) }
+    {
+        let number = group.number.checked_sub(self.first)?;
+        let endpoint = self.each.get(number)?;
+        Some(Numbered { number, endpoint })
+    }
+}

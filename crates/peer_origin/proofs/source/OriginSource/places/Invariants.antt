@@ -1,6 +1,0 @@
-use Rattle.std.specs.Prelude.{◌≡◌, map, take}
-use Rattle.peer_origin.specs.Places.{asked_at}
-use Rattle.peer_origin.proofs.source.OriginSource.places.Given as goal
-
-abbrev pub invariant-loop-origin : goal.invariant-loop-origin
-invariant-loop-origin g l = map asked_at l.places.items ≡ map (λ o. asked_at o.place) (take l.origin-index l.fn.self.origins.items)
