@@ -3,14 +3,13 @@ ghost use Rattle.std.specs.Prelude.{◌≡◌, All};
 ghost use Rattle.peer_fill.specs.Pools.{source_of, IsConnSeatOf, IsFillSeatOf};
 
 use peer_exchange::{End, Exchange};
-use peer_fill::{ConnSeat, FillSeat, NoGate, Pool, TakenJob, pop_seat};
+use peer_fill::{ConnSeat, FillSeat, NoGate, Pool, Seats, TakenJob, pop_seat};
 use peer_source::DemoSource;
 use std::alloc::{AllocError, Global};
 use std::cmp::min;
 use std::sync::Wait;
 use std::sync::ledger::Ledger;
 use stream_model::Dice;
-use test_support::SeatLists;
 
 // More turns than any text here needs.
 const TURNS: usize = 10_000_000;
@@ -41,12 +40,12 @@ impl<'a, L: Ledger> Driven<'a, L> {
     pub fn new(
         alloc: Global,
         pool: &'a Pool<DemoSource, L>,
-        lists: SeatLists<DemoSource, L>,
+        lists: Seats<DemoSource, L>,
     ) -> Option<Driven<'a, L>>
         requires fills { All (IsFillSeatOf pool.now) lists.fills.items }
         requires conns { All (IsConnSeatOf pool.now) lists.conns.items }
     {
-        let SeatLists {
+        let Seats {
             mut fills,
             mut conns,
         } = lists;

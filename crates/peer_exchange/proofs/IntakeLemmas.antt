@@ -5,7 +5,7 @@ use Rattle.peer_reply.specs.declared.wish.Wish.{Wish}
 use Rattle.peer_wish.specs.Wishes.{closes_after, OpenWishes, ClosedWishes, AreFirst}
 use Rattle.peer_wish.specs.Nexts.{IsNextWish}
 use Rattle.peer_wish.proofs.WishLemmas.{next_block, Open-extend, Open-one, Open-append, Closed-one, Closed-append, next_closes, next_stays}
-use Rattle.peer_exchange.specs.Intakes.{IsNewIntake, is_open, is_judging, is_given_up, told, needing, AreOpen, AreJudged, Judged, JudgesOne}
+use Rattle.peer_exchange.specs.Intakes.{IsNewIntake, is_open, is_judging, is_given_up, told, giving, needing, AreOpen, AreJudged, Judged, JudgesOn, JudgesOne}
 use Rattle.peer_exchange.specs.declared.intake.Intake.{Intake}
 use Rattle.peer_exchange.specs.declared.intake.Stage.{Stage}
 use Rattle.peer_exchange.specs.declared.intake.Stage.TheVariants as stage
@@ -135,3 +135,31 @@ pub judging_goes_on : (st : Stage) → is_judging st ≡ true → is_given_up st
 judging_goes_on stage.Open e = refl
 judging_goes_on stage.Told e = refl
 judging_goes_on _ e = cc
+
+-- what is judged behind a request that was given, or where what is held is unfinished ..
+pub judges_on_giving : (closing : Bool) (st : Stage) → is_judging st ≡ true → JudgesOn st (giving closing st)
+judges_on_giving true st judging = inr (inl (judging, refl))
+judges_on_giving false st judging = inl refl
+
+pub judges_on_needing : (st : Stage) → JudgesOn st (needing st)
+judges_on_needing stage.Open = inl refl
+judges_on_needing stage.Told = inr (inr (refl, refl))
+judges_on_needing stage.Ended = inl refl
+judges_on_needing stage.Closed = inl refl
+judges_on_needing (stage.GivenUp why) = inl refl
+
+-- .. and behind both: nothing more, once a request closed or all was judged
+closed_stays : {a : Stage} → JudgesOn stage.Closed a → a ≡ stage.Closed
+closed_stays (inl e) = e
+closed_stays (inr (inl h)) = h.1
+closed_stays (inr (inr h)) = cc
+
+ended_stays : {a : Stage} → JudgesOn stage.Ended a → a ≡ stage.Ended
+ended_stays (inl e) = e
+ended_stays (inr (inl h)) = cc
+ended_stays (inr (inr h)) = h.1
+
+pub judges_on_then : {a b c : Stage} → JudgesOn a b → JudgesOn b c → JudgesOn a c
+judges_on_then {c = c} (inl e) h = subst (λ st. JudgesOn st c) e h
+judges_on_then {c = c} (inr (inl g)) h = inr (inl (g.0, closed_stays (subst (λ st. JudgesOn st c) g.1 h)))
+judges_on_then {c = c} (inr (inr g)) h = inr (inr (g.0, ended_stays (subst (λ st. JudgesOn st c) g.1 h)))

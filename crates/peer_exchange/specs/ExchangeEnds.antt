@@ -9,6 +9,17 @@ use Rattle.peer_wish.specs.declared.end.End.{End}
 use Rattle.peer_wish.specs.declared.end.End.TheVariants as end
 use Rattle.peer_exchange.specs.ExchangeStates.{is_over, Upholds}
 use Rattle.peer_exchange.specs.declared.exchange_state.ExchangeState.{ExchangeState}
+use Rattle.peer_exchange.specs.declared.intake.GivenUp.TheVariants as given_up
+use Rattle.peer_exchange.specs.declared.intake.Stage.{Stage}
+use Rattle.peer_exchange.specs.declared.intake.Stage.TheVariants as stage
+
+-- the end by the stage: what was given up ended as it was given up, and nothing else did
+abbrev pub IsEndAt : Stage → End → Type 0
+IsEndAt (stage.GivenUp given_up.Memory) e = e ≡ end.Memory
+IsEndAt (stage.GivenUp given_up.Worn) e = e ≡ end.Worn
+IsEndAt stage.Closed e = e ≡ end.Clean
+IsEndAt stage.Ended e = (e ≡ end.Clean) ⊎ (e ≡ end.Cut)
+IsEndAt _ e = ⊥
 
 module _ (numbers : List ℕ → Option ℕ) (answers : ℕ → List ℕ → Answer → Type 0) (came sent : List ℕ) where
   -- what was sent is the replies to these wishes

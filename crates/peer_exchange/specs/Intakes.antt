@@ -1,5 +1,5 @@
 -- What was judged of the bytes that came to a connection.
-use Rattle.std.specs.Prelude.{◌≡◌, ℕ, Bool, true, false, List, [], ◌∷◌, ◌++◌, length, Option, Result, Ok, Err}
+use Rattle.std.specs.Prelude.{◌≡◌, ◌⊎◌, ℕ, Bool, true, false, List, [], ◌∷◌, ◌++◌, length, Option, Result, Ok, Err}
 use Rattle.peer_head.specs.Blocks.{IsFrontLength}
 use Rattle.peer_reply.specs.declared.wish.Wish.{Wish}
 use Rattle.peer_wish.specs.Wishes.{OpenWishes, ClosedWishes, AreFirst, AreAll, closes_after}
@@ -28,10 +28,19 @@ is_given_up _ = false
 abbrev pub IsGivenUpFor : Stage → GivenUp → Type 0
 IsGivenUpFor st why = st ≡ stage.GivenUp why
 
--- it was given up where it was before, or now for this
+-- the stage stays, or a request closes, or all whole heads were judged where the client's end was told
+abbrev pub JudgesOn : Stage → Stage → Type 0
+JudgesOn old new = (new ≡ old) ⊎ (is_judging old ≡ true) × (new ≡ stage.Closed) ⊎ (old ≡ stage.Told) × (new ≡ stage.Ended)
+
+-- it was judged so, or given up now for this
 abbrev pub GoesOn : {T : Type 0} → Stage → Stage → Result T GivenUp → Type 0
-GoesOn old new (Ok value) = is_given_up new ≡ is_given_up old
+GoesOn old new (Ok value) = JudgesOn old new
 GoesOn old new (Err why) = IsGivenUpFor new why
+
+-- the stage behind a request that closes, or does not
+abbrev pub giving : Bool → Stage → Stage
+giving true st = stage.Closed
+giving false st = st
 
 -- the stage behind the client's end
 abbrev pub told : Stage → Stage

@@ -1,6 +1,10 @@
 -- What would let an exchange go on.
-use Rattle.std.specs.Prelude.{◌≡◌, Option, true, false, ◌&&◌, not, ◌==◌, length}
+use Rattle.std.specs.Prelude.{◌≡◌, ℕ, Option, None, Some, true, false, ◌&&◌, not, ◌==◌, List, [], ◌∷◌, length}
 use Rattle.std.specs.VecDeque.{deque_len}
+use Rattle.peer_flight.specs.declared.claim.Claim.TheVariants.{Pending}
+use Rattle.peer_lane.specs.declared.ticket.Body.{Body}
+use Rattle.peer_lane.specs.declared.ticket.Body.TheVariants.{Claim}
+use Rattle.peer_lane.specs.declared.ticket.Ticket.{Ticket}
 use Rattle.peer_exchange.specs.Asking.{IsJudgedThrough}
 use Rattle.peer_exchange.specs.ExchangeStates.{takes_bytes, unsent, has_much_output, is_full, is_over}
 use Rattle.peer_exchange.specs.declared.exchange_state.ExchangeState.{ExchangeState}
@@ -15,6 +19,16 @@ rest_of e = record {
   output = not (length (unsent e) == 0);
   job = e.waits_for_job;
 }
+
+-- the number of the flight that a ticket's body is of, where it is of one
+abbrev pub flight_number : {S : Type 0} → Body S → Option ℕ
+flight_number (Claim (Pending flight)) = Some flight.number
+flight_number _ = None
+
+-- that of the first ticket
+abbrev pub first_flight : {S : Type 0} → List (Ticket S) → Option ℕ
+first_flight [] = None
+first_flight (t ∷ ts) = flight_number t.body
 
 -- nothing would
 abbrev pub no_rest : Rest

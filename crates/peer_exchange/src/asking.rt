@@ -123,7 +123,7 @@ impl<S: Source> ExchangeState<S> {
     ghost use Rattle.peer_wish.specs.Tickets.{wish_by};
     ghost use Rattle.peer_exchange.specs.Asking.{AddsTickets, AsksOne, Enqueues, IsJudgedThrough, KeepsWhereNext};
     ghost use Rattle.peer_exchange.specs.ExchangeStates.{Keeps};
-    ghost use Rattle.peer_exchange.specs.Intakes.{GoesOn, is_judging};
+    ghost use Rattle.peer_exchange.specs.Intakes.{GoesOn, JudgesOn, is_judging};
 
     /// Judges what is held, and asks the pool, until it is full.
     pub(crate) fn ask_held<L: Ledger, H: Wait>(
@@ -169,6 +169,7 @@ impl<S: Source> ExchangeState<S> {
         ensures seat { KeepsSeat pool.now seat.old seat.new }
         ensures keeps { Keeps (S.number_of names.now) (allows S.allowed) self.old self.new }
         ensures asks { AsksOne self.old self.new (asks_of seat.old) (asks_of seat.new) (left_of seat.new) result }
+        ensures stage { OnOk result (JudgesOn self.old.intake.stage self.new.intake.stage) }
         ensures window { self.new.window.tickets ≡ self.old.window.tickets }
     {
         if self.is_full() || !self.intake.is_judging() {
@@ -203,6 +204,7 @@ impl<S: Source> ExchangeState<S> {
         requires judging { is_judging self.old.intake.stage ≡ true }
         ensures upholds { KeepsWhereNext (allows S.allowed) (wish_by ticket) self.old self.new }
         ensures enqueues { Enqueues ticket self.old self.new }
+        ensures stage { JudgesOn self.old.intake.stage self.new.intake.stage }
     {
         let closing = self.intake.closes(ticket.closing);
         self.intake.give(len, closing);

@@ -29,26 +29,28 @@ pub struct Exchange<'p, S: Source> {
 }
 
 impl<'p, S: Source> Exchange<'p, S> {
-    ghost use Rattle.std.specs.Prelude.{◌≡◌, ◌≤◌, true, [], ◌++◌, length, min, take, IfErr, IfOk, OnOk};
+    ghost use Rattle.std.specs.Prelude.{◌≡◌, ◌≤◌, true, [], ◌++◌, length, min, take, Some, IfErr, IfOk, IfSome, OnOk};
     ghost use Rattle.peer_fill.specs.Claiming.{KeepsSeat};
     ghost use Rattle.peer_fill.specs.Pools.{source_of, IsConnSeatOf};
     ghost use Rattle.peer_fill.specs.Seats.{asks_of, left_of};
     ghost use Rattle.peer_wish.specs.Allowed.{allows};
     ghost use Rattle.peer_exchange.specs.AnsweringReady.{AnswersReady, IsAnsweredThrough};
     ghost use Rattle.peer_exchange.specs.Asking.{AddsTickets};
-    ghost use Rattle.peer_exchange.specs.ExchangeEnds.{IsEnd};
+    ghost use Rattle.peer_exchange.specs.ExchangeEnds.{IsEnd, IsEndAt};
     ghost use Rattle.peer_exchange.specs.ExchangeStates.{AreSent, HoldsLittle, is_over, lent, room_of, takes_bytes, unsent};
     ghost use Rattle.peer_outbox.specs.Outboxes.{IsFrontOf};
     ghost use Rattle.peer_exchange.specs.Histories.{Came, KeepsHistories};
     ghost use Rattle.peer_exchange.specs.Holdings.{Holds};
     ghost use Rattle.peer_exchange.specs.Intakes.{GoesOn, IsGivenUpFor, told};
-    ghost use Rattle.peer_exchange.specs.Rests.{RestsAt, rest_of};
+    ghost use Rattle.peer_exchange.specs.Rests.{RestsAt, first_flight, rest_of};
 
     /// No byte came, and none was sent. It takes no memory yet.
     pub fn new(alloc: Global, names: Names<'p, S>) -> Exchange<'p, S>
         ensures names { result.names ≡ names.entry }
         ensures came { result.came.bytes ≡ [] }
         ensures sent { result.sent.bytes ≡ [] }
+        ensures open { takes_bytes result.state ≡ true }
+        ensures none { (result.state.waiting.items ≡ []) × (unsent result.state ≡ []) }
         ensures window { result.state.window.tickets ≡ 1 }
     {
         Exchange {
@@ -195,7 +197,9 @@ impl<'p, S: Source> Exchange<'p, S> {
     }
 
     /// The number of the flight that the first ticket waits for, none where no ticket waits or its fill is there.
-    pub fn awaits(&self) -> Option<u64> {
+    pub fn awaits(&self) -> Option<u64>
+        ensures { IfSome result (λ number. first_flight self.now.state.waiting.items ≡ Some number) }
+    {
         self.state.awaits()
     }
 
@@ -217,15 +221,18 @@ impl<'p, S: Source> Exchange<'p, S> {
     /// How it ended, none where it is not over. `Clean`: all of what came was answered. `Cut`: all whole heads were, and
     /// the client's end came inside another. `Memory` and `Worn`: it was given up behind whole replies to the first requests.
     pub fn ended(&self) -> Option<End>
-        ensures { ∥ IsEnd (S.number_of self.now.names) (allows S.allowed) self.now.came.bytes self.now.sent.bytes self.now.state result ∥₁ }
+        ensures ends { ∥ IsEnd (S.number_of self.now.names) (allows S.allowed) self.now.came.bytes self.now.sent.bytes
+            self.now.state result ∥₁ }
+        ensures stage { IfSome result (IsEndAt self.now.state.intake.stage) }
     {
         self.state.ended()
     }
 }
 
 impl<'p, S: FunctionalSource> Exchange<'p, S> {
+    ghost use Rattle.std.specs.Prelude.{IfSome};
     ghost use Rattle.peer_wish.specs.Allowed.{only};
-    ghost use Rattle.peer_exchange.specs.ExchangeEnds.{IsEnd};
+    ghost use Rattle.peer_exchange.specs.ExchangeEnds.{IsEnd, IsEndAt};
     ghost use Rattle.peer_exchange.specs.ExchangeStates.{AreSent};
 
     /// The law, where each group and key has one answer: there is one list of replies.
@@ -237,7 +244,8 @@ impl<'p, S: FunctionalSource> Exchange<'p, S> {
 
     /// How it ended, where each group and key has one answer.
     pub fn ended_functional(&self) -> Option<End>
-        ensures { ∥ IsEnd S.the_number (only S.the_answer) self.now.came.bytes self.now.sent.bytes self.now.state result ∥₁ }
+        ensures ends { ∥ IsEnd S.the_number (only S.the_answer) self.now.came.bytes self.now.sent.bytes self.now.state result ∥₁ }
+        ensures stage { IfSome result (IsEndAt self.now.state.intake.stage) }
     {
         self.state.ended_functional()
     }

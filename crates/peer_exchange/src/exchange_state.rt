@@ -49,6 +49,8 @@ impl<S: Source> ExchangeState<S> {
     /// No byte came, and none was sent. It takes no memory yet.
     pub(crate) fn new(alloc: Global) -> ExchangeState<S>
         ensures upholds { (numbers : List ℕ → Option ℕ) → Upholds numbers (allows S.allowed) [] [] [] result }
+        ensures open { takes_bytes result ≡ true }
+        ensures none { (result.waiting.items ≡ []) × (unsent result ≡ []) }
         ensures window { result.window.tickets ≡ 1 }
     {
         ExchangeState {

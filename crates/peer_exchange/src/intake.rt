@@ -53,7 +53,7 @@ impl Intake {
     ghost use Rattle.peer_wish.specs.Wishes.{closes_after};
     ghost use Rattle.peer_wish.specs.Nexts.{IsNextWish};
     ghost use Rattle.peer_exchange.specs.Intakes.{IsNewIntake, JudgesMore, JudgesFewer, JudgesNext, KeepsJudged};
-    ghost use Rattle.peer_exchange.specs.Intakes.{IsGivenUpFor, is_open, is_judging, is_given_up, told, needing};
+    ghost use Rattle.peer_exchange.specs.Intakes.{IsGivenUpFor, is_open, is_judging, is_given_up, told, giving, needing};
     ghost use Rattle.peer_head.specs.Blocks.{IsFrontLength, IsUnfinished, LIMIT};
     ghost use Rattle.peer_head.specs.Pairs.{ArePairs};
     ghost use Rattle.std.specs.Prelude.{◌↔◌, IsTrue};
@@ -146,6 +146,7 @@ impl Intake {
         requires count { closing ≡ false → self.old.count + 1 < REPLIES }
         ensures judges { JudgesNext self.old self.new len closing }
         ensures goes_on { is_given_up self.new.stage ≡ false }
+        ensures stage { self.new.stage ≡ giving closing self.old.stage }
     {
         if closing {
             self.stage = Stage::Closed;

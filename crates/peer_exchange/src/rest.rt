@@ -24,10 +24,10 @@ pub struct Rest {
 }
 
 impl<S: Source> ExchangeState<S> {
-    ghost use Rattle.std.specs.Prelude.{◌≡◌, ℕ, List, [], Option};
+    ghost use Rattle.std.specs.Prelude.{◌≡◌, ℕ, List, [], Option, Some, IfSome};
     ghost use Rattle.peer_wish.specs.Allowed.{allows};
-    ghost use Rattle.peer_exchange.specs.Rests.{rest_of};
-    ghost use Rattle.peer_exchange.specs.ExchangeEnds.{SaysEnd};
+    ghost use Rattle.peer_exchange.specs.Rests.{first_flight, rest_of};
+    ghost use Rattle.peer_exchange.specs.ExchangeEnds.{IsEndAt, SaysEnd};
 
     /// What would let it go on, once what is held was judged.
     pub(crate) fn rest(&self) -> Rest
@@ -42,7 +42,9 @@ impl<S: Source> ExchangeState<S> {
     }
 
     /// The number of the flight that the first ticket waits for, none where no ticket waits or its fill is there.
-    pub(crate) fn awaits(&self) -> Option<u64> {
+    pub(crate) fn awaits(&self) -> Option<u64>
+        ensures { IfSome result (λ number. first_flight self.now.waiting.items ≡ Some number) }
+    {
         let Body::Claim(Claim::Pending(flight)) = &self.waiting.front()?.body else {
             return None;
         };
@@ -55,7 +57,8 @@ impl<S: Source> ExchangeState<S> {
 
     /// How it ended, none where it is not over.
     pub(crate) fn ended(&self) -> Option<End>
-        ensures { (numbers : List ℕ → Option ℕ) → SaysEnd numbers (allows S.allowed) (allows S.allowed) self.now result }
+        ensures ends { (numbers : List ℕ → Option ℕ) → SaysEnd numbers (allows S.allowed) (allows S.allowed) self.now result }
+        ensures stage { IfSome result (IsEndAt self.now.intake.stage) }
     {
         if !self.is_over() {
             return None;
@@ -72,13 +75,14 @@ impl<S: Source> ExchangeState<S> {
 }
 
 impl<S: FunctionalSource> ExchangeState<S> {
-    ghost use Rattle.std.specs.Prelude.{ℕ, List, []};
+    ghost use Rattle.std.specs.Prelude.{ℕ, List, [], IfSome};
     ghost use Rattle.peer_wish.specs.Allowed.{only, allows};
-    ghost use Rattle.peer_exchange.specs.ExchangeEnds.{SaysEnd};
+    ghost use Rattle.peer_exchange.specs.ExchangeEnds.{IsEndAt, SaysEnd};
 
     /// How it ended, where each group and key has one answer.
     pub(crate) fn ended_functional(&self) -> Option<End>
-        ensures { SaysEnd S.the_number (allows S.allowed) (only S.the_answer) self.now result }
+        ensures ends { SaysEnd S.the_number (allows S.allowed) (only S.the_answer) self.now result }
+        ensures stage { IfSome result (IsEndAt self.now.intake.stage) }
     {
         self.ended()
     }

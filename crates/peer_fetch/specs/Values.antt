@@ -1,5 +1,5 @@
 -- What a value is that a fetch found, and what answer it is.
-use Rattle.std.specs.Prelude.{◌≡◌, ◌⊎◌, ℕ, List, Option, Some, None, Vec}
+use Rattle.std.specs.Prelude.{◌≡◌, ◌⊎◌, ℕ, List, [], Option, Some, None, Vec}
 use Rattle.std.specs.declared.alloc.Global.{Global}
 use Rattle.peer_origin.specs.Fetches.{Use}
 use Rattle.peer_source.specs.Answers.{Answer}
@@ -13,6 +13,10 @@ uses_of f = uses_by f.request.items f.sent f.receiving.came.bytes f.ended f.firs
 -- the same request once more, behind the one use of a connection on which nothing came
 abbrev pub IsSecondTry : Fetching → Fetching → Type 0
 IsSecondTry f f' = (f'.request.items ≡ f.request.items) × GoesOnAnew f.request.items (uses_of f) (uses_of f')
+
+-- a second try may be: this is the first one, and nothing came
+abbrev pub MayGoOnAnew : Fetching → Type 0
+MayGoOnAnew f = (f.first ≡ None) × (f.receiving.came.bytes ≡ [])
 
 -- the same request in the same try, so much of it sent
 abbrev pub IsSameTry : Fetching → Fetching → Type 0

@@ -2,6 +2,8 @@
 //!
 //! It stands on `Link`, a connection and its value. It promises nothing that contracts see: a connection is on the list of
 //! those that are to have a turn once at most, and the time that is told never is too late.
+ghost use Rattle.std.specs.Prelude.{OnOk};
+ghost use Rattle.slab.specs.Slab.{HasRoomFor};
 
 use crate::link::Link;
 use mio::Token;
@@ -60,7 +62,9 @@ impl<'a, S: Source> Connections<'a, S> {
     }
 
     /// Makes room for one connection more.
-    pub fn reserve(&mut self) -> Result<(), AllocError> {
+    pub fn reserve(&mut self) -> Result<(), AllocError>
+        ensures { OnOk result (HasRoomFor self.new.links 1) }
+    {
         let more = self.links.len().saturating_add(1);
         self.ready.reserve(more)?;
         self.links.reserve(1)
@@ -71,10 +75,12 @@ impl<'a, S: Source> Connections<'a, S> {
         Token(self.links.vacant_key())
     }
 
-    /// Adds a connection, for which there is room.
-    pub fn add(&mut self, link: Link<'a, S>) {
+    /// Adds a connection, for which there is room: none is lost.
+    pub fn add(&mut self, link: Link<'a, S>)
+        requires { HasRoomFor self.old.links 1 }
+    {
         self.next_due = earlier(self.next_due, link.due());
-        let _ = self.links.insert(link);
+        self.links.insert_reserved(link);
     }
 
     /// Takes a connection out.

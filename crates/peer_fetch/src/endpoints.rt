@@ -1,5 +1,5 @@
 //! Which groups are fetched for, and where.
-ghost use Rattle.std.specs.Prelude.{◌≡◌, ◌+◌, IfSome};
+ghost use Rattle.std.specs.Prelude.{◌≡◌, ◌+◌, IfNone, IfSome, Some, slice_get};
 ghost use Rattle.peer_fetch.specs.Endpoints.{HasEndpoint};
 
 use peer_origin::Endpoint;
@@ -25,6 +25,8 @@ impl<'a> Endpoints<'a> {
     /// The endpoint of a group, where it has one.
     pub fn of(&self, group: GroupId) -> Option<Numbered<'a>>
         ensures number { IfSome result (λ numbered. self.now.first + numbered.number ≡ group.number) }
+        ensures endpoint { IfSome result (λ numbered. slice_get self.now.each.now numbered.number ≡ Some numbered.endpoint.now) }
+        ensures none { IfNone result (¬ (HasEndpoint self.now.first self.now.each.now group.number)) }
         ensures has { IfSome result (λ numbered. HasEndpoint self.now.first self.now.each.now group.number) }
     {
         let number = group.number.checked_sub(self.first)?;

@@ -8,6 +8,7 @@ use crate::done::Done;
 use crate::endpoints::Numbered;
 use crate::link::{Link, Turn};
 use crate::opening::{System, open};
+use crate::room::Room;
 use crate::settings::FetchThreadSettings;
 use crate::under_way::UnderWay;
 use mio::event::Event;
@@ -15,33 +16,8 @@ use peer_fill::TakenJob;
 use peer_host::Network;
 use peer_origin::{Failure, FetchFault};
 use peer_source::Source;
-use std::alloc::{AllocError, Global};
+use std::alloc::Global;
 use std::time::Duration;
-
-// How many bytes a read may give.
-const ROOM: usize = 65_536;
-
-/// The memory that is needed before a value is under way.
-#[derive(Drop)]
-pub struct Room {
-    // A list for each origin.
-    idle: Vec<Vec<usize>>,
-    buffer: Vec<u8>,
-}
-
-impl Room {
-    /// Room for so many origins.
-    pub fn new(alloc: Global, origins: usize) -> Result<Room, AllocError> {
-        let mut idle = Vec::with_capacity(alloc, origins)?;
-        for _ in 0..origins {
-            idle.push(Vec::new(alloc))?;
-        }
-        Ok(Room {
-            idle,
-            buffer: vec![in alloc; 0; ROOM]?,
-        })
-    }
-}
 
 /// The values that are under way.
 #[derive(Drop)]
@@ -49,7 +25,7 @@ pub struct Fetcher<'a, S: Source> {
     alloc: Global,
     settings: FetchThreadSettings,
     connections: Connections<'a, S>,
-    // For each origin the connections that may be used again, the one used last behind the others. Some may be gone.
+    // For each origin the connections that may be used again, the one used last behind the others.
     idle: Vec<Vec<usize>>,
     under_way: usize,
     buffer: Vec<u8>,
@@ -134,20 +110,17 @@ impl<'a, S: Source> Fetcher<'a, S> {
         None
     }
 
-    // A connection to the origin that may be used again. Others are let go.
+    // A connection to the origin that may be used again. One that has ended meanwhile is let go.
     fn take_idle(&mut self, origin: usize) -> Option<usize> {
         for _ in 0..=self.settings.under_way {
             let key = self.idle.get_mut(origin)?.pop()?;
             let Some(link) = self.connections.get(key) else {
                 continue;
             };
-            if link.origin == origin && link.is_idle() {
+            if link.is_idle() {
                 return Some(key);
             }
-            // One that is used already, under a key that was another's, is not let go.
-            if link.due().is_none() {
-                self.connections.forget(key);
-            }
+            self.connections.forget(key);
         }
         None
     }
@@ -189,22 +162,48 @@ impl<'a, S: Source> Fetcher<'a, S> {
         }
     }
 
-    // Keeps a connection for another value, or lets it go.
-    fn keep(&mut self, key: usize, keeps: bool) {
+    // Puts a connection behind those to its origin that may be used again. Whether there is one, and memory for that.
+    fn put_idle(&mut self, key: usize) -> bool {
         let Some(link) = self.connections.get(key) else {
+            return false;
+        };
+        match self.idle.get_mut(link.origin) {
+            Some(idle) => idle.push(key).is_ok(),
+            None => false,
+        }
+    }
+
+    // Lets the connection go that was used longest ago, of the origin that has most of them.
+    fn forget_oldest(&mut self) {
+        let Some(longest) = self.idle.iter_mut().max_by_key(|idle| idle.len()) else {
             return;
         };
-        let origin = link.origin;
-        let most = self.settings.under_way;
-        let kept = self.connections.len().saturating_sub(self.under_way);
-        if keeps && kept <= most && !self.settings.fetch.connection_for_each {
-            if let Some(idle) = self.idle.get_mut(origin) {
-                if idle.len() < most && idle.push(key).is_ok() {
-                    return;
-                }
-            }
+        if longest.is_empty() {
+            return;
         }
+        let key = longest.remove(0);
         self.connections.forget(key);
+    }
+
+    // Keeps a connection for another value, in the place of an older one where too many are kept, or lets it go.
+    fn keep(&mut self, key: usize, keeps: bool) {
+        if !keeps || self.settings.fetch.connection_for_each || !self.put_idle(key) {
+            self.connections.forget(key);
+            return;
+        }
+        if self.connections.len().saturating_sub(self.under_way) > self.settings.under_way {
+            self.forget_oldest();
+        }
+    }
+
+    // Takes a connection out that ended while it was kept, also off those that may be used again, since another one gets its key.
+    fn lose(&mut self, key: usize) {
+        let Some(link) = self.connections.remove(key) else {
+            return;
+        };
+        if let Some(idle) = self.idle.get_mut(link.origin) {
+            idle.retain(|kept| *kept != key);
+        }
     }
 
     // Tries the next address of an origin.
@@ -265,7 +264,7 @@ impl<'a, S: Source> Fetcher<'a, S> {
                 None
             }
             Turn::Gone => {
-                self.connections.forget(key);
+                self.lose(key);
                 None
             }
             Turn::Done(done, keeps) => {

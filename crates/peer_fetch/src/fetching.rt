@@ -111,7 +111,7 @@ impl Fetching {
 
     /// Whether the whole request was sent. No byte may come before it was.
     pub fn is_sent(&self) -> bool
-        ensures { IsTrue result → length self.now.request.items ≤ self.now.sent }
+        ensures { IsTrue result ↔ (length self.now.request.items ≤ self.now.sent) }
     {
         self.sent >= self.request.len()
     }

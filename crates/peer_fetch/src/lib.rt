@@ -17,6 +17,7 @@ mod fetching;
 mod jobs;
 mod link;
 mod opening;
+mod room;
 mod settings;
 mod stream;
 mod thread;

@@ -148,7 +148,7 @@ impl<'a, S: Source> Link<'a, S> {
             None => match receive(&mut self.stream, &mut under, buffer, &mut self.readiness) {
                 Ok(answer) => {
                     let Answer { value, keeps } = answer;
-                    return Turn::Done(under.done(value), keeps);
+                    return Turn::Done(under.done(value), keeps && !self.readiness.read_closed);
                 }
                 Err(halt) => halt,
             },

@@ -4,9 +4,10 @@ ghost use Rattle.peer_fill.specs.Pools.{source_of, IsFillSeatOf};
 ghost use Rattle.peer_fetch.specs.Threads.{Allows, IsLaterSeat};
 
 use crate::bell::{FetchBell, WOKEN};
-use crate::fetcher::{Fetcher, Room};
+use crate::fetcher::Fetcher;
 use crate::jobs::{Jobs, serve_ready, take_jobs};
 use crate::opening::System;
+use crate::room::Room;
 use crate::settings::FetchPlan;
 use mio::{Events, Poll};
 use peer_fill::{FillSeat, Gate, Pool};

@@ -1,9 +1,10 @@
 //! A value under way: a job, the endpoint of its origin, and the fetch.
-ghost use Rattle.std.specs.Prelude.{◌≡◌, ◌+◌, ◌≤◌, ◌↔◌, ◌++◌, [], ◌∷◌, false, length, true, Err, IfErr, IfOk, IfSome, IsTrue, Ok};
+ghost use Rattle.std.specs.Prelude.{◌≡◌, ◌+◌, ◌≤◌, ◌↔◌, ◌++◌, [], ◌∷◌, false, length, true, Err, IfErr, IfOk, IfSome, IsTrue, None, Ok, drop};
 ghost use Rattle.peer_view.specs.Sinks.{MAX_VALUE};
 ghost use Rattle.peer_origin.specs.declared.exchange.Failure.TheVariants as fail;
+ghost use Rattle.peer_origin.specs.declared.fault.FetchFault.TheVariants as fault;
 ghost use Rattle.peer_fetch.specs.Fetchings.{request_at, use_by};
-ghost use Rattle.peer_fetch.specs.Values.{uses_of, IsFoundBy, IsSameTry, IsSecondTry};
+ghost use Rattle.peer_fetch.specs.Values.{uses_of, IsFoundBy, IsSameTry, IsSecondTry, MayGoOnAnew};
 
 use crate::done::{Done, Fetched};
 use crate::fetching::{Answer, Fetching};
@@ -54,6 +55,7 @@ impl<'a, S: Source> UnderWay<'a, S> {
     pub fn again(self, alloc: Global) -> Result<UnderWay<'a, S>, Done<'a, S>>
         ensures kept { IfOk result (λ u. (u.endpoint ≡ self.entry.endpoint) × (u.job ≡ self.entry.job) × (u.due ≡ self.entry.due)) }
         ensures second { IfOk result (λ u. IsSecondTry self.entry.fetching u.fetching) }
+        ensures lost { IfErr result (λ d. IfErr d.got (λ why. why ≡ fault.Lost → ¬ (MayGoOnAnew self.entry.fetching))) }
         ensures given_back { IfErr result (λ d. (d.endpoint ≡ self.entry.endpoint) × (d.job ≡ self.entry.job) × IfOk d.got (λ _. ⊥)) }
     {
         let UnderWay {
@@ -103,7 +105,8 @@ impl<'a, S: Source> UnderWay<'a, S> {
 
     /// What is to be sent.
     pub fn unsent(&self) -> &[u8]
-        ensures { length result.now + self.now.fetching.sent ≡ length self.now.fetching.request.items }
+        ensures bytes { result.now ≡ drop self.now.fetching.sent self.now.fetching.request.items }
+        ensures left { length result.now + self.now.fetching.sent ≡ length self.now.fetching.request.items }
     {
         self.fetching.unsent()
     }
@@ -123,7 +126,7 @@ impl<'a, S: Source> UnderWay<'a, S> {
 
     /// Whether the whole request was sent.
     pub fn is_sent(&self) -> bool
-        ensures { IsTrue result → length self.now.fetching.request.items ≤ self.now.fetching.sent }
+        ensures { IsTrue result ↔ (length self.now.fetching.request.items ≤ self.now.fetching.sent) }
     {
         self.fetching.is_sent()
     }

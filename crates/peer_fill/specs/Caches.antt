@@ -1,12 +1,21 @@
 -- What a pool's caches keep, and what they give.
-use Rattle.std.specs.Prelude.{◌≡◌, ℕ, List, slice_get, Option, None, Some}
-use Rattle.std.specs.Option.{ForSome}
+use Rattle.std.specs.Prelude.{◌≡◌, ℕ, List, [], All, length, set, slice_get, Option, None, Some}
+use Rattle.std.specs.Option.{ForSome, option_map_or}
 use Rattle.peer_source.specs.Answers.{Filled}
 use Rattle.peer_source.specs.Caches.{Cache, found_fill, fill_of}
 
 -- the cache in each place is that of the group with this number
 pub record EachInPlace (caches : List Cache) : Type 0 where
   pub in_place : (i : ℕ) → ForSome (slice_get caches i) (λ c. c.group ≡ i)
+
+-- so many caches, each with this limit and without an entry
+pub record AreEmpty (groups bytes : ℕ) (caches : List Cache) : Type 0 where
+  pub count : length caches ≡ groups
+  pub each : All (λ c. (c.limit ≡ bytes) × (c.entries ≡ [])) caches
+
+-- the same caches, of which that of the group is changed so, where there is one
+abbrev pub with_cache : (Cache → Cache) → ℕ → List Cache → List Cache
+with_cache f group caches = option_map_or (λ c. set caches group (f c)) (slice_get caches group) caches
 
 -- it is the fill of a value that was found for this group and key
 abbrev pub IsFoundFor : ℕ → List ℕ → Filled → Type 0

@@ -1,7 +1,7 @@
 //! The main caches of a pool as it locks them: one for each group of its source.
-ghost use Rattle.std.specs.Prelude.{◌≡◌, ◌-◌, ◌^◌, IfOk, IfSome, min, sum_by};
-ghost use Rattle.peer_source.specs.Caches.{bytes_in};
-ghost use Rattle.peer_fill.specs.Caches.{IsFoundFor, EachInPlace, kept_fill};
+ghost use Rattle.std.specs.Prelude.{◌≡◌, ◌-◌, ◌^◌, None, IfOk, IfSome, IsOk, OnErr, OnOk, min, slice_get, sum_by};
+ghost use Rattle.peer_source.specs.Caches.{added, brought_to_front, bytes_in, value_to_keep};
+ghost use Rattle.peer_fill.specs.Caches.{AreEmpty, IsFoundFor, EachInPlace, kept_fill, with_cache};
 
 use peer_source::{Evicted, Fill, GroupId, MainCache, Source};
 use std::alloc::{AllocError, Global};
@@ -21,7 +21,9 @@ impl<S: Source> Caches<S> {
         count: usize,
         limit: u64,
         seed: RandomState,
-    ) -> Result<Caches<S>, AllocError> {
+    ) -> Result<Caches<S>, AllocError>
+        ensures { IfOk result (λ caches. AreEmpty count limit caches.each.items) }
+    {
         let mut each = Vec::new(alloc);
         for number in 0..count {
             each.push(MainCache::new(alloc, GroupId { number }, limit, seed)?)?;
@@ -34,6 +36,9 @@ impl<S: Source> Caches<S> {
     pub fn get(&mut self, group: GroupId, key: &[u8]) -> Result<Option<Fill<S>>, AllocError>
         ensures own { IfOk result (λ found. found ≡ kept_fill self.old.each.items group.number key.now) }
         ensures found { IfOk result (λ found. IfSome found (IsFoundFor group.number key.now)) }
+        ensures front { OnOk result (self.new.each.items ≡ with_cache (brought_to_front key.now) group.number self.old.each.items) }
+        ensures err { OnErr result (self.new.each.items ≡ self.old.each.items) }
+        ensures missing { kept_fill self.old.each.items group.number key.now ≡ None → IsOk result }
     {
         let Some(cache) = self.each.get_mut(group.number) else {
             return Ok(None);
@@ -54,7 +59,11 @@ impl<S: Source> Caches<S> {
 
     /// Keeps a value that was found, in the cache of its group.
     #[tactic(auto, using(crate::proofs::Placing::in_place_set))]
-    pub fn add(&mut self, fill: &Fill<S>, evicted: &mut Evicted) -> Result<(), AllocError> {
+    pub fn add(&mut self, fill: &Fill<S>, evicted: &mut Evicted) -> Result<(), AllocError>
+        ensures ok { OnOk result (self.new.each.items ≡ with_cache (added fill.now) fill.now.group self.old.each.items) }
+        ensures err { OnErr result (self.new.each.items ≡ self.old.each.items) }
+        ensures nothing { IfSome (slice_get self.old.each.items fill.now.group) (λ c. value_to_keep fill.now c ≡ None) → IsOk result }
+    {
         let Some(cache) = self.each.get_mut(fill.group().number) else {
             return Ok(());
         };

@@ -1,6 +1,6 @@
 //! How a pool's queue and ledger are opened, and their parts dealt out to its seats.
 ghost use Rattle.std.specs.Prelude.{◌≡◌, ◌<◌, ◌≤◌, [], All, IfOk, vec_len};
-ghost use Rattle.crossbeam_queue.specs.Passes.{view, IsPassOf};
+ghost use Rattle.crossbeam_queue.specs.Passes.{view, IsPassOf, ruled_capacity};
 ghost use Rattle.peer_fill.specs.Counts.{no_asks, no_fills};
 ghost use Rattle.peer_fill.specs.Jobs.{pass_log};
 ghost use Rattle.peer_fill.specs.Seats.{asks_of, fills_of, HaveAllConns, HaveAllFills};
@@ -85,7 +85,7 @@ pub fn deal_all<S: Source, L: Ledger>(
     requires workers { (0 < workers) × (workers ≤ 16) }
     requires conns { (0 < conns) × (conns ≤ 16) }
     requires blank { (blank.name ≡ L.name) × (blank.parts ≡ L.parts) × (blank.parts ≡ 16) }
-    ensures book { IfOk result (λ dealt. dealt.book.total ≡ 0) }
+    ensures opened { IfOk result (λ dealt. (dealt.book.total ≡ 0) × (ruled_capacity dealt.jobs ≡ 256)) }
     ensures numbers { IfOk result (λ dealt. (vec_len dealt.fills ≡ workers) × (vec_len dealt.conns ≡ conns)) }
     ensures own { IfOk result (λ d. All (λ s. IsPassOf d.jobs s.pass) d.fills.items × All (λ s. IsPassOf d.jobs s.pass) d.conns.items) }
     ensures fresh { IfOk result (λ d. All (λ s. fills_of s ≡ no_fills) d.fills.items × All (λ s. asks_of s ≡ no_asks) d.conns.items) }

@@ -4,7 +4,7 @@ use std::sync::Wait;
 
 /// May hold a worker back, as a test does to force an order of steps.
 pub trait Gate: Sync {
-    /// The worker has the flight's right, and has not called the source yet.
+    /// The worker has the flight's right. It looks into the cache next, and calls the source where that has no value.
     fn before_call<R: Wait>(&self, rt: &R, group: GroupId, key: &[u8]);
 
     /// The flight with this number has its fill, and has not landed yet.

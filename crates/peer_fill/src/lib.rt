@@ -1,11 +1,11 @@
 //! The pool of fills: connections ask, and workers call the source (`Group.load` of `groupcache.go`, `singleflight.go`).
 //!
 //! It stands on the flights of `peer_flight`, the sources, fills and caches of `peer_source`, the waits of `peer_wait`
-//! and the ruled queue of `crossbeam_queue`. It promises that a claim is of the group and the key that were asked for,
-//! that one which is ready shows a value that was found for them, that each ask is counted once by what it gave, that jobs
-//! are first in, first out, and that a pool is closed exactly where all its seats are handed in, with a report that adds
-//! up: what was led is what was called for, was kept by then, or is left. Threads that are handed seats give them back
-//! with their parts.
+//! and the queue of `crossbeam_queue` whose order is proved (`ruled`). It promises that a claim is of the group and the
+//! key that were asked for, that one which is ready shows a value that was found for them, that each ask is counted once
+//! by what it gave, that jobs are first in, first out, and that a pool is closed exactly where all its seats are handed
+//! in, with a report that adds up: what was led is what was called for, was kept by then, or is left. Threads that are
+//! handed seats give them back with their parts.
 #![tactic(auto)]
 
 mod ask;

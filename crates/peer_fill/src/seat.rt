@@ -1,4 +1,4 @@
-//! What both kinds of seats have: a pass of the queue of jobs, and parts of the pool.
+//! What both kinds of seats have: a pass of the queue of jobs, which is the right to push and to pop, and parts of the pool.
 //!
 //! It stands on the seats of connections and of workers. Handing seats out and taking them back is written once over it.
 ghost use Rattle.std.specs.Prelude.{◌≡◌, ◌≤◌, ℕ};

@@ -25,12 +25,13 @@ pub struct HasSixteenParts<L: Ledger> {
 }
 
 impl<S: Source, L: Ledger> CountedTable<S, L> {
-    ghost use Rattle.peer_flight.specs.SingleFlight.{Lands, place_of};
+    ghost use Rattle.peer_flight.specs.SingleFlight.{IsSame, Lands, no_flights, place_of};
     ghost use Rattle.peer_flight.specs.Tables.{Gives, Stands, flight_at};
     ghost use Rattle.peer_fill.specs.Asks.{led_count};
 
     pub fn new(alloc: Global, led: Book<L>) -> CountedTable<S, L>
         requires { led.total ≡ 0 }
+        ensures { IsSame no_flights (state_of result.table) }
     {
         CountedTable {
             table: Table::new(alloc),
@@ -51,6 +52,7 @@ impl<S: Source, L: Ledger> CountedTable<S, L> {
         ensures stands { IfOk result (λ ask. Stands ask self.old.table self.new.table (place_of group.number key.now)) }
         ensures counted { IfOk result (λ ask. share.new.amount ≡ share.old.amount + led_count ask) }
         ensures refused { OnErr result (share.new.amount ≡ share.old.amount) }
+        ensures same { OnErr result (IsSame (state_of self.old.table) (state_of self.new.table)) }
         ensures parts { share.new.parts ≡ share.old.parts }
     {
         let CountedTable { table, led } = self;

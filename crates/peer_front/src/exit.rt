@@ -12,17 +12,26 @@ pub struct Exit {
 /// Where what was asked for was done.
 pub const DONE: Exit = Exit { status: 0 };
 
-/// Where a word cannot be used.
+/// Where a word cannot be used, or no file of its name can be opened.
 pub const BAD_WORD: Exit = Exit { status: 1 };
 
 /// Where the address cannot be bound.
 pub const CANNOT_BIND: Exit = Exit { status: 2 };
+
+/// Where a line of the table is wrong, or the table is too large.
+pub const BAD_TABLE: Exit = Exit { status: 2 };
+
+/// Where a read of the table fails.
+pub const READ_FAILED: Exit = Exit { status: 3 };
 
 /// Where standard output fails.
 pub const NO_OUTPUT: Exit = Exit { status: 4 };
 
 /// Where memory, a thread or a descriptor was refused.
 pub const OUT_OF_MEMORY: Exit = Exit { status: 5 };
+
+/// Where the last read of the table was made that there is.
+pub const SPENT: Exit = Exit { status: 6 };
 
 /// Where the system gives no random seed for the caches, so that clients could choose keys that collide.
 pub const NO_SEED: Exit = Exit { status: 7 };

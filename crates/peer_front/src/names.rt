@@ -23,6 +23,9 @@ pub fn look_up_names<H: AllocGlobal + Network>(rt: &H, endpoints: &[Endpoint], e
             return;
         }
         for endpoint in endpoints {
+            if end.is_told() {
+                return;
+            }
             endpoint.addresses.look_up_again(rt, rt.alloc());
         }
     }

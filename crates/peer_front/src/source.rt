@@ -26,9 +26,7 @@ fn table_of<H: AllocGlobal + Eprint + Files>(
         Ok(table) => Ok(Some(table)),
         Err(fault) => {
             let _ = eprintln!(rt; "peer_front: --table {path}: {fault}");
-            Err(Exit {
-                status: fault.status(),
-            })
+            Err(fault.exit())
         }
     }
 }

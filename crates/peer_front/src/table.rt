@@ -1,5 +1,6 @@
 //! The table that is served.
 
+use crate::exit::{BAD_TABLE, BAD_WORD, Exit, OUT_OF_MEMORY, READ_FAILED, SPENT};
 use peer_table::{TABLE_READS, TableFault, TableSource};
 use peer_view::StdReader;
 use std::alloc::Global;
@@ -25,14 +26,14 @@ pub enum NoTable {
 }
 
 impl NoTable {
-    /// The status of the program.
-    pub fn status(&self) -> u8 {
+    /// How the program ends.
+    pub fn exit(&self) -> Exit {
         match self {
-            NoTable::Open(_) => 1,
-            NoTable::Line(_) | NoTable::TooLarge => 2,
-            NoTable::Read => 3,
-            NoTable::Memory => 5,
-            NoTable::Spent => 6,
+            NoTable::Open(_) => BAD_WORD,
+            NoTable::Line(_) | NoTable::TooLarge => BAD_TABLE,
+            NoTable::Read => READ_FAILED,
+            NoTable::Memory => OUT_OF_MEMORY,
+            NoTable::Spent => SPENT,
         }
     }
 }

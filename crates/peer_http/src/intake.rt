@@ -21,14 +21,25 @@ impl Model for Intake {
     ghost invariant = { λ i. i.from ≤ length i.bytes.items };
 }
 
-// Puts bytes behind those that were read, of which some were taken.
+// Forgets the first `n` bytes.
+fn cut_front(bytes: &mut Vec<u8>, n: usize)
+    requires { n ≤ length bytes.old.items }
+    ensures { bytes.new.items ≡ drop n bytes.old.items }
+{
+    let len = bytes.len();
+    bytes.copy_within(n..len, 0);
+    bytes.truncate(len - n);
+}
+
+// Puts bytes behind those that were read, of which some were taken. These are forgotten, so that a sender of heads without
+// end fills no memory: what is left is less than a head.
 fn put_behind(bytes: &mut Vec<u8>, from: &mut usize, more: &[u8]) -> Result<(), AllocError>
     requires { from.old ≤ length bytes.old.items }
     ensures within { from.new ≤ length bytes.new.items }
     ensures put { OnOk result (drop from.new bytes.new.items ≡ drop from.old bytes.old.items ++ more.now) }
 {
-    if *from == bytes.len() {
-        bytes.clear();
+    if *from > 0 {
+        cut_front(bytes, *from);
         *from = 0;
     }
     bytes.extend_from_slice(more)

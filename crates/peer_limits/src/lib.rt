@@ -1,15 +1,15 @@
-//! How long a server waits for its clients, and how much it reads for nothing: each number with its reason.
+//! How long a server waits for its clients, and how much it reads and discards: each number with its reason.
 //!
 //! It stands on the durations of `std` alone, and has numbers and no rule: who waits, and for what, stands where it is done.
 #![tactic(auto)]
 
 use std::time::Duration;
 
-/// How many bytes are read for nothing behind a closing reply: more than a full buffer of heads, and less than what would
-/// let a client hold its connection by sending.
+/// How many bytes are read and discarded behind a closing reply: more than a full buffer of heads, and less than what
+/// would let a client hold its connection by sending.
 pub const MAX_SKIPPED: usize = 1_048_576;
 
-/// How long a server waits. No duration is zero.
+/// How long a server waits. No duration may be zero, which nothing checks: a server in threads serves nobody then.
 #[derive(Clone, Copy, Debug, PartialEq, Eq)]
 pub struct Limits {
     /// How often a server looks how long its clients have been silent, slow or lingering: once a second costs nothing that
@@ -26,8 +26,8 @@ pub struct Limits {
     pub request_when_full: Duration,
     /// How long a client may take nothing of what is to be sent.
     pub unread: Duration,
-    /// How long is read for nothing behind a closing reply, so that the close does not reset what the client has not read
-    /// yet (RFC 9112, section 9.6).
+    /// How long is read on, and what comes discarded, behind a closing reply, so that the close does not reset what the
+    /// client has not read yet (RFC 9112, section 9.6).
     pub linger: Duration,
     /// The pause behind a call of the system that failed, so that a server without free file descriptors neither spins nor
     /// loses its rounds.

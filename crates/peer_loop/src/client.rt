@@ -39,7 +39,7 @@ pub struct Client<'a, S: Source, F: Facts<S>> {
     ended: bool,
     // A call of the stream failed.
     failed: bool,
-    // The replies are sent, and what still comes is read for nothing.
+    // The replies are sent, and what still comes is discarded.
     lingers: bool,
     skipped: usize,
     // What is counted of what it holds.
@@ -274,21 +274,24 @@ impl<'a, S: Source, F: Facts<S>> Client<'a, S, F> {
         ClientState::Busy
     }
 
-    // Whether it waits for a value, which may be there by now, or for room in the queue of jobs.
-    fn waits(&self) -> bool {
-        self.exchange.rest().fill || self.is_for_room
+    /// Has it write once more, where output waits: the system reports room only once much of it is free. Whether there is output.
+    pub fn tries_to_write(&mut self) -> bool {
+        let waits = !self.lingers && !self.exchange.output().is_empty();
+        self.readiness.writable |= waits;
+        waits
     }
 
-    /// Whether it is to be let go for its silence, since it takes nothing, or since it is slow where no more connections can
-    /// be had. One of which something was just reported is not silent.
+    /// Whether it is to be let go: it is silent, takes nothing, or is slow where no more connections can be had. What was just
+    /// reported of it, the value or the room that came for it, and room in its stream are for its next turn.
     pub fn is_overdue(&self, now: Duration, limits: &Limits, full: bool) -> bool {
         if self.lingers {
             return self.activity.has_lingered(now, limits);
         }
         if !self.exchange.output().is_empty() {
-            return self.activity.takes_nothing(now, limits);
+            return !self.readiness.writable && self.activity.takes_nothing(now, limits);
         }
-        if self.waits() {
+        let rest = self.exchange.rest();
+        if rest.fill || rest.job {
             return false;
         }
         let silent = !self.is_ready && self.activity.is_silent(now, limits, full);

@@ -6,12 +6,14 @@
 
 use crate::client::Client;
 use crate::facts::Facts;
+use crate::limits::MOST_FOR_ROOM;
 use crate::wait_lists::WaitLists;
 use mio::event::Event;
 use mio::{Registry, Token};
 use peer_source::Source;
 use slab::Slab;
 use std::alloc::{AllocError, Global};
+use std::cmp::min;
 use std::collections::VecDeque;
 
 /// The clients, each under its key.
@@ -130,9 +132,9 @@ impl<'a, S: Source, F: Facts<S>> Clients<'a, S, F> {
         }
     }
 
-    /// Has those their turn that waited for room.
+    /// Has the first of those their turn that waited for room: more than get it would ask in vain.
     pub fn room_came(&mut self) {
-        for _ in 0..self.for_room.len() {
+        for _ in 0..min(self.for_room.len(), MOST_FOR_ROOM) {
             let Some(key) = self.for_room.pop_front() else {
                 return;
             };

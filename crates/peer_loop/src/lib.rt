@@ -1,8 +1,8 @@
 //! A peer server for thousands of clients: a few threads, each with an event loop and all of its connections.
 //!
 //! It stands on the connections of `peer_exchange`, which are states without input or output, on the pool of `peer_fill`,
-//! and on the readiness of `mio`. It promises that the report which a server gives adds up, and when it is refused
-//! for its numbers. A connection is served by calls of `Exchange` alone, whose law says what is sent: that, what a socket
+//! and on the readiness of `mio`. It promises that the report which a server gives adds up, and for which numbers of
+//! threads, connections and groups it refuses to open. A connection is served by calls of `Exchange` alone, whose law says what is sent: that, what a socket
 //! carries, and how long a call waits, no contract can say.
 #![tactic(auto)]
 

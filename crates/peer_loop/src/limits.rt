@@ -20,5 +20,9 @@ pub const LOOKS: u32 = 64;
 /// of its tickets.
 pub const MAX_UNCOUNTED: usize = 65_536;
 
+/// How many clients that waited for room in the queue of jobs have their turn at once, which has 256 places for all loops: more
+/// would ask in vain.
+pub const MOST_FOR_ROOM: usize = 64;
+
 /// How many jobs a loop fills before its clients have their turn again.
 pub const JOBS_OF_TURN: usize = 64;

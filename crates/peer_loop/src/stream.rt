@@ -1,4 +1,4 @@
-//! What the system reports of a client's stream, and how a stream is read for nothing behind a closing reply.
+//! What the system reports of a client's stream, and how what comes is discarded behind a closing reply.
 
 use crate::client_state::ClientState;
 use crate::limits::ROUNDS_OF_TURN;
@@ -35,7 +35,7 @@ impl Readiness {
     }
 }
 
-/// Reads for nothing, as a lingering close does, adds what was read to what was skipped, and says what is waited for.
+/// Reads and discards, as a lingering close does, adds what was read to what was skipped, and says what is waited for.
 pub fn skip(stream: &mut TcpStream, skipped: &mut usize) -> ClientState {
     let mut room = [0u8; 4096];
     for _ in 0..ROUNDS_OF_TURN {

@@ -161,16 +161,21 @@ impl<'a, S: Source, F: Facts<S>> Turns<'a, S, F> {
         }
     }
 
-    // Counts what a client holds, for which values may have come since its turn, and says whether it is to be let go.
+    // Counts what a client holds, for which values may have come since its turn, and says whether it is to be let go. One that
+    // is to stay and has output has a turn.
     fn look_at(&mut self, key: usize, full: bool) -> bool {
         let site = self.shared.site;
-        match self.clients.each.get_mut(key) {
-            Some(client) => {
-                client.count_held(site.occupancy);
-                client.is_overdue(self.now, site.limits, full)
-            }
-            None => false,
+        let Some(client) = self.clients.each.get_mut(key) else {
+            return false;
+        };
+        client.count_held(site.occupancy);
+        if client.is_overdue(self.now, site.limits, full) {
+            return true;
         }
+        if client.tries_to_write() {
+            self.clients.make_ready(key);
+        }
+        false
     }
 
     // Lets those go that were silent, or took nothing, for too long, and counts what the others hold.

@@ -1,8 +1,9 @@
 //! The fetch of a value: a request for its key, and one more where a kept connection ended before a byte of the reply.
-ghost use Rattle.std.specs.Prelude.{◌≡◌, ◌≢◌, ◌+◌, ◌-◌, ◌^◌, ◌<◌, ◌≤◌, false, length, Err, IfOk};
+ghost use Rattle.std.specs.Prelude.{◌≡◌, ◌≢◌, ◌+◌, ◌-◌, ◌^◌, ◌<◌, ◌≤◌, false, length, Err, IfErr, IfOk, ◌⊎◌};
 ghost use Rattle.peer_http.specs.Requests.{Awaits, IsRequest, request_for};
 ghost use Rattle.peer_http.specs.declared.fault.ReplyFault.TheVariants as told;
 ghost use Rattle.peer_origin.specs.declared.exchange.Failure.TheVariants as fail;
+ghost use Rattle.peer_origin.specs.declared.fault.FetchFault.TheVariants as fault;
 ghost use Rattle.peer_origin.specs.Fetches.{AttemptsAs, ExchangesAs, Fetches, FetchesAnew, IsUnused, use_of};
 ghost use Rattle.peer_origin.specs.Targets.{target_of};
 
@@ -53,7 +54,8 @@ fn value_of(reply: Reply) -> Result<Vec<u8>, Failure>
 
 /// The request for a key of the origin with this `Host` and this prefix, and the client that awaits the reply.
 pub fn request(alloc: Global, host: &[u8], prefix: &[u8], key: &[u8]) -> Result<Request, FetchFault>
-    ensures { IfOk result (IsRequest host.now (target_of prefix.now key.now)) }
+    ensures request { IfOk result (IsRequest host.now (target_of prefix.now key.now)) }
+    ensures refused { IfErr result (λ why. (why ≡ fault.Memory) ⊎ (why ≡ fault.Malformed)) }
 {
     let Ok(target) = target(alloc, prefix, key) else {
         return Err(FetchFault::Memory);

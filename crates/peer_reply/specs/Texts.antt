@@ -1,4 +1,4 @@
--- The texts of replies (RFC 9112, section 4; `ServeHTTP` of `http.go`).
+-- The texts of replies (RFC 9112, section 4; the statuses of RFC 9110, section 15, and RFC 6585, section 5; `ServeHTTP` of `http.go`).
 use Rattle.std.specs.Prelude.{ℕ, Bool, cond, List, [], ◌∷◌, ◌++◌, length, codes, decimal}
 use Rattle.std.specs.Borrow.{Bor}
 use Rattle.peer_source.specs.Answers.{Answer, Found, Failed}

@@ -12,7 +12,7 @@ fn time_left<H: Clock>(client: &Client<'_, H>, begun: Instant) -> Option<Duratio
     client.limits().linger.checked_sub(time)
 }
 
-// Reads once for nothing, within the time that is left, and says how many bytes came.
+// Reads once and discards, within the time that is left, and says how many bytes came.
 fn skip<H: Clock>(client: &Client<'_, H>, begun: Instant, room: &mut [u8]) -> Option<usize> {
     let time = time_left(client, begun)?;
     let mut stream = client.stream();

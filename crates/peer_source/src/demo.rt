@@ -124,8 +124,6 @@ impl Source for DemoSource {
 
     ghost number_of = { λ s name. demo_number name };
 
-    const ANSWERS_AT_ONCE: bool = true;
-
     fn group_count(&self) -> usize {
         3
     }

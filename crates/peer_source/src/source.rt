@@ -45,9 +45,6 @@ pub trait Source: Send + Sync + Drop {
     fn get(&self, alloc: Global, group: GroupId, key: &[u8], sink: &mut AllocSink) -> GetResult
         ensures { IfSome (reported result sink.new) (answers self.now group.number key.now) };
 
-    /// Whether `get` waits for nothing, so that a thread which has other work may call it.
-    const ANSWERS_AT_ONCE: bool = false;
-
     // What a source answers is allowed, a found answer is within the limit, there is an answer to everything, and each
     // number is that of a group.
     ghost within: { (s : Self) (g : ℕ) (k : List ℕ) (a : Answer) → answers s g k a → allowed g k a };

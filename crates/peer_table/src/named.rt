@@ -46,8 +46,6 @@ impl<T: TableText + Send + Sync> Source for NamedTable<T> {
 
     ghost number_of = { λ s name. number_in (lines_of T.text) name };
 
-    const ANSWERS_AT_ONCE: bool = true;
-
     fn group_count(&self) -> usize {
         self.table.group_count()
     }

@@ -130,8 +130,6 @@ impl Source for TableSource {
 
     ghost number_of = { λ s name. number_in (lines_of s) name };
 
-    const ANSWERS_AT_ONCE: bool = true;
-
     fn group_count(&self) -> usize {
         self.index.names.len()
     }

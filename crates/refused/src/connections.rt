@@ -4,7 +4,7 @@ ghost use Rattle.peer_fill.specs.Pools.{IsConnSeatOf};
 ghost use Rattle.refused.specs.Lent.{AreOf};
 
 use crate::heads::reader_of;
-use crate::lent::{Demo, DemoSeats, Lent, Seats};
+use crate::lent::{Demo, DemoSeats, Lent, LentSeats};
 use crate::seen::Seen;
 use crate::window;
 use peer_conn::{End, Served, serve_connection, serve_functional, serve_serial};
@@ -99,20 +99,20 @@ fn serve_counted<S: Source, L: Ledger + Send + Sync, H: Threads + Wait + Sync>(
 /// Serves the three requests over a pool, beside its worker.
 pub fn serve_beside<S: Source, L: Ledger + Send + Sync, H: Threads + Wait + Sync>(
     lent: &Lent<'_, S, L, H>,
-    seats: Seats<S, L>,
-) -> Option<(Seats<S, L>, Served<MemReader, MemWriter>)>
+    seats: LentSeats<S, L>,
+) -> Option<(LentSeats<S, L>, Served<MemReader, MemWriter>)>
     requires { AreOf lent.now.pool.now seats }
     ensures { IfSome result (λ done. AreOf lent.now.pool.now done.0) }
 {
     let reader = reader_of(lent.alloc, THREE)?;
-    let Seats { fill, conn } = seats;
+    let LentSeats { fill, conn } = seats;
     let serve = move || -> (ConnSeat<S, L>, Served<MemReader, MemWriter>)
         requires conn { IsConnSeatOf lent.now.pool.now conn }
         requires reader { reader.calls ≡ 0 }
         ensures { IsConnSeatOf lent.entry.now.pool.now result.0 }
     { serve_counted(lent, conn, reader) };
     let (fill, (conn, served)) = beside_worker(lent.rt, lent.alloc, lent.pool, fill, serve)?;
-    Some((Seats { fill, conn }, served))
+    Some((LentSeats { fill, conn }, served))
 }
 
 /// `serve_connection`, beside a worker.

@@ -4,11 +4,11 @@ ghost use Rattle.peer_fill.specs.Pools.{IsConnSeatOf, IsFillSeatOf};
 ghost use Rattle.refused.specs.Lent.{AreOf};
 
 use crate::connections::{FIRST_REPLY, serve_beside};
-use crate::lent::{Lent, Seats};
+use crate::lent::{Lent, LentSeats};
 use crate::seen::Seen;
 use crate::sources::finds;
 use peer_conn::{End, Served};
-use peer_fill::Report;
+use peer_fill::{Report, Seats};
 use peer_flight::Claim;
 use peer_view::{MemReader, MemWriter};
 use std::alloc::Global;
@@ -16,7 +16,7 @@ use std::marker::Brand;
 use std::sync::Wait;
 use std::sync::ledger::{Blank, Ledger};
 use std::thread::Threads;
-use test_support::{Hooked, Refusing, SeatLists, all_called, close_pool, open_pool};
+use test_support::{Hooked, Refusing, all_called, close_pool, open_pool};
 
 // Whether the claim is there, and its fill found `b`.
 fn found_b(claim: &Option<Claim<Hooked<Refusing>>>) -> bool {
@@ -43,8 +43,8 @@ fn ended(served: &Served<MemReader, MemWriter>) -> Seen {
 // The first reply, and then the end; afterwards the pool fills what it was refused.
 fn once<L: Ledger + Send + Sync, H: Threads + Wait + Sync>(
     lent: &Lent<'_, Hooked<Refusing>, L, H>,
-    seats: Seats<Hooked<Refusing>, L>,
-) -> Option<(Seats<Hooked<Refusing>, L>, Seen)>
+    seats: LentSeats<Hooked<Refusing>, L>,
+) -> Option<(LentSeats<Hooked<Refusing>, L>, Seen)>
     requires { AreOf lent.now.pool.now seats }
     ensures { IfSome result (λ done. AreOf lent.now.pool.now done.0) }
 {
@@ -59,7 +59,7 @@ fn once<L: Ledger + Send + Sync, H: Threads + Wait + Sync>(
 // The same with seats from these lists.
 fn once_with<L: Ledger + Send + Sync, H: Threads + Wait + Sync>(
     lent: &Lent<'_, Hooked<Refusing>, L, H>,
-    lists: &mut SeatLists<Hooked<Refusing>, L>,
+    lists: &mut Seats<Hooked<Refusing>, L>,
 ) -> Option<Seen>
     requires fills { All (IsFillSeatOf lent.now.pool.now) lists.old.fills.items }
     requires conns { All (IsConnSeatOf lent.now.pool.now) lists.old.conns.items }

@@ -10,14 +10,14 @@ use crate::seen::Seen;
 use crate::talking::talk;
 use crate::talks::Talk;
 use crate::without;
-use peer_fill::Report;
+use peer_fill::{Report, Seats};
 use peer_source::DemoSource;
 use std::alloc::Global;
 use std::marker::Brand;
 use std::sync::Wait;
 use std::sync::ledger::{Blank, Ledger};
 use std::thread::Threads;
-use test_support::{SeatLists, close_pool, open_pool};
+use test_support::{close_pool, open_pool};
 
 /// The call that is made over a pool.
 #[derive(Clone, Copy)]
@@ -75,7 +75,7 @@ fn make<L: Ledger + Send + Sync, H: Threads + Wait + Sync>(
 // Makes the call with seats from these lists, and says what was seen and how often the connection asked.
 fn make_with<L: Ledger + Send + Sync, H: Threads + Wait + Sync>(
     lent: &Demo<'_, L, H>,
-    lists: &mut SeatLists<DemoSource, L>,
+    lists: &mut Seats<DemoSource, L>,
     call: Call,
 ) -> Option<(Seen, u64)>
     requires fills { All (IsFillSeatOf lent.now.pool.now) lists.old.fills.items }

@@ -18,7 +18,7 @@ pub use asks::{ask_for, ask_in};
 pub use hooked::{Hook, Hooked, Refusing};
 pub use pools::{close_pool, open_pool};
 pub use reports::all_called;
-pub use seats::{SeatLists, push_seat};
+pub use seats::push_seat;
 pub use seeds::seed;
 pub use steps::Step;
 pub use workers::{beside_worker, do_jobs, work_all};

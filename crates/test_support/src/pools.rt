@@ -2,9 +2,8 @@
 ghost use Rattle.std.specs.Prelude.{◌≡◌, All, IfSome};
 ghost use Rattle.peer_fill.specs.Pools.{source_of, IsConnSeatOf, IsFillSeatOf};
 
-use crate::seats::SeatLists;
 use crate::seeds::seed;
-use peer_fill::{Opened, Pool, Report};
+use peer_fill::{Opened, Pool, Report, Seats};
 use peer_source::Source;
 use std::alloc::Global;
 use std::sync::Wait;
@@ -18,7 +17,7 @@ pub fn open_pool<S: Source, L: Ledger>(
     workers: usize,
     conns: usize,
     blank: Blank,
-) -> Option<(Pool<S, L>, SeatLists<S, L>)>
+) -> Option<(Pool<S, L>, Seats<S, L>)>
     requires name { blank.name ≡ L.name }
     requires parts { (blank.parts ≡ L.parts) × (blank.parts ≡ 16) }
     ensures source { IfSome result (λ opened. source_of opened.0 ≡ source) }
@@ -26,7 +25,7 @@ pub fn open_pool<S: Source, L: Ledger>(
     ensures conns { IfSome result (λ opened. All (IsConnSeatOf opened.0) opened.1.conns.items) }
 {
     match Pool::<S, L>::open(alloc, source, cache_bytes, seed()?, workers, conns, blank) {
-        Ok(Opened { pool, fills, conns }) => Some((pool, SeatLists { fills, conns })),
+        Ok(Opened { pool, fills, conns }) => Some((pool, Seats { fills, conns })),
         Err(_) => None,
     }
 }
@@ -35,12 +34,12 @@ pub fn open_pool<S: Source, L: Ledger>(
 pub fn close_pool<S: Source, L: Ledger, R: Wait>(
     rt: &R,
     pool: Pool<S, L>,
-    lists: SeatLists<S, L>,
+    seats: Seats<S, L>,
 ) -> Option<Report>
-    requires fills { All (IsFillSeatOf pool) lists.fills.items }
-    requires conns { All (IsConnSeatOf pool) lists.conns.items }
+    requires fills { All (IsFillSeatOf pool) seats.fills.items }
+    requires conns { All (IsConnSeatOf pool) seats.conns.items }
 {
-    let SeatLists { fills, conns } = lists;
+    let Seats { fills, conns } = seats;
     match pool.close(rt, fills, conns) {
         Ok(report) => Some(report),
         Err(_) => None,

@@ -1,17 +1,10 @@
-//! The seats of a pool: on their lists, and put back when they are used.
+//! A seat that is put back when it was used.
 ghost use Rattle.std.specs.Prelude.{All};
 ghost use Rattle.peer_fill.specs.Pools.{IsSeatOf};
 
-use peer_fill::{ConnSeat, FillSeat, Pool, Seat};
+use peer_fill::{Pool, Seat};
 use peer_source::Source;
 use std::sync::ledger::Ledger;
-
-/// All seats of a pool.
-#[derive(Drop)]
-pub struct SeatLists<S: Source, L: Ledger> {
-    pub fills: Vec<FillSeat<S, L>>,
-    pub conns: Vec<ConnSeat<S, L>>,
-}
 
 /// Puts a seat back on its list. None where memory was refused.
 pub fn push_seat<S: Source, L: Ledger, T: Seat + Drop>(

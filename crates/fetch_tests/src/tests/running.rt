@@ -6,7 +6,7 @@ ghost use Rattle.peer_fetch.specs.Threads.{Allows};
 use super::asking::{Answered, Client, Plan};
 use super::origin::{Told, serve};
 use peer_fetch::{Endpoints, FetchBell, FetchParts, FetchPlan, FetchThread, FetchThreadSettings};
-use peer_fill::{ConnSeat, FillSeat, NoGate, Pool, Report, pop_seat};
+use peer_fill::{ConnSeat, FillSeat, NoGate, Pool, Report, Seats, pop_seat};
 use peer_host::{Host, Network};
 use peer_origin::{Endpoint, FetchSettings, Origin, OriginSource};
 use peer_source::Source;
@@ -17,7 +17,7 @@ use std::sync::atomic::Ordering::SeqCst;
 use std::sync::ledger::{Blank, Ledger};
 use std::thread;
 use std::time::Duration;
-use test_support::{SeatLists, close_pool, open_pool, push_seat};
+use test_support::{close_pool, open_pool, push_seat};
 
 /// What is run: an origin that holds its replies back until so many requests were open, and a client's plan.
 #[derive(Clone, Copy)]
@@ -121,7 +121,7 @@ fn use_lists<S: Source, L: Ledger + Send + Sync, H: Host>(
     rt: &H,
     alloc: Global,
     pool: &Pool<S, L>,
-    lists: &mut SeatLists<S, L>,
+    lists: &mut Seats<S, L>,
     running: (FetchThread<'_>, FetchBell),
     beside: Beside<'_, '_>,
 ) -> Option<Answered>
@@ -143,7 +143,7 @@ fn use_lists<S: Source, L: Ledger + Send + Sync, H: Host>(
 fn run_opened<S: Source, L: Ledger + Send + Sync, H: Host>(
     rt: &H,
     alloc: Global,
-    opened: (Pool<S, L>, SeatLists<S, L>),
+    opened: (Pool<S, L>, Seats<S, L>),
     running: (FetchThread<'_>, FetchBell),
     beside: Beside<'_, '_>,
 ) -> (Option<Answered>, Option<Report>)

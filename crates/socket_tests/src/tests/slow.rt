@@ -8,7 +8,7 @@ use std::thread;
 use std::time::{Clock, Duration};
 use test_support::Hook;
 
-/// How far the call for the key `slow` is, and whether it may go on.
+/// How far the call for a key is, and whether it may go on.
 #[derive(Drop)]
 pub struct Call {
     pub called: AtomicBool,
@@ -23,6 +23,18 @@ impl Call {
             open: AtomicBool::new(false),
         }
     }
+
+    /// The source is called. Whether it may go on within some seconds.
+    pub fn wait(&self) -> bool {
+        self.called.store(true, SeqCst);
+        for _ in 0..4_000_000_000u64 {
+            if self.open.load(SeqCst) {
+                return true;
+            }
+            spin_loop();
+        }
+        false
+    }
 }
 
 /// A source whose call for the key `slow` waits until it may go on, for some seconds at most.
@@ -36,14 +48,7 @@ impl Hook for Slow<'_> {
         if key != b"slow".as_slice() {
             return true;
         }
-        self.call.called.store(true, SeqCst);
-        for _ in 0..4_000_000_000u64 {
-            if self.call.open.load(SeqCst) {
-                return true;
-            }
-            spin_loop();
-        }
-        false
+        self.call.wait()
     }
 }
 

@@ -6,7 +6,7 @@ use super::demos::is_told;
 use super::ends::{THREE, THREE_REPLIES, thirds};
 use super::runs::READS;
 use peer_conn::{End, serve_connection};
-use peer_fill::{ConnSeat, FillSeat, NoGate, Pool, pop_seat};
+use peer_fill::{ConnSeat, FillSeat, NoGate, Pool, Seats, pop_seat};
 use peer_source::{DemoSource, Source};
 use peer_view::{MemReader, MemWriter};
 use std::marker::Brand;
@@ -15,7 +15,7 @@ use std::sync::Wait;
 use std::sync::ledger::{Blank, Ledger};
 use std::thread;
 use std::thread::Threads;
-use test_support::{SeatLists, open_pool, push_seat, work_all};
+use test_support::{open_pool, push_seat, work_all};
 
 // Whether a connection over a seat of this list gets the three replies.
 fn is_served_by_next<S: Source, L: Ledger + Send + Sync>(
@@ -72,12 +72,12 @@ fn is_same_at_all<S: Source, L: Ledger + Send + Sync>(
 fn is_same_beside<S: Source, L: Ledger + Send + Sync>(
     rt: &(impl Abort + AllocGlobal + Threads + Wait + Sync),
     pool: &Pool<S, L>,
-    lists: SeatLists<S, L>,
+    lists: Seats<S, L>,
 ) -> bool
     requires fills { All (IsFillSeatOf pool.now) lists.fills.items }
     requires conns { All (IsConnSeatOf pool.now) lists.conns.items }
 {
-    let SeatLists { fills, mut conns } = lists;
+    let Seats { fills, mut conns } = lists;
     let (_fills, same) = thread::join(
         rt,
         move || -> Vec<FillSeat<S, L>>

@@ -5,7 +5,7 @@ ghost use Rattle.peer_fill.specs.Pools.{IsConnSeatOf, IsFillSeatOf};
 ghost use Rattle.stream_tests.specs.Numbers.{IsNumber, echo_number, echo_numbered, number_limited, some_number};
 
 use itoa::Buffer;
-use peer_fill::{Pool, pop_seat};
+use peer_fill::{Pool, Seats, pop_seat};
 use peer_flight::Claim;
 use peer_source::{Fill, GetFault, GetResult, GroupId, Outcome, Source};
 use peer_view::AllocSink;
@@ -16,7 +16,7 @@ use std::sync::Wait;
 use std::sync::atomic::AtomicU64;
 use std::sync::atomic::Ordering::SeqCst;
 use std::sync::ledger::{Blank, Ledger};
-use test_support::{SeatLists, ask_for, do_jobs, open_pool};
+use test_support::{ask_for, do_jobs, open_pool};
 
 // Finds the number of its call, from 1.
 #[derive(Drop)]
@@ -92,7 +92,7 @@ pub fn shows<S: Source>(claim: &Option<Claim<S>>, value: &[u8]) -> bool {
 fn show_numbers<S: Source, L: Ledger>(
     rt: &(impl Abort + AllocGlobal + Wait),
     pool: &Pool<S, L>,
-    lists: &mut SeatLists<S, L>,
+    lists: &mut Seats<S, L>,
 ) -> [bool; 3]
     requires fills { All (IsFillSeatOf pool.now) lists.old.fills.items }
     requires conns { All (IsConnSeatOf pool.now) lists.old.conns.items }

@@ -3,7 +3,7 @@ ghost use Rattle.std.specs.Prelude.{◌≡◌, ◌+◌, ◌-◌, ◌^◌, ◌<�
 ghost use Rattle.peer_fill.specs.Pools.{IsConnSeatOf, IsFillSeatOf};
 
 use peer_conn::{Served, serve_connection};
-use peer_fill::{ConnSeat, FillSeat, Gate, Pool, Report, pop_seat};
+use peer_fill::{ConnSeat, FillSeat, Gate, Pool, Report, Seats, pop_seat};
 use peer_source::Source;
 use peer_view::{PeerRead, PeerWrite};
 use std::marker::Brand;
@@ -12,7 +12,7 @@ use std::sync::Wait;
 use std::sync::ledger::{Blank, Ledger};
 use std::thread;
 use std::thread::Threads;
-use test_support::{SeatLists, close_pool, open_pool, push_seat, work_all};
+use test_support::{close_pool, open_pool, push_seat, work_all};
 
 /// What a pool is opened with: its source, the limit of each cache in bytes, the number of its workers, and the gate
 /// round their calls.
@@ -72,10 +72,10 @@ fn serve_and_stop<
 fn use_lists<S: Source, L: Ledger + Send + Sync, R: PeerRead + Send + Drop, W: PeerWrite + Drop>(
     rt: &(impl Abort + AllocGlobal + Threads + Wait + Sync),
     pool: &Pool<S, L>,
-    lists: SeatLists<S, L>,
+    lists: Seats<S, L>,
     gate: &impl Gate,
     devices: Devices<R, W>,
-) -> (SeatLists<S, L>, Served<R, W>, u64)
+) -> (Seats<S, L>, Served<R, W>, u64)
     requires fills { All (IsFillSeatOf pool.now) lists.fills.items }
     requires conns { All (IsConnSeatOf pool.now) lists.conns.items }
     requires calls { R.calls devices.reader + devices.reads < 2 ^ 64 }
@@ -83,7 +83,7 @@ fn use_lists<S: Source, L: Ledger + Send + Sync, R: PeerRead + Send + Drop, W: P
     ensures fills { All (IsFillSeatOf pool.now) result.0.fills.items }
     ensures conns { All (IsConnSeatOf pool.now) result.0.conns.items }
 {
-    let SeatLists { fills, mut conns } = lists;
+    let Seats { fills, mut conns } = lists;
     let conn = pop_seat(pool, &mut conns).expect(rt, "a seat");
     let (fills, (served, conn)) = thread::join(
         rt,
@@ -100,7 +100,7 @@ fn use_lists<S: Source, L: Ledger + Send + Sync, R: PeerRead + Send + Drop, W: P
     );
     let asked = conn.asked();
     push_seat(pool, &mut conns, conn).expect(rt, "memory");
-    (SeatLists { fills, conns }, served, asked)
+    (Seats { fills, conns }, served, asked)
 }
 
 // Opens a pool with one connection, serves it and closes the pool.

@@ -7,7 +7,7 @@ use super::numbers::shows;
 use super::runs::{READS, whole};
 use super::tellers::{Acting, TellingLater};
 use peer_conn::{End, serve_connection};
-use peer_fill::{ConnSeat, Pool, Report, pop_seat};
+use peer_fill::{ConnSeat, Pool, Report, Seats, pop_seat};
 use peer_source::Source;
 use peer_view::{MemReader, MemWriter};
 use std::alloc::Global;
@@ -18,8 +18,8 @@ use std::sync::atomic::AtomicU64;
 use std::sync::ledger::{Blank, Ledger};
 use std::thread::Threads;
 use test_support::{
-    Hook, Hooked, Refusing, SeatLists, Step, all_called, ask_for, beside_worker, close_pool,
-    do_jobs, open_pool, push_seat,
+    Hook, Hooked, Refusing, Step, all_called, ask_for, beside_worker, close_pool, do_jobs,
+    open_pool, push_seat,
 };
 
 // Refuses memory once, and holds each call back until all was asked for.
@@ -66,7 +66,7 @@ fn serve_one<S: Source, L: Ledger + Send + Sync>(
 fn serve_and_ask<S: Source, L: Ledger + Send + Sync>(
     rt: &(impl Abort + AllocGlobal + Threads + Wait + Sync),
     pool: &Pool<S, L>,
-    lists: &mut SeatLists<S, L>,
+    lists: &mut Seats<S, L>,
     asked: &Step,
 ) -> ([bool; 2], bool)
     requires fills { All (IsFillSeatOf pool.now) lists.old.fills.items }

@@ -5,7 +5,7 @@ ghost use Rattle.peer_fill.specs.Pools.{IsConnSeatOf, IsFillSeatOf};
 use super::demos::is_told;
 use super::runs::{READS, whole};
 use peer_conn::{End, serve_connection_functional};
-use peer_fill::{ConnSeat, Gate, Pool, pop_seat};
+use peer_fill::{ConnSeat, Gate, Pool, Seats, pop_seat};
 use peer_source::{DemoSource, FunctionalSource, GroupId};
 use peer_view::{MemReader, MemWriter};
 use std::hint::spin_loop;
@@ -15,7 +15,7 @@ use std::sync::Wait;
 use std::sync::ledger::{Blank, Ledger};
 use std::thread::{Threads, join};
 use stream_model::{ASK_K, FOUND_K};
-use test_support::{SeatLists, open_pool};
+use test_support::open_pool;
 
 // Takes a while before each call, in which those who wait fall asleep.
 struct Slow;
@@ -49,7 +49,7 @@ fn is_answered<S: FunctionalSource, L: Ledger + Send + Sync>(
 fn are_answered<S: FunctionalSource, L: Ledger + Send + Sync>(
     rt: &(impl Abort + AllocGlobal + Threads + Wait + Sync),
     pool: &Pool<S, L>,
-    lists: &mut SeatLists<S, L>,
+    lists: &mut Seats<S, L>,
 ) -> (bool, bool)
     requires fills { All (IsFillSeatOf pool.now) lists.old.fills.items }
     requires conns { All (IsConnSeatOf pool.now) lists.old.conns.items }

@@ -2,7 +2,7 @@
 ghost use Rattle.std.specs.Prelude.{◌≡◌, ◌<◌, All, IfSome};
 ghost use Rattle.peer_fill.specs.Pools.{source_of, IsConnSeatOf, IsFillSeatOf};
 
-use peer_fill::{CloseFault, ConnSeat, FillSeat, Gate, Pool, Report, TakenJob, pop_seat};
+use peer_fill::{CloseFault, ConnSeat, FillSeat, Gate, Pool, Report, Seats, TakenJob, pop_seat};
 use peer_flight::Claim;
 use peer_source::{GroupId, Source};
 use std::alloc::Global;
@@ -10,14 +10,14 @@ use std::marker::Brand;
 use std::mem;
 use std::sync::Wait;
 use std::sync::ledger::{Blank, Ledger};
-use test_support::{SeatLists, ask_in, close_pool, open_pool};
+use test_support::{ask_in, close_pool, open_pool};
 
 /// A pool and its seats.
 #[derive(Drop)]
 pub struct Desk<S: Source, L: Ledger> {
     pub(super) alloc: Global,
     pub(super) pool: Pool<S, L>,
-    pub(super) seats: Seats<S, L>,
+    pub(super) seats: DeskSeats<S, L>,
     ghost conn: { IsConnSeatOf pool seats.conn },
     ghost other: { IsConnSeatOf pool seats.other },
     ghost fill: { IsFillSeatOf pool seats.fill },
@@ -26,7 +26,7 @@ pub struct Desk<S: Source, L: Ledger> {
 
 /// The seats of two connections and of a worker.
 #[derive(Drop)]
-pub struct Seats<S: Source, L: Ledger> {
+pub struct DeskSeats<S: Source, L: Ledger> {
     pub(super) conn: ConnSeat<S, L>,
     pub(super) other: ConnSeat<S, L>,
     pub(super) fill: FillSeat<S, L>,
@@ -35,8 +35,8 @@ pub struct Seats<S: Source, L: Ledger> {
 // Seats of these lists. None where one is missing.
 fn take_seats<S: Source, L: Ledger>(
     pool: &Pool<S, L>,
-    lists: &mut SeatLists<S, L>,
-) -> Option<Seats<S, L>>
+    lists: &mut Seats<S, L>,
+) -> Option<DeskSeats<S, L>>
     requires fills { All (IsFillSeatOf pool.now) lists.old.fills.items }
     requires conns { All (IsConnSeatOf pool.now) lists.old.conns.items }
     ensures conn { IfSome result (λ seats. IsConnSeatOf pool.now seats.conn) }
@@ -46,25 +46,25 @@ fn take_seats<S: Source, L: Ledger>(
     let conn = pop_seat(pool, &mut lists.conns)?;
     let other = pop_seat(pool, &mut lists.conns)?;
     let fill = pop_seat(pool, &mut lists.fills)?;
-    Some(Seats { conn, other, fill })
+    Some(DeskSeats { conn, other, fill })
 }
 
 // The lists of these seats. None where memory was refused.
 fn lists_of<S: Source, L: Ledger>(
     alloc: Global,
     pool: &Pool<S, L>,
-    seats: Seats<S, L>,
-) -> Option<SeatLists<S, L>>
+    seats: DeskSeats<S, L>,
+) -> Option<Seats<S, L>>
     requires conn { IsConnSeatOf pool.now seats.conn }
     requires other { IsConnSeatOf pool.now seats.other }
     requires fill { IsFillSeatOf pool.now seats.fill }
     ensures fills { IfSome result (λ lists. All (IsFillSeatOf pool.now) lists.fills.items) }
     ensures conns { IfSome result (λ lists. All (IsConnSeatOf pool.now) lists.conns.items) }
 {
-    let Seats { conn, other, fill } = seats;
+    let DeskSeats { conn, other, fill } = seats;
     let fills = Vec::from_array(alloc, [fill]).ok()?;
     let conns = Vec::from_array(alloc, [conn, other]).ok()?;
-    Some(SeatLists { fills, conns })
+    Some(Seats { fills, conns })
 }
 
 // The pool and all its seats, where a close without the worker's seat is refused.
@@ -72,14 +72,14 @@ fn close_early<S: Source, L: Ledger, R: Wait>(
     rt: &R,
     alloc: Global,
     pool: Pool<S, L>,
-    lists: SeatLists<S, L>,
-) -> Option<(Pool<S, L>, SeatLists<S, L>)>
+    lists: Seats<S, L>,
+) -> Option<(Pool<S, L>, Seats<S, L>)>
     requires fills { All (IsFillSeatOf pool) lists.fills.items }
     requires conns { All (IsConnSeatOf pool) lists.conns.items }
     ensures fills { IfSome result (λ back. All (IsFillSeatOf back.0) back.1.fills.items) }
     ensures conns { IfSome result (λ back. All (IsConnSeatOf back.0) back.1.conns.items) }
 {
-    let SeatLists { fills, conns } = lists;
+    let Seats { fills, conns } = lists;
     match pool.close(rt, Vec::new(alloc), conns) {
         Ok(_) => None,
         Err(
@@ -88,7 +88,7 @@ fn close_early<S: Source, L: Ledger, R: Wait>(
                 fills: _none,
                 conns,
             },
-        ) => Some((pool, SeatLists { fills, conns })),
+        ) => Some((pool, Seats { fills, conns })),
     }
 }
 

@@ -2,7 +2,7 @@
 ghost use Rattle.std.specs.Prelude.{◌≡◌, ◌<◌};
 ghost use Rattle.peer_fill.specs.Pools.{source_of, IsConnSeatOf};
 
-use super::desk::{Desk, Seats};
+use super::desk::{Desk, DeskSeats};
 use super::numbering::Numbering;
 use crate::tests::values::{ECHO, is_shown};
 use peer_fill::{ConnSeat, Gate, Pool};
@@ -68,7 +68,7 @@ fn ask_both<L: Ledger, R: Wait>(
 // Runs the worker, by whose gate the connection asks again: what the connection counted then, and the worker.
 fn meddle<L: Ledger + Send + Sync, R: Wait>(rt: &R, desk: Desk<Numbering, L>) -> Counts {
     let Desk { alloc, pool, seats } = desk;
-    let Seats {
+    let DeskSeats {
         conn,
         other: _first,
         fill,

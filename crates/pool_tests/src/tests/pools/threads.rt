@@ -4,7 +4,7 @@ ghost use Rattle.peer_fill.specs.Pools.{source_of, IsConnSeatOf, IsFillSeatOf};
 
 use super::numbering::Numbering;
 use crate::tests::values::{ECHO, value_of};
-use peer_fill::{ConnSeat, FillSeat, Gate, Pool, Report};
+use peer_fill::{ConnSeat, FillSeat, Gate, Pool, Report, Seats};
 use peer_flight::Claim;
 use peer_source::{GroupId, Source};
 use std::alloc::Global;
@@ -14,7 +14,7 @@ use std::sync::Wait;
 use std::sync::ledger::{Blank, Ledger};
 use std::thread;
 use std::thread::Threads;
-use test_support::{SeatLists, all_called, ask_in, close_pool, open_pool, work_all};
+use test_support::{all_called, ask_in, close_pool, open_pool, work_all};
 
 // Takes a while, in which a thread that waits falls asleep.
 fn take_a_while() {
@@ -176,16 +176,16 @@ fn use_every<S: Source, L: Ledger + Send + Sync, R: Threads + Wait + Sync>(
     rt: &R,
     alloc: Global,
     pool: &Pool<S, L>,
-    lists: SeatLists<S, L>,
+    lists: Seats<S, L>,
     setting: Setting,
-) -> Option<SeatLists<S, L>>
+) -> Option<Seats<S, L>>
     requires fills { All (IsFillSeatOf pool.now) lists.fills.items }
     requires conns { All (IsConnSeatOf pool.now) lists.conns.items }
     requires groups { 0 < S.count (source_of pool.now) }
     ensures fills { IfSome result (λ used. All (IsFillSeatOf pool.now) used.fills.items) }
     ensures conns { IfSome result (λ used. All (IsConnSeatOf pool.now) used.conns.items) }
 {
-    let SeatLists { fills, mut conns } = lists;
+    let Seats { fills, mut conns } = lists;
     let (fills, conns) = thread::join(
         rt,
         move || -> Option<Vec<FillSeat<S, L>>>
@@ -202,7 +202,7 @@ fn use_every<S: Source, L: Ledger + Send + Sync, R: Threads + Wait + Sync>(
             conns
         },
     );
-    Some(SeatLists {
+    Some(Seats {
         fills: fills?,
         conns,
     })

@@ -1,11 +1,12 @@
-use Rattle.std.proofs.Common.{refl, ◌∙◌, arith}
+use Rattle.std.proofs.Common.{refl, ◌∙◌, arith, inl}
 use Rattle.peer_exchange.proofs.ExchangeLemmas.{upholds_like, keeps_then}
+use Rattle.peer_exchange.proofs.IntakeLemmas.{judges_on_then}
 use Rattle.peer_exchange.proofs.SeatLemmas.{seat_kept, seat_then}
 use Rattle.peer_exchange.proofs.AskingLemmas.{adds_none, adds_one, adds_same, adds_lost, adds_end, full_through}
 use Rattle.peer_exchange.proofs.exchange_state.ExchangeState.ask_held.Goals as goal
 
 pub loop-init : goal.loop-init
-loop-init g c = record { seat = seat_kept c.requires.seat; keeps = record { keeps = λ came sent h. upholds_like refl refl refl h }; tickets = adds_none _ _ _ refl; goes_on = refl; now = refl; window = refl; many = omega arith }
+loop-init g c = record { seat = seat_kept c.requires.seat; keeps = record { keeps = λ came sent h. upholds_like refl refl refl h }; tickets = adds_none _ _ _ refl; stage = inl refl; now = refl; window = refl; many = omega arith }
 
 pub loop-preserved : goal.loop-preserved
 loop-preserved g c =
@@ -16,7 +17,7 @@ loop-preserved g c =
       seat = seat_then i.seat asked.seat;
       keeps = keeps_then i.keeps asked.keeps;
       tickets = adds_one i.tickets one.0;
-      goes_on = one.1 ∙ i.goes_on;
+      stage = judges_on_then i.stage c.in-Ok-true.ensures.stage;
       now = one.2;
       window = asked.window ∙ i.window;
       many = omega (arith, i.many, one.0.len);
@@ -32,7 +33,7 @@ returns-in-Ok-false g c =
       keeps = keeps_then i.keeps asked.keeps;
       tickets = adds_same i.tickets none.0 none.1;
       through = none.3;
-      goes_on = none.2 ∙ i.goes_on;
+      goes_on = judges_on_then i.stage c.in-Ok-false.ensures.stage;
       window = asked.window ∙ i.window;
     }
 
@@ -49,4 +50,4 @@ pub returns-clause-through : goal.returns-clause-through
 returns-clause-through g c = full_through c.loop.self _ (omega (arith, c.loop.invariant.many, c.loop.self.window.few))
 
 pub returns-clause-goes_on : goal.returns-clause-goes_on
-returns-clause-goes_on g c = c.loop.invariant.goes_on
+returns-clause-goes_on g c = c.loop.invariant.stage

@@ -1,9 +1,9 @@
 use Rattle.std.proofs.Common.{◌≡◌, ◌∙◌, ◌+◌, true, [], ◌∷◌, ◌++◌, refl, sym, subst, ap, inl, inr}
 use Rattle.peer_head.specs.Blocks.{IsUnfinished}
 use Rattle.peer_exchange.specs.Asking.{closed_by}
-use Rattle.peer_exchange.specs.Intakes.{is_given_up, is_judging, is_open}
+use Rattle.peer_exchange.specs.Intakes.{JudgesOn, is_given_up, is_judging, is_open}
 use Rattle.peer_exchange.proofs.ExchangeLemmas.{judge_none, upholds_like}
-use Rattle.peer_exchange.proofs.IntakeLemmas.{needing_open, needing_goes_on}
+use Rattle.peer_exchange.proofs.IntakeLemmas.{judges_on_needing, needing_open, needing_goes_on}
 use Rattle.peer_exchange.proofs.exchange_state.ExchangeState.ask_next.Goals as goal
 
 pub returns-then-is_err-clause-keeps : goal.returns-then-is_err-clause-keeps
@@ -41,6 +41,11 @@ returns-in-Need-clause-asks g c =
         subst IsUnfinished (sym c.need.ensures.held) need.0,
       ),
     )
+
+pub returns-in-Need-clause-stage : goal.returns-in-Need-clause-stage
+returns-in-Need-clause-stage g c =
+    let st = c.args.self.now.intake.stage in
+    subst (JudgesOn st) (sym c.need.ensures.stage) (judges_on_needing st)
 
 pub returns-in-NotNow-clause-keeps : goal.returns-in-NotNow-clause-keeps
 returns-in-NotNow-clause-keeps g c = record { keeps = λ came sent h. upholds_like refl c.reserve.ensures.items refl h }

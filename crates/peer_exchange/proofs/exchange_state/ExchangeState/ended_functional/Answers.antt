@@ -5,8 +5,8 @@ use Rattle.peer_exchange.proofs.ExchangeEndLemmas.{end_under}
 use Rattle.peer_exchange.proofs.exchange_state.ExchangeState.ended_functional.Goals as goal
 
 -- an allowed answer is the one answer
-pub returns : goal.returns
-returns g c came sent h =
+pub returns-clause-ends : goal.returns-clause-ends
+returns-clause-ends g c came sent h =
     let functional = g.met.S.FunctionalSource g.world.𝓛 g.world.𝓜 g.world.𝓡 (λ s h. h, λ h. h, λ h. h, λ h. h) in
     let the_answer = g.S.FunctionalSource.the_answer in
-    end_under g.S.FunctionalSource.the_number came sent (allows g.S.Source.allowed) (only the_answer) (λ closing bare group k r h. (the_answer group k, refl, merely_its_reply closing bare _ h.0 (the_answer group k) r h.1 (functional.single group k h.0) h.2)) c.args.self.now _ (c.ended.ensures g.S.FunctionalSource.the_number came sent h)
+    end_under g.S.FunctionalSource.the_number came sent (allows g.S.Source.allowed) (only the_answer) (λ closing bare group k r h. (the_answer group k, refl, merely_its_reply closing bare _ h.0 (the_answer group k) r h.1 (functional.single group k h.0) h.2)) c.args.self.now _ (c.ended.ensures.ends g.S.FunctionalSource.the_number came sent h)

@@ -1,7 +1,8 @@
-use Rattle.std.proofs.Common.{sym, ◌∙◌, refl}
+use Rattle.std.proofs.Common.{sym, ◌∙◌, refl, subst}
 use Rattle.peer_wish.specs.Tickets.{wish_by}
+use Rattle.peer_exchange.specs.Intakes.{JudgesOn}
 use Rattle.peer_exchange.proofs.ExchangeLemmas.{judge_one, wait_one}
-use Rattle.peer_exchange.proofs.IntakeLemmas.{next_front}
+use Rattle.peer_exchange.proofs.IntakeLemmas.{judges_on_giving, next_front}
 use Rattle.peer_exchange.proofs.exchange_state.ExchangeState.enqueue.Goals as goal
 
 pub returns-clause-upholds : goal.returns-clause-upholds
@@ -21,3 +22,8 @@ give-requires-clause-within g c stays =
     let a = c.args.self.now.intake in
     let next = c.requires.next in
     (next_front next.0 a.held a.count c.args.len (wish_by c.args.ticket) next.1 (sym c.closes-closing.ensures ∙ stays) c.requires.front).0
+
+pub returns-clause-stage : goal.returns-clause-stage
+returns-clause-stage g c =
+    let st = c.args.self.now.intake.stage in
+    subst (JudgesOn st) (sym c.give.ensures.stage) (judges_on_giving c.closes-closing.result st c.requires.judging)
