@@ -1,6 +1,9 @@
-"""What several scripts of this folder share: a free port, a server that ends with its block, and words of the command line."""
+"""What several scripts of this folder share: a free port, a server that ends with its block, rows, and words of the command
+line."""
 import argparse
 import socket
+import subprocess
+import sys
 
 
 def free_port():
@@ -18,6 +21,34 @@ class Started:
     def __exit__(self, *_):
         self.process.kill()
         self.process.wait()
+
+
+class Listening(Started):
+    """A built peer_front on a free port, which listens."""
+
+    def __init__(self, program, *words):
+        self.address = ("127.0.0.1", free_port())
+        command = [program, "--listen", "%s:%d" % self.address, *words]
+        self.process = subprocess.Popen(command, stdin=subprocess.DEVNULL, stdout=subprocess.PIPE, stderr=subprocess.DEVNULL)
+        self.process.stdout.readline()
+
+
+def holds(row):
+    """Whether a row of a script holds. A call of the system that fails is told."""
+    try:
+        return row()
+    except OSError as error:
+        print(row.__name__, error)
+        return False
+
+
+def run_rows(rows):
+    """Runs the rows of a script, tells which fail, and ends the program."""
+    failed = [row.__name__ for row in rows if not holds(row)]
+    for name in failed:
+        print("fails:", name)
+    print("rows", len(rows), "failures", len(failed))
+    sys.exit(1 if failed else 0)
 
 
 def given_words(name, nargs, default=None, **options):

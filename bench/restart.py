@@ -16,7 +16,7 @@ import sys
 import threading
 import time
 
-from common import Started, free_port
+from common import Started, free_port, run_rows
 
 PROGRAM = sys.argv[1] if len(sys.argv) > 1 else "crates/peer_front/out/peer_front"
 
@@ -118,19 +118,4 @@ def connects_all_that_wait():
         return server.listens and connected
 
 
-def holds(row):
-    try:
-        return row()
-    except OSError as error:
-        print(row.__name__, error)
-        return False
-
-
-ROWS = [serves_while_another_ends, connects_all_that_wait]
-failures = 0
-for row in ROWS:
-    if not holds(row):
-        failures += 1
-        print("fails:", row.__name__)
-print("rows", len(ROWS), "failures", failures)
-sys.exit(1 if failures else 0)
+run_rows([serves_while_another_ends, connects_all_that_wait])

@@ -1,0 +1,123 @@
+#!/usr/bin/env python3
+"""What the built peer_front keeps of its services: connections, and of replies that never come nothing.
+
+    ./build
+    python3 bench/kept.py [crates/peer_front/out/peer_front]
+
+Connections are kept for a service that is asked now, also where another one, asked before, leaves as many as are kept; none is
+kept that a service has ended; and interim replies without end fill no memory.
+
+Its last line is `rows N failures 0`; where a row fails, so does the program.
+"""
+import socket
+import sys
+import threading
+import time
+
+from common import Listening, run_rows
+
+PROGRAM = sys.argv[1] if len(sys.argv) > 1 else "crates/peer_front/out/peer_front"
+VALUE = b"HTTP/1.1 200 OK\r\nContent-Length: 1\r\n\r\nv"
+INTERIM = b"HTTP/1.1 103 Early Hints\r\nLink: " + b"x" * 10000 + b"\r\n\r\n"
+MOST_MEMORY = 64 << 20
+
+
+class Service:
+    """An HTTP service with a thread for each connection, and how many connections it had."""
+
+    def __init__(self, serve):
+        self.listener = socket.create_server(("127.0.0.1", 0))
+        self.port = self.listener.getsockname()[1]
+        self.url = f"http://127.0.0.1:{self.port}/"
+        self.serve, self.connections = serve, 0
+        threading.Thread(target=self.accept, daemon=True).start()
+
+    def accept(self):
+        while True:
+            stream, _ = self.listener.accept()
+            self.connections += 1
+            threading.Thread(target=self.answer, args=(stream,), daemon=True).start()
+
+    def answer(self, stream):
+        with stream:
+            try:
+                self.serve(stream)
+            except OSError:
+                pass
+
+
+def keeps(stream):
+    """Answers each request after a while, so that two that come together are under way together."""
+    while stream.recv(10000):
+        time.sleep(0.2)
+        stream.sendall(VALUE)
+
+
+def closes(stream):
+    stream.recv(10000)
+    stream.sendall(VALUE)
+
+
+def never_replies(stream):
+    stream.recv(10000)
+    while True:
+        stream.sendall(INTERIM * 100)
+
+
+class Server(Listening):
+    """A server without caches."""
+
+    def __init__(self, *words):
+        super().__init__(PROGRAM, "--cache", "0", *words)
+
+    def ask(self, path):
+        """The reply to a request on a connection of its own."""
+        with socket.create_connection(self.address, 30) as stream:
+            stream.sendall(f"GET /_groupcache/{path} HTTP/1.1\r\nHost: h\r\nConnection: close\r\n\r\n".encode())
+            return b"".join(iter(lambda: stream.recv(10000), b""))
+
+    def ask_together(self, *paths):
+        threads = [threading.Thread(target=self.ask, args=(path,)) for path in paths]
+        for thread in threads:
+            thread.start()
+        for thread in threads:
+            thread.join()
+
+    def most_memory(self):
+        """How many bytes the process had in memory at most."""
+        with open(f"/proc/{self.process.pid}/status", encoding="ascii") as lines:
+            return next(int(line.split()[1]) << 10 for line in lines if line.startswith("VmHWM"))
+
+
+def waiting_to_close(port):
+    """How many connections to this port the other side has ended, and this one has not closed."""
+    with open("/proc/net/tcp", encoding="ascii") as lines:
+        fields = [line.split() for line in lines][1:]
+    return sum(field[2].endswith(":%04X" % port) and field[3] == "08" for field in fields)
+
+
+def connections_to_each_service_are_kept():
+    first, second = Service(keeps), Service(keeps)
+    with Server("--under-way", "2", "a=" + first.url, "b=" + second.url) as server:
+        server.ask_together("a/1", "a/2")
+        replies = [server.ask(f"b/{number}") for number in range(5)]
+        return all(reply.endswith(b"\x0a\x01v") for reply in replies) and (first.connections, second.connections) == (2, 1)
+
+
+def none_is_kept_that_was_ended():
+    service = Service(closes)
+    with Server("g=" + service.url) as server:
+        for number in range(20):
+            server.ask(f"g/{number}")
+        time.sleep(0.5)
+        return service.connections == 20 and waiting_to_close(service.port) == 0
+
+
+def interim_replies_fill_no_memory():
+    service = Service(never_replies)
+    with Server("--timeout", "3", "g=" + service.url) as server:
+        reply = server.ask("g/k")
+        return b"origin timed out" in reply and server.most_memory() < MOST_MEMORY
+
+
+run_rows([connections_to_each_service_are_kept, none_is_kept_that_was_ended, interim_replies_fill_no_memory])
