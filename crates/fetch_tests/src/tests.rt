@@ -2,7 +2,10 @@
 
 mod asking;
 mod clients;
+mod lookup;
 mod origin;
 mod replies;
 mod running;
 mod served;
+mod sources;
+mod waking;

@@ -69,22 +69,19 @@ module _ (numbers : List ℕ → Option ℕ) (answers : ℕ → List ℕ → Ans
   ends : (t : List ℕ) (c : ReaderStop) (st : WriterState) → StopsAs numbers 0 reads r t ws c → (k : RepliesFrom answers state.Active ws (sending_by f f' b b' [] []) st) → EndsAs numbers answers reads r (writing_by b b' f f') t (output_of st k).0 (end_for st c)
   unfolding output_of
   ends t c state.WriteFault h k = record { wishes = k.front; replies = front_out answers f f' b b' k.front k.fact; first = front_first t c k.front k.left k.cut h; failed = omega (arith, k.fact.out.1) }
-  ends t c state.Memory h k = record { wishes = k.front; replies = all_out answers f f' b b' k.front k.fact; first = front_first t c k.front k.left k.cut h; wrote = k.fact.out.1 }
-  ends t stop.Closed state.Active h k = record { wishes = ws; replies = all_out answers f f' b b' ws k; whole = inl h.0; fine = (h.1, k.out.1) }
-  ends t stop.Ended state.Active h k = record { wishes = ws; replies = all_out answers f f' b b' ws k; whole = inr (h.0, h.1, h.2, h.3); fine = (h.4, k.out.1) }
-  ends t stop.Cut state.Active h k = record { wishes = ws; replies = all_out answers f f' b b' ws k; rest = h.0; whole = h.1; inside = h.2; told = h.3; fine = (h.4, k.out.1) }
-  ends t stop.ReadFault state.Active h k = record { wishes = ws; replies = all_out answers f f' b b' ws k; rest = h.0; whole = h.1; failed = h.2; wrote = k.out.1 }
-  ends t stop.Spent state.Active h k = record { wishes = ws; replies = all_out answers f f' b b' ws k; rest = h.0; whole = h.1; spent = h.2; not_told = h.3; fine = (h.4, k.out.1) }
-  ends t (stop.Refused ask.Memory) state.Active h k = record { wishes = ws; replies = all_out answers f f' b b' ws k; first = h; wrote = k.out.1 }
-  ends t _ state.Active h k = record { wishes = ws; replies = all_out answers f f' b b' ws k; first = h; wrote = k.out.1 }
+  ends t c state.Memory h k = record { answered = record { wishes = k.front; are = front_first t c k.front k.left k.cut h; replies = all_out answers f f' b b' k.front k.fact }; wrote = k.fact.out.1 }
+  ends t stop.Closed state.Active h k = record { answered = record { wishes = ws; are = inl h; replies = all_out answers f f' b b' ws k }; wrote = k.out.1 }
+  ends t stop.Ended state.Active h k = record { answered = record { wishes = ws; are = inr h; replies = all_out answers f f' b b' ws k }; wrote = k.out.1 }
+  ends t (stop.Refused ask.Memory) state.Active h k = record { answered = record { wishes = ws; are = h; replies = all_out answers f f' b b' ws k }; wrote = k.out.1 }
+  ends t _ state.Active h k = record { answered = record { wishes = ws; are = h; replies = all_out answers f f' b b' ws k }; wrote = k.out.1 }
 
   pub serves : (c : ReaderStop) (st : WriterState) → IsRead numbers reads r ws c → RepliesFrom answers state.Active ws (sending_by f f' b b' [] []) st → Serves numbers answers reads r (writing_by b b' f f') (end_for st c)
   serves c st h k = record { text = h.text; output = (output_of st k).0; gave = h.gave; took = (output_of st k).1; calls = h.calls; ends = ends h.text c st h.stops k }
 
   asks : (t : List ℕ) (c : ReaderStop) (st : WriterState) → StopsAs numbers 0 reads r t ws c → AreAsked numbers (end_for st c) t ws
   asks t stop.Closed state.Active h = inl h.0
-  asks t stop.Ended state.Active h = inr (h.0, h.1)
-  asks t stop.Cut state.Active h = inr (h.0, h.1)
+  asks t stop.Ended state.Active h = inr (h.0.0, h.0.1)
+  asks t stop.Cut state.Active h = inr (h.0.0, h.0.1)
   asks t stop.ReadFault state.Active h = inr (h.0, h.1)
   asks t stop.Spent state.Active h = inr (h.0, h.1)
   asks t (stop.Refused ask.Memory) state.Active h = h

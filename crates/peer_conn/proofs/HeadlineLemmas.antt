@@ -6,16 +6,19 @@ use Rattle.peer_reply.specs.declared.wish.Wish.{Wish}
 use Rattle.peer_outbox.specs.Joins.{join}
 use Rattle.peer_outbox.proofs.JoinLemmas.{join-append}
 use Rattle.peer_wish.specs.Allowed.{allows}
-use Rattle.peer_wish.specs.Wishes.{AreFirst}
-use Rattle.peer_wish.specs.Replies.{Replies, AreReplies, AreFrontOfReplies}
-use Rattle.peer_wish.specs.Laws.{IsWhole}
+use Rattle.peer_wish.specs.Wishes.{AreFirst, IsWhole}
+use Rattle.peer_wish.specs.Replies.{Replies, AreFrontOfReplies}
 use Rattle.peer_wish.specs.declared.end.End.{End}
 use Rattle.peer_wish.specs.declared.end.End.TheVariants as end
 use Rattle.peer_wish.proofs.ReplyLemmas.{Replies-append, replies_of}
 use Rattle.peer_wish.proofs.TextLemmas.{whole}
 use Rattle.peer_wish.proofs.WholeLemmas.{begins_with_first_law}
 use Rattle.peer_conn.specs.Headline.{WritesReplies}
-use Rattle.peer_conn.specs.Ends.{Reading, Writing, EndsAs, Serves}
+use Rattle.peer_conn.specs.Ends.{Reading, Writing, IsWritten, EndsAs, Serves}
+use Rattle.peer_conn.specs.Stops.{StopsAs}
+use Rattle.peer_conn.specs.declared.end.ReaderStop.{ReaderStop}
+use Rattle.peer_conn.specs.declared.end.ReaderStop.TheVariants as stop
+use Rattle.peer_conn.proofs.RequestLemmas.{firsts}
 
 module _ (numbers : List ℕ → Option ℕ) (answers : ℕ → List ℕ → Answer → Type 0) (some : (g : ℕ) (k : List ℕ) → (a : Answer) × answers g k a) (r : Reading) (w : Writing) (t o : List ℕ) (gave : Appends r.given r.given' t) (took : Appends w.taken w.taken' o) where
   -- a front of replies to first wishes is a front of replies to all wishes
@@ -37,8 +40,10 @@ module _ (numbers : List ℕ → Option ℕ) (answers : ℕ → List ℕ → Ans
         clean = λ is. absurd (other is);
       }
 
-  of_whole : (e : End) (ws : List Wish) → (e ≡ end.Clean → ⊥) → AreFirst numbers 0 t ws → AreReplies answers ws o → WritesReplies numbers answers r w e
-  of_whole e ws other first h = of_front e ws other first (record { replies = h.replies; each = h.each; rest = []; front = append-nil o ∙ h.all })
+  of_answered : (reads : ℕ) (e : End) (c : ReaderStop) → (e ≡ end.Clean → ⊥) → IsWritten answers w (λ ws. StopsAs numbers 0 reads r t ws c) o → WritesReplies numbers answers r w e
+  of_answered reads e c other h =
+      let whole = h.answered.replies in
+      of_front e h.answered.wishes other (firsts numbers 0 reads r t h.answered.wishes c h.answered.are) (record { replies = whole.replies; each = whole.each; rest = []; front = append-nil o ∙ whole.all })
 
   writes : (reads : ℕ) (e : End) → EndsAs numbers answers reads r w t o e → WritesReplies numbers answers r w e
   writes reads end.Clean h = record {
@@ -46,20 +51,21 @@ module _ (numbers : List ℕ → Option ℕ) (answers : ℕ → List ℕ → Ans
     output = o;
     gave = gave;
     took = took;
-    replies = h.replies.replies;
+    replies = h.answered.replies.replies;
     all = record {
-      wishes = h.wishes;
-      whole = elim h.whole as (λ _. IsWhole numbers 0 t h.wishes) [ inl c ↦ inl c | inr c ↦ inr (c.0, c.1) ];
-      each = h.replies.each;
+      wishes = h.answered.wishes;
+      whole = elim h.answered.are as (λ _. IsWhole numbers 0 t h.answered.wishes) [ inl c ↦ inl c.0 | inr c ↦ inr (c.0.0, c.0.1) ];
+      each = h.answered.replies.each;
     };
     rest = [];
-    prefix = append-nil o ∙ h.replies.all;
+    prefix = append-nil o ∙ h.answered.replies.all;
     clean = λ is. refl;
   }
   writes reads end.WriteFault h = of_front end.WriteFault h.wishes (λ is. cc) h.first h.replies
-  writes reads end.Memory h = of_whole end.Memory h.wishes (λ is. cc) h.first h.replies
-  writes reads end.Worn h = of_whole end.Worn h.wishes (λ is. cc) h.first h.replies
-  writes reads e h = of_whole e h.wishes (λ is. cc) (inl (h.rest, h.whole.opens)) h.replies
+  writes reads end.Cut h = of_answered reads end.Cut stop.Cut (λ is. cc) h
+  writes reads end.ReadFault h = of_answered reads end.ReadFault stop.ReadFault (λ is. cc) h
+  writes reads end.Spent h = of_answered reads end.Spent stop.Spent (λ is. cc) h
+  writes reads e h = of_answered reads e stop.Stopped (λ is. cc) h
 
 -- a connection writes a front of replies to all wishes, where each group and key has an answer
 pub written : (numbers : List ℕ → Option ℕ) (answers : ℕ → List ℕ → Answer → Type 0) {reads : ℕ} {r : Reading} {w : Writing} {e : End} → ((g : ℕ) (k : List ℕ) → (a : Answer) × answers g k a) → Serves numbers answers reads r w e → WritesReplies numbers answers r w e

@@ -20,6 +20,8 @@ pub firsts : (numbers : List ℕ → Option ℕ) (n reads : ℕ) (r : Reading) (
 firsts numbers n reads r t ws stop.Closed h = inr h.0
 firsts numbers n reads r t ws (stop.Refused fault) h = h
 firsts numbers n reads r t ws stop.Stopped h = h
+firsts numbers n reads r t ws stop.Ended h = inl (h.0.0, h.0.1.opens)
+firsts numbers n reads r t ws stop.Cut h = inl (h.0.0, h.0.1.opens)
 firsts numbers n reads r t ws _ h = inl (h.0, h.1.opens)
 
 module _ {R : Type 0} {G : Ghosts R} (numbers : List ℕ → Option ℕ) (a b : Requests R G) where
@@ -76,8 +78,8 @@ module _ {R : Type 0} {G : Ghosts R} {numbers : List ℕ → Option ℕ} where
 
     ended : (c : Requests R G) (vs : List Wish) (more : List ℕ) (stop : ReaderStop) → StopsAs numbers b.count b.left (reading_of b c) (b.held.held ++ more) vs stop → StopsAs numbers a.count a.left (reading_of a c) (a.held.held ++ (h.text ++ more)) (ws ++ vs) stop
     ended c vs more stop.Closed k = (Closed-append numbers a.count b.count (a.held.held ++ (h.text ++ more)) (b.held.held ++ more) ws vs (longer more) h.counted k.0, k.1 ∙ h.failed)
-    ended c vs more stop.Ended k = (k.0, all_then vs more k.0 k.1, k.2, omega (arith, h.told, k.3), k.4 ∙ h.failed)
-    ended c vs more stop.Cut k = (k.0, all_then vs more k.0 k.1, k.2, omega (arith, h.told, k.3), k.4 ∙ h.failed)
+    ended c vs more stop.Ended k = ((k.0.0, all_then vs more k.0.0 k.0.1, k.0.2), omega (arith, h.told, k.1), k.2 ∙ h.failed)
+    ended c vs more stop.Cut k = ((k.0.0, all_then vs more k.0.0 k.0.1, k.0.2), omega (arith, h.told, k.1), k.2 ∙ h.failed)
     ended c vs more stop.ReadFault k = (k.0, all_then vs more k.0 k.1, omega (arith, h.failed, k.2))
     ended c vs more stop.Spent k = (k.0, all_then vs more k.0 k.1, omega (arith, h.calls, k.2), k.3 ∙ h.told, k.4 ∙ h.failed)
     ended c vs more _ k = First-append numbers a.count b.count (a.held.held ++ (h.text ++ more)) (b.held.held ++ more) ws vs (longer more) h.counted k

@@ -3,8 +3,7 @@ use Rattle.std.specs.Prelude.{◌≡◌, ℕ, ◌+◌, List, Option}
 use Rattle.peer_source.specs.Answers.{Answer}
 use Rattle.peer_flight.specs.declared.table.AskFault.TheVariants as ask
 use Rattle.peer_reply.specs.declared.wish.Wish.{Wish}
-use Rattle.peer_wish.specs.Wishes.{AreFirst}
-use Rattle.peer_wish.specs.Laws.{IsWhole}
+use Rattle.peer_wish.specs.Wishes.{AreFirst, IsWhole}
 use Rattle.peer_wish.specs.Tickets.{asks_in}
 use Rattle.peer_wish.specs.declared.end.End.{End}
 use Rattle.peer_wish.specs.declared.end.End.TheVariants as end

@@ -1,20 +1,18 @@
 -- What stopped the reader of a connection.
 use Rattle.std.specs.Prelude.{◌≡◌, ℕ, ◌+◌, ◌<◌, ◌≤◌, ⊤, List, Option}
 use Rattle.std.specs.Io.KnownBytes.{Appends}
-use Rattle.peer_head.specs.Pairs.{ArePairs}
+use Rattle.peer_view.specs.ReadWrite.{Reading}
 use Rattle.peer_reply.specs.declared.wish.Wish.{Wish}
 use Rattle.peer_wish.specs.Wishes.{ClosedWishes, AreFirst, AreAll}
-use Rattle.peer_conn.specs.Ends.{Reading}
+use Rattle.peer_wish.specs.Ends.{AreToEnd, AreToCut}
 use Rattle.peer_conn.specs.declared.end.ReaderStop.{ReaderStop}
 use Rattle.peer_conn.specs.declared.end.ReaderStop.TheVariants as stop
 
 -- what stopped the reader at the text t, after n wishes and the wishes ws of t
 abbrev pub StopsAs : (List ℕ → Option ℕ) → ℕ → ℕ → Reading → List ℕ → List Wish → ReaderStop → Type 0
 StopsAs numbers n reads r t ws stop.Closed = ClosedWishes numbers n t ws × (r.failures' ≡ r.failures)
-StopsAs numbers n reads r t ws stop.Ended = (rest : List ℕ) × AreAll numbers n t ws rest × ArePairs rest
-    × (r.ends < r.ends') × (r.failures' ≡ r.failures)
-StopsAs numbers n reads r t ws stop.Cut = (rest : List ℕ) × AreAll numbers n t ws rest × (¬ (ArePairs rest))
-    × (r.ends < r.ends') × (r.failures' ≡ r.failures)
+StopsAs numbers n reads r t ws stop.Ended = AreToEnd numbers n t ws × (r.ends < r.ends') × (r.failures' ≡ r.failures)
+StopsAs numbers n reads r t ws stop.Cut = AreToCut numbers n t ws × (r.ends < r.ends') × (r.failures' ≡ r.failures)
 StopsAs numbers n reads r t ws stop.ReadFault = (rest : List ℕ) × AreAll numbers n t ws rest × (r.failures < r.failures')
 StopsAs numbers n reads r t ws stop.Spent = (rest : List ℕ) × AreAll numbers n t ws rest × (r.calls' ≡ r.calls + reads)
     × (r.ends' ≡ r.ends) × (r.failures' ≡ r.failures)

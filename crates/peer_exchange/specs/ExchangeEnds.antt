@@ -1,10 +1,9 @@
 -- How an exchange ended, by the bytes that came and those that were sent (RFC 9112, sections 9.3 and 9.6).
 use Rattle.std.specs.Prelude.{◌≡◌, ℕ, true, false, ◌⊎◌, List, [], Option, Some, None}
 use Rattle.peer_source.specs.Answers.{Answer}
-use Rattle.peer_head.specs.Pairs.{ArePairs}
 use Rattle.peer_reply.specs.declared.wish.Wish.{Wish}
-use Rattle.peer_wish.specs.Wishes.{ClosedWishes, AreAll, AreFirst}
-use Rattle.peer_wish.specs.Replies.{AreReplies}
+use Rattle.peer_wish.specs.Wishes.{ClosedWishes, AreFirst}
+use Rattle.peer_wish.specs.Ends.{AreToEnd, AreToCut, IsAnswered}
 use Rattle.peer_wish.specs.declared.end.End.{End}
 use Rattle.peer_wish.specs.declared.end.End.TheVariants as end
 use Rattle.peer_exchange.specs.ExchangeStates.{is_over, Upholds}
@@ -21,27 +20,17 @@ IsEndAt stage.Closed e = e ≡ end.Clean
 IsEndAt stage.Ended e = (e ≡ end.Clean) ⊎ (e ≡ end.Cut)
 IsEndAt _ e = ⊥
 
+-- they are all wishes of what came: the last one closes, or the client's end came behind pairs alone
+abbrev pub AreClean : (List ℕ → Option ℕ) → List ℕ → List Wish → Type 0
+AreClean numbers came ws = ClosedWishes numbers 0 came ws ⊎ AreToEnd numbers 0 came ws
+
 module _ (numbers : List ℕ → Option ℕ) (answers : ℕ → List ℕ → Answer → Type 0) (came sent : List ℕ) where
-  -- what was sent is the replies to these wishes
-  pub record IsAnswered (AreOf : List Wish → Type 0) : Type 0 where
-    pub wishes : List Wish
-    pub are : AreOf wishes
-    pub replies : AreReplies answers wishes sent
-
-  -- they are all wishes of what came: the last one closes, or the client's end came behind pairs alone ..
-  abbrev pub AreClean : List Wish → Type 0
-  AreClean ws = ClosedWishes numbers 0 came ws ⊎ ((rest : List ℕ) × AreAll numbers 0 came ws rest × ArePairs rest)
-
-  -- .. or inside a head
-  abbrev pub AreCut : List Wish → Type 0
-  AreCut ws = (rest : List ℕ) × AreAll numbers 0 came ws rest × (¬ (ArePairs rest))
-
   -- an end: the first wishes were answered, and all of them where it was not given up
   abbrev pub EndsWith : End → Type 0
-  EndsWith end.Clean = IsAnswered AreClean
-  EndsWith end.Cut = IsAnswered AreCut
-  EndsWith end.Memory = IsAnswered (AreFirst numbers 0 came)
-  EndsWith end.Worn = IsAnswered (AreFirst numbers 0 came)
+  EndsWith end.Clean = IsAnswered answers (AreClean numbers came) sent
+  EndsWith end.Cut = IsAnswered answers (AreToCut numbers 0 came) sent
+  EndsWith end.Memory = IsAnswered answers (AreFirst numbers 0 came) sent
+  EndsWith end.Worn = IsAnswered answers (AreFirst numbers 0 came) sent
   EndsWith _ = ⊥
 
   -- how it ended, none where it is not over

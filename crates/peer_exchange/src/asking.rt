@@ -1,7 +1,8 @@
 //! Asking for the requests that are held.
 //!
 //! It stands on the wishes of `peer_wish` and the pool of `peer_fill`. It promises the tickets of the next wishes, each with a
-//! claim on the fill of its group and key, or why there is none. The key is lent to the pool, which copies it where it must.
+//! claim on the fill of its group and key, or why there is none. The key is lent to the pool, which copies it where no cache has
+//! its value.
 ghost use Rattle.std.specs.Prelude.{◌≡◌, IfNone, IfOk, IfSome, IsSome};
 ghost use Rattle.peer_fill.specs.Claiming.{KeepsSeat};
 ghost use Rattle.peer_fill.specs.Pools.{source_of, IsConnSeatOf};

@@ -172,7 +172,8 @@ impl<'p, S: Source> Exchange<'p, S> {
         }
     }
 
-    /// Puts the replies of the first tickets, as far as their fills are there and few bytes wait to be sent.
+    /// Puts the replies of the first tickets, as far as their fills are there and few bytes wait to be sent. Where a fill is of
+    /// another group or key than was asked for, the source is called here, and may take its time.
     pub fn answer_ready<L: Ledger>(
         &mut self,
         pool: &Pool<S, L>,
@@ -196,7 +197,7 @@ impl<'p, S: Source> Exchange<'p, S> {
         self.state.rest()
     }
 
-    /// The number of the flight that the first ticket waits for, none where no ticket waits or its fill is there.
+    /// The number of the flight that the first ticket waits for, none where no ticket waits, or the first waits for no fill.
     pub fn awaits(&self) -> Option<u64>
         ensures { IfSome result (λ number. first_flight self.now.state.waiting.items ≡ Some number) }
     {
@@ -218,8 +219,8 @@ impl<'p, S: Source> Exchange<'p, S> {
         self.state.is_over()
     }
 
-    /// How it ended, none where it is not over. `Clean`: all of what came was answered. `Cut`: all whole heads were, and
-    /// the client's end came inside another. `Memory` and `Worn`: it was given up behind whole replies to the first requests.
+    /// How it ended, none where it is not over. `Clean`: all of what came was answered, or all up to a closing request.
+    /// `Cut`: all whole heads were, and the client's end came inside another. `Memory` and `Worn`: it was given up behind whole replies to the first requests.
     pub fn ended(&self) -> Option<End>
         ensures ends { ∥ IsEnd (S.number_of self.now.names) (allows S.allowed) self.now.came.bytes self.now.sent.bytes
             self.now.state result ∥₁ }

@@ -41,7 +41,7 @@ impl<S: Source> ExchangeState<S> {
         }
     }
 
-    /// The number of the flight that the first ticket waits for, none where no ticket waits or its fill is there.
+    /// The number of the flight that the first ticket waits for, none where no ticket waits, or the first waits for no fill.
     pub(crate) fn awaits(&self) -> Option<u64>
         ensures { IfSome result (λ number. first_flight self.now.waiting.items ≡ Some number) }
     {

@@ -6,15 +6,15 @@ use Rattle.peer_fetch.specs.declared.link.Turn.TheVariants as turn
 use Rattle.peer_fetch.specs.declared.under_way.UnderWay.{UnderWay}
 
 module _ {S : Type 0} {g : Source.Ghosts S} where
-  -- it is the same job at the same endpoint, due at the same time
+  -- it is the same job at the same numbered endpoint, due at the same time
   abbrev pub HasSameJob : UnderWay S g → UnderWay S g → Type 0
-  HasSameJob u u' = (u'.endpoint ≡ u.endpoint) × (u'.job ≡ u.job) × (u'.due ≡ u.due)
+  HasSameJob u u' = (u'.at ≡ u.at) × (u'.job ≡ u.job) × (u'.due ≡ u.due)
 
   -- the value stays on the connection, or it is given back with its own job
   abbrev pub IsTurnOf : UnderWay S g → Option (UnderWay S g) → Turn S g → Type 0
   IsTurnOf u left turn.Waits = IsSomeAnd left (HasSameJob u)
   IsTurnOf u left turn.Busy = IsSomeAnd left (HasSameJob u)
   IsTurnOf u left turn.Gone = ⊥
-  IsTurnOf u left (turn.Done d keeps) = (d.endpoint ≡ u.endpoint) × (d.job ≡ u.job)
+  IsTurnOf u left (turn.Done d keeps) = (d.endpoint ≡ u.at.endpoint) × (d.job ≡ u.job)
   IsTurnOf u left (turn.Unconnected u') = HasSameJob u u'
   IsTurnOf u left (turn.Cut u' failure) = HasSameJob u u'

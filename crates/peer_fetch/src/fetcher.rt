@@ -1,7 +1,8 @@
 //! The values of one thread that are under way, and the connections that are kept for the next ones.
 //!
 //! It stands on the connections of the thread (`Connections`) and on the value of each (`UnderWay`). It promises nothing that
-//! contracts see but what `UnderWay` does: a value is given back done, with its job, once at most.
+//! contracts see but what `UnderWay` does: a value is given back done, with its job, once at most. A value is asked for on a kept
+//! connection only where that is to its own endpoint, which is looked at once more there (`Link::begin`).
 
 use crate::connections::Connections;
 use crate::done::Done;
@@ -25,7 +26,7 @@ pub struct Fetcher<'a, S: Source> {
     alloc: Global,
     settings: FetchThreadSettings,
     connections: Connections<'a, S>,
-    // For each origin the connections that may be used again, the one used last behind the others.
+    // For each endpoint the connections that may be used again, the one used last behind the others.
     idle: Vec<Vec<usize>>,
     under_way: usize,
     buffer: Vec<u8>,
@@ -85,12 +86,11 @@ impl<'a, S: Source> Fetcher<'a, S> {
         self.connections.tell_time(now);
     }
 
-    // Begins to connect to an origin, for a value. A value that cannot be fetched is given back.
+    // Begins to connect to the endpoint of a value, from this address on. A value that cannot be fetched is given back.
     fn connect<H: Network>(
         &mut self,
         system: &System<'_, H>,
         under: UnderWay<'a, S>,
-        origin: usize,
         from: usize,
     ) -> Option<Done<'a, S>> {
         if self.connections.reserve().is_err() {
@@ -104,16 +104,15 @@ impl<'a, S: Source> Fetcher<'a, S> {
             .connections
             .now()
             .saturating_add(self.settings.fetch.connect);
-        self.connections
-            .add(Link::new(stream, under, origin, next, due));
+        self.connections.add(Link::new(stream, under, next, due));
         self.under_way = self.under_way.saturating_add(1);
         None
     }
 
-    // A connection to the origin that may be used again. One that has ended meanwhile is let go.
-    fn take_idle(&mut self, origin: usize) -> Option<usize> {
+    // A connection to the endpoint with this number that may be used again. One that has ended meanwhile is let go.
+    fn take_idle(&mut self, number: usize) -> Option<usize> {
         for _ in 0..=self.settings.under_way {
-            let key = self.idle.get_mut(origin)?.pop()?;
+            let key = self.idle.get_mut(number)?.pop()?;
             let Some(link) = self.connections.get(key) else {
                 continue;
             };
@@ -125,19 +124,19 @@ impl<'a, S: Source> Fetcher<'a, S> {
         None
     }
 
-    // Asks for a value on a connection that is kept, or a new one.
+    // Asks for a value on a connection that is kept for its endpoint, or a new one.
     fn start<H: Network>(
         &mut self,
         system: &System<'_, H>,
         under: UnderWay<'a, S>,
-        origin: usize,
     ) -> Option<Done<'a, S>> {
-        let Some(key) = self.take_idle(origin) else {
-            return self.connect(system, under, origin, 0);
+        let number = under.number();
+        let Some(key) = self.take_idle(number) else {
+            return self.connect(system, under, 0);
         };
         match self.connections.get_mut(key) {
-            Some(link) => link.begin(under),
-            None => return self.connect(system, under, origin, 0),
+            Some(link) if link.number == number => link.begin(under),
+            _ => return self.connect(system, under, 0),
         }
         self.under_way = self.under_way.saturating_add(1);
         self.connections.note_due(key);
@@ -156,24 +155,24 @@ impl<'a, S: Source> Fetcher<'a, S> {
             .connections
             .now()
             .saturating_add(self.settings.fetch.value);
-        match UnderWay::begin(self.alloc, at.endpoint, job, due) {
-            Ok(under) => self.start(system, under, at.number),
+        match UnderWay::begin(self.alloc, at, job, due) {
+            Ok(under) => self.start(system, under),
             Err(done) => Some(done),
         }
     }
 
-    // Puts a connection behind those to its origin that may be used again. Whether there is one, and memory for that.
+    // Puts a connection behind those to its endpoint that may be used again. Whether there is one, and memory for that.
     fn put_idle(&mut self, key: usize) -> bool {
         let Some(link) = self.connections.get(key) else {
             return false;
         };
-        match self.idle.get_mut(link.origin) {
+        match self.idle.get_mut(link.number) {
             Some(idle) => idle.push(key).is_ok(),
             None => false,
         }
     }
 
-    // Lets the connection go that was used longest ago, of the origin that has most of them.
+    // Lets the connection go that was used longest ago, of the endpoint that has most of them.
     fn forget_oldest(&mut self) {
         let Some(longest) = self.idle.iter_mut().max_by_key(|idle| idle.len()) else {
             return;
@@ -201,12 +200,12 @@ impl<'a, S: Source> Fetcher<'a, S> {
         let Some(link) = self.connections.remove(key) else {
             return;
         };
-        if let Some(idle) = self.idle.get_mut(link.origin) {
+        if let Some(idle) = self.idle.get_mut(link.number) {
             idle.retain(|kept| *kept != key);
         }
     }
 
-    // Tries the next address of an origin.
+    // Tries the next address of the endpoint of a value.
     fn connect_next<H: Network>(
         &mut self,
         system: &System<'_, H>,
@@ -214,20 +213,19 @@ impl<'a, S: Source> Fetcher<'a, S> {
         under: UnderWay<'a, S>,
     ) -> Option<Done<'a, S>> {
         match self.connections.remove(key) {
-            Some(link) => self.connect(system, under, link.origin, link.next_address),
+            Some(link) => self.connect(system, under, link.next_address),
             None => Some(under.done(Err(FetchFault::Unreached))),
         }
     }
 
-    // Makes the request for a value once more, on a new connection to the origin.
+    // Makes the request for a value once more, on a new connection.
     fn ask_again<H: Network>(
         &mut self,
         system: &System<'_, H>,
         under: UnderWay<'a, S>,
-        origin: usize,
     ) -> Option<Done<'a, S>> {
         match under.again(self.alloc) {
-            Ok(under) => self.connect(system, under, origin, 0),
+            Ok(under) => self.connect(system, under, 0),
             Err(done) => Some(done),
         }
     }
@@ -243,9 +241,7 @@ impl<'a, S: Source> Fetcher<'a, S> {
         let ended = self.connections.remove(key);
         match (failure, ended) {
             (Failure::Fetch(fault), _) => Some(under.done(Err(fault))),
-            (Failure::Silent, Some(link)) if link.was_kept => {
-                self.ask_again(system, under, link.origin)
-            }
+            (Failure::Silent, Some(link)) if link.was_kept => self.ask_again(system, under),
             (Failure::Silent, _) => Some(under.done(Err(FetchFault::Lost))),
         }
     }

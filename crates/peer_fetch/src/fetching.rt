@@ -46,7 +46,8 @@ pub struct Fetching {
 
 // What a reply says.
 fn answer_of(reply: Reply) -> Answer
-    ensures { IfOk result.value (λ v. (v.items ≡ reply.value.items) × (reply.status ≡ 200)) }
+    ensures value { IfOk result.value (λ v. (v.items ≡ reply.value.items) × (reply.status ≡ 200)) }
+    ensures keeps { result.keeps ≡ reply.keeps }
 {
     let Reply {
         status,

@@ -8,7 +8,6 @@
 //! without an endpoint it calls the source.
 #![tactic(auto)]
 
-mod bell;
 mod connections;
 mod done;
 mod endpoints;
@@ -19,14 +18,11 @@ mod link;
 mod opening;
 mod room;
 mod settings;
-mod stream;
 mod thread;
 mod transfer;
 mod under_way;
 
-pub use bell::FetchBell;
 pub use endpoints::{Endpoints, Numbered};
 pub use fetching::{Answer, Fetching};
 pub use settings::{FetchPlan, FetchThreadSettings};
-pub use stream::{was_interrupted, would_block};
 pub use thread::{FetchParts, FetchThread};

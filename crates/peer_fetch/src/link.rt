@@ -1,17 +1,19 @@
 //! A connection to an origin, and the value that is under way on it.
 //!
-//! It promises that a value stays on its connection from one turn to the next, or is given back with its own job.
+//! It promises that a value stays on its connection from one turn to the next, or is given back with its own job, and that only a
+//! value of the endpoint with whose number the connection began is asked for on it.
 ghost use Rattle.std.specs.Prelude.{◌≡◌, IfSome, Some};
+ghost use Rattle.std.proofs.Props.{props};
 ghost use Rattle.peer_fetch.specs.Turns.{IsTurnOf};
 
 use crate::done::Done;
 use crate::fetching::Answer;
-use crate::stream::{Readiness, would_block};
 use crate::transfer::{Halt, receive, send};
 use crate::under_way::UnderWay;
 use mio::event::Event;
 use mio::net::TcpStream;
 use peer_origin::{Failure, FetchFault};
+use peer_poll::{Readiness, would_block};
 use peer_source::Source;
 use std::io::ErrorKind;
 use std::time::Duration;
@@ -41,14 +43,15 @@ pub struct Link<'a, S: Source> {
     // When the address is given up. None once it is connected.
     connect_due: Option<Duration>,
     readiness: Readiness,
-    /// The number of its origin.
-    pub origin: usize,
+    /// The number of the endpoint that it is to.
+    pub number: usize,
     /// Which address of the origin is tried next, where this one is not reached.
     pub next_address: usize,
     /// Whether it was used before.
     pub was_kept: bool,
     /// Whether it is on the list of those that are to have a turn.
     pub is_ready: bool,
+    ghost own: { IfSome under (λ u. u.at.number ≡ number) } by { Prim.hlevel props },
 }
 
 // How far a stream is that began to connect.
@@ -72,22 +75,22 @@ fn progress_of(stream: &TcpStream) -> Connecting {
 }
 
 impl<'a, S: Source> Link<'a, S> {
-    /// A stream that begins to connect to an origin, for a value. It is given up at `due`.
+    /// A stream that begins to connect to the endpoint of a value, for that value. It is given up at `due`.
     pub fn new(
         stream: TcpStream,
         under: UnderWay<'a, S>,
-        origin: usize,
         next_address: usize,
         due: Duration,
     ) -> Link<'a, S>
         ensures { result.under ≡ Some under.entry }
     {
+        let number = under.number();
         Link {
             stream,
             under: Some(under),
             connect_due: Some(due),
             readiness: Readiness::unknown(),
-            origin,
+            number,
             next_address,
             was_kept: false,
             is_ready: false,
@@ -113,14 +116,18 @@ impl<'a, S: Source> Link<'a, S> {
 
     // Puts the value that is under way.
     fn put(&mut self, under: UnderWay<'a, S>)
-        ensures { self.new.under ≡ Some under.entry }
+        requires { under.at.number ≡ self.old.number }
+        ensures under { self.new.under ≡ Some under.entry }
+        ensures number { self.new.number ≡ self.old.number }
     {
         self.under = Some(under);
     }
 
-    /// Asks for another value.
+    /// Asks for another value of its endpoint.
     pub fn begin(&mut self, under: UnderWay<'a, S>)
-        ensures { self.new.under ≡ Some under.entry }
+        requires { under.at.number ≡ self.old.number }
+        ensures under { self.new.under ≡ Some under.entry }
+        ensures number { self.new.number ≡ self.old.number }
     {
         self.readiness.readable = false;
         self.was_kept = true;
@@ -140,7 +147,9 @@ impl<'a, S: Source> Link<'a, S> {
 
     // Sends and receives for a value.
     fn exchange(&mut self, under: UnderWay<'a, S>, buffer: &mut [u8]) -> Turn<'a, S>
-        ensures { IsTurnOf under.entry self.new.under result }
+        requires { under.at.number ≡ self.old.number }
+        ensures value { IsTurnOf under.entry self.new.under result }
+        ensures number { self.new.number ≡ self.old.number }
     {
         let mut under = under;
         let halt = match send(&mut self.stream, &mut under) {
@@ -167,7 +176,9 @@ impl<'a, S: Source> Link<'a, S> {
     }
 
     // How far the stream is. An address that is not reached by its time has failed.
-    fn connect(&mut self, now: Duration) -> Connecting {
+    fn connect(&mut self, now: Duration) -> Connecting
+        ensures { self.new.number ≡ self.old.number }
+    {
         let Some(due) = self.connect_due else {
             return Connecting::Connected;
         };
@@ -185,7 +196,8 @@ impl<'a, S: Source> Link<'a, S> {
 
     /// Goes on with the value that is under way.
     pub fn turn(&mut self, buffer: &mut [u8], now: Duration) -> Turn<'a, S>
-        ensures { IfSome self.old.under (λ u. IsTurnOf u self.new.under result) }
+        ensures value { IfSome self.old.under (λ u. IsTurnOf u self.new.under result) }
+        ensures number { self.new.number ≡ self.old.number }
     {
         self.is_ready = false;
         let Some(under) = self.under.take() else {

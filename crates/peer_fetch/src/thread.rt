@@ -1,9 +1,13 @@
 //! The thread that fetches: it takes jobs, waits for its connections, and fills flights.
+//!
+//! Who pushes a job wakes it where it sleeps; who pushes no more closes its waker. It looks for jobs until it finds none, and
+//! once more behind saying that it falls asleep. Where it has no room for another value it does not say so, and need not be
+//! woken: it looks for jobs once a value is done. Where that last look filled it, who pushed may have found it asleep and woken
+//! it for a job that it cannot take; then it wakes another thread.
 ghost use Rattle.std.specs.Prelude.{◌≡◌};
 ghost use Rattle.peer_fill.specs.Pools.{source_of, IsFillSeatOf};
 ghost use Rattle.peer_fetch.specs.Threads.{Allows, IsLaterSeat};
 
-use crate::bell::{FetchBell, WOKEN};
 use crate::fetcher::Fetcher;
 use crate::jobs::{Jobs, serve_ready, take_jobs};
 use crate::opening::System;
@@ -12,6 +16,7 @@ use crate::settings::FetchPlan;
 use mio::{Events, Poll};
 use peer_fill::{FillSeat, Gate, Pool};
 use peer_host::Network;
+use peer_poll::{OwnWaker, PollWaker, WOKEN};
 use peer_source::Source;
 use std::alloc::Global;
 use std::net::Net;
@@ -47,14 +52,14 @@ struct Running<'a, S: Source> {
     pause: Duration,
 }
 
-// How long the thread may wait for events. Where it has room for a value, it looks for a job behind setting that it
-// sleeps.
-fn time_to_wait<'a, S: Source, L: Ledger, G: Gate, H: Network>(
+// Gets ready to wait, and says for how long. Where there is room for a value, jobs are taken once more behind saying that
+// the thread falls asleep.
+fn prepare_wait<'a, S: Source, L: Ledger, G: Gate, H: Network>(
     system: &System<'_, H>,
     jobs: &Jobs<'_, 'a, S, L, G>,
     seat: &mut FillSeat<S, L>,
     fetcher: &mut Fetcher<'a, S>,
-    bell: &FetchBell,
+    waker: OwnWaker<'_>,
 ) -> Option<Duration>
     requires seat { IsFillSeatOf jobs.now.pool.now seat.old }
     requires answers { Allows (S.answers (source_of jobs.now.pool.now)) jobs.now.plan }
@@ -64,8 +69,12 @@ fn time_to_wait<'a, S: Source, L: Ledger, G: Gate, H: Network>(
         return Some(Duration::ZERO);
     }
     if fetcher.has_room() {
-        bell.fall_asleep();
-        if take_jobs(system, jobs, seat, fetcher) || bell.is_stopping() && fetcher.is_empty() {
+        waker.own.fall_asleep();
+        let took = take_jobs(system, jobs, seat, fetcher);
+        if !fetcher.has_room() {
+            waker.pass_on();
+        }
+        if took || waker.own.is_closed() && fetcher.is_empty() {
             return Some(Duration::ZERO);
         }
     }
@@ -79,26 +88,26 @@ fn work_on<'a, S: Source, L: Ledger, G: Gate, H: Network>(
     jobs: &Jobs<'_, 'a, S, L, G>,
     seat: &mut FillSeat<S, L>,
     fetcher: &mut Fetcher<'a, S>,
-    bell: &FetchBell,
+    waker: OwnWaker<'_>,
 ) -> bool
     requires seat { IsFillSeatOf jobs.now.pool.now seat.old }
     requires answers { Allows (S.answers (source_of jobs.now.pool.now)) jobs.now.plan }
     ensures { IsLaterSeat jobs.now.pool.now seat.old seat.new }
 {
-    let stopping = bell.is_stopping();
+    let stopping = waker.own.is_closed();
     let took = take_jobs(system, jobs, seat, fetcher);
     serve_ready(system, jobs, seat, fetcher);
     stopping && !took && fetcher.is_empty()
 }
 
 impl FetchParts {
-    /// What a thread needs that fetches from so many origins, and its bell. None where memory or the system refuses it.
-    pub fn new<H: Net>(rt: &H, alloc: Global, origins: usize) -> Option<(FetchParts, FetchBell)> {
+    /// What a thread needs that fetches from so many origins, and what wakes it. None where memory or the system refuses it.
+    pub fn new<H: Net>(rt: &H, alloc: Global, origins: usize) -> Option<(FetchParts, PollWaker)> {
         let poll = Poll::new(rt).ok()?;
-        let bell = FetchBell::new(&poll)?;
+        let waker = PollWaker::new(&poll)?;
         let events = Events::with_capacity(alloc, MAX_EVENTS).ok()?;
         let room = Room::new(alloc, origins).ok()?;
-        Some((FetchParts { poll, events, room }, bell))
+        Some((FetchParts { poll, events, room }, waker))
     }
 }
 
@@ -110,14 +119,14 @@ impl<'a> FetchThread<'a> {
         FetchThread { alloc, parts, plan }
     }
 
-    /// Takes jobs of the pool and fills their flights with what the origins answer, until the bell was stopped, there is no
+    /// Takes jobs of the pool and fills their flights with what the origins answer, until the waker was closed, there is no
     /// job, and no value is under way. For a group without an endpoint the source is called.
     pub fn run<S: Source, L: Ledger, G: Gate, H: Network>(
         self,
         rt: &H,
         pool: &Pool<S, L>,
         seat: FillSeat<S, L>,
-        bell: &FetchBell,
+        waker: OwnWaker<'_>,
         gate: &G,
     ) -> FillSeat<S, L>
         requires seat { IsFillSeatOf pool.now seat }
@@ -141,7 +150,7 @@ impl<'a> FetchThread<'a> {
             plan,
         };
         for _ in rt.forever() {
-            if thread.turn(rt, &jobs, &mut seat, bell) {
+            if thread.turn(rt, &jobs, &mut seat, waker) {
                 return seat;
             }
             thread.tell_time(rt, begun);
@@ -152,9 +161,9 @@ impl<'a> FetchThread<'a> {
 
 impl<'a, S: Source> Running<'a, S> {
     // Waits for events so long, and notes them.
-    fn wait<H: Clock>(&mut self, rt: &H, time: Option<Duration>, bell: &FetchBell) {
+    fn wait<H: Clock>(&mut self, rt: &H, time: Option<Duration>, waker: OwnWaker<'_>) {
         let waited = self.poll.poll(&mut self.events, time);
-        bell.stay_awake();
+        let _ = waker.own.stay_awake();
         if waited.is_err() {
             thread::sleep(rt, self.pause);
             return;
@@ -179,7 +188,7 @@ impl<'a, S: Source> Running<'a, S> {
         rt: &H,
         jobs: &Jobs<'_, 'a, S, L, G>,
         seat: &mut FillSeat<S, L>,
-        bell: &FetchBell,
+        waker: OwnWaker<'_>,
     ) -> bool
         requires seat { IsFillSeatOf jobs.now.pool.now seat.old }
         requires answers { Allows (S.answers (source_of jobs.now.pool.now)) jobs.now.plan }
@@ -189,11 +198,11 @@ impl<'a, S: Source> Running<'a, S> {
             rt,
             registry: self.poll.registry(),
         };
-        if work_on(&system, jobs, seat, &mut self.fetcher, bell) {
+        if work_on(&system, jobs, seat, &mut self.fetcher, waker) {
             return true;
         }
-        let time = time_to_wait(&system, jobs, seat, &mut self.fetcher, bell);
-        self.wait(rt, time, bell);
+        let time = prepare_wait(&system, jobs, seat, &mut self.fetcher, waker);
+        self.wait(rt, time, waker);
         false
     }
 }

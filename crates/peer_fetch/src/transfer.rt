@@ -5,10 +5,10 @@ ghost use Rattle.peer_fetch.specs.Turns.{HasSameJob};
 ghost use Rattle.peer_fetch.specs.Values.{IsFoundBy};
 
 use crate::fetching::Answer;
-use crate::stream::{Readiness, was_interrupted, would_block};
 use crate::under_way::UnderWay;
 use mio::net::TcpStream;
 use peer_origin::Failure;
+use peer_poll::{Readiness, was_interrupted, would_block};
 use peer_source::Source;
 use std::io;
 use std::io::{Read, Write};

@@ -1,4 +1,4 @@
-//! A value under way: a job, the endpoint of its origin, and the fetch.
+//! A value under way: a job, the numbered endpoint of its origin, and the fetch.
 ghost use Rattle.std.specs.Prelude.{◌≡◌, ◌+◌, ◌≤◌, ◌↔◌, ◌++◌, [], ◌∷◌, false, length, true, Err, IfErr, IfOk, IfSome, IsTrue, None, Ok, drop};
 ghost use Rattle.peer_view.specs.Sinks.{MAX_VALUE};
 ghost use Rattle.peer_origin.specs.declared.exchange.Failure.TheVariants as fail;
@@ -7,6 +7,7 @@ ghost use Rattle.peer_fetch.specs.Fetchings.{request_at, use_by};
 ghost use Rattle.peer_fetch.specs.Values.{uses_of, IsFoundBy, IsSameTry, IsSecondTry, MayGoOnAnew};
 
 use crate::done::{Done, Fetched};
+use crate::endpoints::Numbered;
 use crate::fetching::{Answer, Fetching};
 use peer_fill::TakenJob;
 use peer_origin::{Endpoint, Failure, FetchFault, request};
@@ -17,34 +18,34 @@ use std::time::Duration;
 /// A value under way. Its request is the one for the key of its job.
 #[derive(Drop)]
 pub struct UnderWay<'a, S: Source> {
-    endpoint: &'a Endpoint,
+    at: Numbered<'a>,
     job: TakenJob<S>,
     fetching: Fetching,
     due: Duration,
-    ghost asks: { fetching.request.items ≡ request_at endpoint.now job.place.key },
+    ghost asks: { fetching.request.items ≡ request_at at.endpoint.now job.place.key },
 }
 
 impl<'a, S: Source> UnderWay<'a, S> {
     /// The fetch of a job's value begins. It is given up when it is due.
     pub fn begin(
         alloc: Global,
-        endpoint: &'a Endpoint,
+        at: Numbered<'a>,
         job: TakenJob<S>,
         due: Duration,
     ) -> Result<UnderWay<'a, S>, Done<'a, S>>
-        ensures kept { IfOk result (λ u. (u.endpoint ≡ endpoint.entry) × (u.job ≡ job) × (u.due ≡ due)) }
+        ensures kept { IfOk result (λ u. (u.at ≡ at.entry) × (u.job ≡ job) × (u.due ≡ due)) }
         ensures unused { IfOk result (λ u. uses_of u.fetching ≡ use_by u.fetching.request.items 0 [] false ∷ []) }
-        ensures given_back { IfErr result (λ d. (d.endpoint ≡ endpoint.entry) × (d.job ≡ job) × IfOk d.got (λ _. ⊥)) }
+        ensures given_back { IfErr result (λ d. (d.endpoint ≡ at.entry.endpoint) × (d.job ≡ job) × IfOk d.got (λ _. ⊥)) }
     {
-        match request(alloc, &endpoint.host, &endpoint.prefix, job.key()) {
+        match request(alloc, &at.endpoint.host, &at.endpoint.prefix, job.key()) {
             Ok(asked) => Ok(UnderWay {
-                endpoint,
+                at,
                 job,
                 fetching: Fetching::new(alloc, asked),
                 due,
             }),
             Err(why) => Err(Done {
-                endpoint,
+                endpoint: at.endpoint,
                 job,
                 got: Err(why),
             }),
@@ -53,22 +54,22 @@ impl<'a, S: Source> UnderWay<'a, S> {
 
     /// The fetch begins anew, on a new connection, where this may be.
     pub fn again(self, alloc: Global) -> Result<UnderWay<'a, S>, Done<'a, S>>
-        ensures kept { IfOk result (λ u. (u.endpoint ≡ self.entry.endpoint) × (u.job ≡ self.entry.job) × (u.due ≡ self.entry.due)) }
+        ensures kept { IfOk result (λ u. (u.at ≡ self.entry.at) × (u.job ≡ self.entry.job) × (u.due ≡ self.entry.due)) }
         ensures second { IfOk result (λ u. IsSecondTry self.entry.fetching u.fetching) }
         ensures lost { IfErr result (λ d. IfErr d.got (λ why. why ≡ fault.Lost → ¬ (MayGoOnAnew self.entry.fetching))) }
-        ensures given_back { IfErr result (λ d. (d.endpoint ≡ self.entry.endpoint) × (d.job ≡ self.entry.job) × IfOk d.got (λ _. ⊥)) }
+        ensures given_back { IfErr result (λ d. (d.endpoint ≡ self.entry.at.endpoint) × (d.job ≡ self.entry.job) × IfOk d.got (λ _. ⊥)) }
     {
         let UnderWay {
-            endpoint,
+            at,
             job,
             mut fetching,
             due,
         } = self;
-        let asked = match request(alloc, &endpoint.host, &endpoint.prefix, job.key()) {
+        let asked = match request(alloc, &at.endpoint.host, &at.endpoint.prefix, job.key()) {
             Ok(asked) => asked,
             Err(why) => {
                 return Err(Done {
-                    endpoint,
+                    endpoint: at.endpoint,
                     job,
                     got: Err(why),
                 });
@@ -76,14 +77,14 @@ impl<'a, S: Source> UnderWay<'a, S> {
         };
         if fetching.again(alloc, asked) {
             return Ok(UnderWay {
-                endpoint,
+                at,
                 job,
                 fetching,
                 due,
             });
         }
         Err(Done {
-            endpoint,
+            endpoint: at.endpoint,
             job,
             got: Err(FetchFault::Lost),
         })
@@ -91,9 +92,16 @@ impl<'a, S: Source> UnderWay<'a, S> {
 
     /// The endpoint of its origin.
     pub fn endpoint(&self) -> &'a Endpoint
-        ensures { result ≡ self.now.endpoint }
+        ensures { result ≡ self.now.at.endpoint }
     {
-        self.endpoint
+        self.at.endpoint
+    }
+
+    /// The number of that endpoint.
+    pub fn number(&self) -> usize
+        ensures { result ≡ self.now.at.number }
+    {
+        self.at.number
     }
 
     /// When it is given up.
@@ -114,7 +122,7 @@ impl<'a, S: Source> UnderWay<'a, S> {
     /// So many bytes were sent.
     pub fn sent(&mut self, n: usize)
         requires { self.old.fetching.sent + n ≤ length self.old.fetching.request.items }
-        ensures kept { (self.new.endpoint ≡ self.old.endpoint) × (self.new.job ≡ self.old.job) × (self.new.due ≡ self.old.due) }
+        ensures kept { (self.new.at ≡ self.old.at) × (self.new.job ≡ self.old.job) × (self.new.due ≡ self.old.due) }
         ensures sent { self.new.fetching.sent ≡ self.old.fetching.sent + n }
         ensures request { self.new.fetching.request.items ≡ self.old.fetching.request.items }
         ensures came { self.new.fetching.receiving.came.bytes ≡ self.old.fetching.receiving.came.bytes }
@@ -134,7 +142,7 @@ impl<'a, S: Source> UnderWay<'a, S> {
     /// Bytes come. Gives the answer, once the reply is whole.
     pub fn receive(&mut self, bytes: &[u8]) -> Result<Option<Answer>, Failure>
         requires { length self.old.fetching.request.items ≤ self.old.fetching.sent }
-        ensures kept { (self.new.endpoint ≡ self.old.endpoint) × (self.new.job ≡ self.old.job) × (self.new.due ≡ self.old.due) }
+        ensures kept { (self.new.at ≡ self.old.at) × (self.new.job ≡ self.old.job) × (self.new.due ≡ self.old.due) }
         ensures same { IsSameTry self.old.fetching self.new.fetching }
         ensures came { self.new.fetching.receiving.came.bytes ≡ self.old.fetching.receiving.came.bytes ++ bytes.now }
         ensures ended { self.new.fetching.ended ≡ self.old.fetching.ended }
@@ -147,7 +155,7 @@ impl<'a, S: Source> UnderWay<'a, S> {
     /// The connection ended. Gives the answer, where the reply runs until then.
     pub fn end(&mut self) -> Result<Answer, Failure>
         requires { length self.old.fetching.request.items ≤ self.old.fetching.sent }
-        ensures kept { (self.new.endpoint ≡ self.old.endpoint) × (self.new.job ≡ self.old.job) × (self.new.due ≡ self.old.due) }
+        ensures kept { (self.new.at ≡ self.old.at) × (self.new.job ≡ self.old.job) × (self.new.due ≡ self.old.due) }
         ensures same { IsSameTry self.old.fetching self.new.fetching }
         ensures came { self.new.fetching.receiving.came.bytes ≡ self.old.fetching.receiving.came.bytes }
         ensures ended { self.new.fetching.ended ≡ true }
@@ -168,12 +176,12 @@ impl<'a, S: Source> UnderWay<'a, S> {
     pub fn done(self, got: Result<Vec<u8>, FetchFault>) -> Done<'a, S>
         requires within { IfOk got (λ v. length v.items ≤ MAX_VALUE) }
         requires found { IfOk got (IsFoundBy self.fetching) }
-        ensures kept { (result.endpoint ≡ self.entry.endpoint) × (result.job ≡ self.entry.job) }
+        ensures kept { (result.endpoint ≡ self.entry.at.endpoint) × (result.job ≡ self.entry.job) }
         ensures got { IfOk result.got (λ f. (f.by ≡ self.entry.fetching) × (got ≡ Ok f.value)) }
         ensures fault { IfErr result.got (λ why. got ≡ Err why) }
     {
         let UnderWay {
-            endpoint,
+            at,
             job,
             fetching,
             ..
@@ -182,6 +190,10 @@ impl<'a, S: Source> UnderWay<'a, S> {
             Ok(value) => Ok(Fetched::new(value, fetching)),
             Err(fault) => Err(fault),
         };
-        Done { endpoint, job, got }
+        Done {
+            endpoint: at.endpoint,
+            job,
+            got,
+        }
     }
 }

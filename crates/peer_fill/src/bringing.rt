@@ -83,10 +83,12 @@ impl<S: Source, L: Ledger> Pool<S, L> {
             let Some(fill) = self.cached_fill(rt, group, &key) else {
                 seat.fills.calls += 1;
                 gate.after_count(seat.fills.calls, seat.fills.rehits);
+                self.tell_of_room(&seat.fills);
                 return Some(TakenJob { right, key });
             };
             seat.fills.rehits += 1;
             gate.after_count(seat.fills.calls, seat.fills.rehits);
+            self.tell_of_room(&seat.fills);
             self.put_and_land(rt, right, fill, gate);
         }
         None

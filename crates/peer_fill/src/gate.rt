@@ -1,16 +1,18 @@
-//! Gates: what a worker calls before and after it calls the source.
+//! Gates: what is called as a job is taken, counted and filled. By it a server tells its loops of room and of fills, and a test
+//! holds a worker back.
 use peer_source::GroupId;
 use std::sync::Wait;
 
-/// May hold a worker back, as a test does to force an order of steps.
+/// What is called as a job is taken, counted and filled.
 pub trait Gate: Sync {
-    /// The worker has the flight's right. It looks into the cache next, and calls the source where that has no value.
+    /// Whoever fills has the flight's right. The cache is looked into next, and the source is called where that has no value, or
+    /// the job is handed out for that.
     fn before_call<R: Wait>(&self, rt: &R, group: GroupId, key: &[u8]);
 
     /// The flight with this number has its fill, and has not landed yet.
     fn after_put<R: Wait>(&self, rt: &R, number: u64, group: GroupId, key: &[u8]);
 
-    /// The worker has called the source for so many jobs by now, and found the value of so many kept.
+    /// The seat has counted so many calls by now, as `FillCounts` has them, and found the value of so many jobs kept.
     fn after_count(&self, _calls: u64, _rehits: u64) {}
 }
 

@@ -57,8 +57,8 @@ pub(crate) fn check_numbers(workers: usize, conns: usize, groups: usize) -> Resu
 #[derive(Drop)]
 pub struct Opened<S: Source, L: Ledger> {
     pub pool: Pool<S, L>,
-    /// One for each worker.
+    /// One for each who fills.
     pub fills: Vec<FillSeat<S, L>>,
-    /// One for each connection that is served at a time.
+    /// One for each who asks: a connection, or an event loop with all of its own.
     pub conns: Vec<ConnSeat<S, L>>,
 }

@@ -41,7 +41,7 @@ impl<S: Source, L: Ledger> Pool<S, L> {
     ghost use Rattle.peer_fill.specs.Pools.{source_of, IsConnSeatOf, IsFillSeatOf};
     ghost use Rattle.peer_fill.specs.Totals.{AddsUp};
 
-    /// A pool with a seat for each worker and for each connection. The blank names the ledger of the flights that
+    /// A pool with a seat for each who fills and for each who asks. The blank names the ledger of the flights that
     /// are led, in 16 parts. The cache of each group of the source keeps at most so many bytes; the seed
     /// is for the maps of its keys.
     pub fn open(

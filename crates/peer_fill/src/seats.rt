@@ -15,7 +15,7 @@ use std::sync::ledger::{Ledger, Share};
 /// No seat counts further.
 pub(crate) const MAX_COUNT: u64 = 1 << 56;
 
-/// A connection's seat.
+/// The seat of who asks: of one connection at a time, or of all that an event loop serves.
 #[derive(Drop)]
 pub struct ConnSeat<S: Source, L: Ledger> {
     pub(crate) pass: Pass<Job<S>, PassLog>,
@@ -184,7 +184,7 @@ impl<S: Source, L: Ledger> FillSeat<S, L> {
         self.fills.calls + self.fills.rehits < MAX_COUNT
     }
 
-    /// The jobs for which it called the source.
+    /// The jobs for which it called the source, or that it took out of the pool for that.
     pub fn calls(&self) -> u64
         ensures { result ≡ (fills_of self.now).calls }
     {

@@ -92,12 +92,18 @@ fn bind<H: AllocGlobal + Eprint + Net>(rt: &H, options: &Options<'_>) -> Result<
     }
 }
 
+// Says that standard output failed.
+fn no_output<H: AllocGlobal + Eprint>(rt: &H, error: &io::Error) -> Exit {
+    let _ = eprintln!(rt; "peer_front: standard output: {error}");
+    NO_OUTPUT
+}
+
 // How the program ends behind its server, and says so.
 fn end_of<H: AllocGlobal + Print + Eprint>(rt: &H, served: &Result<Report, ServerFault>) -> Exit {
     match served {
         Ok(report) => match say_totals(rt, report) {
             Ok(()) => DONE,
-            Err(_) => NO_OUTPUT,
+            Err(error) => no_output(rt, &error),
         },
         Err(fault) => refuse(rt, fault, OUT_OF_MEMORY),
     }
@@ -126,8 +132,8 @@ fn serve_source<S: Source, H: AllocGlobal + Print + Eprint + RandomSource + Host
     };
     let filled_by = who_fills(options, plan.is_some());
     say_serving(rt, source.group_count(), &listener, options, filled_by);
-    if say_listening(rt).is_err() {
-        return NO_OUTPUT;
+    if let Err(error) = say_listening(rt) {
+        return no_output(rt, &error);
     }
     let settings = settings_of(options, filled_by, seed, outside);
     let service = Service {

@@ -20,6 +20,9 @@ pub type FrontSource<'a, H> = Beside<
 pub enum GroupFault {
     #[error("GROUP=URL is needed, such as thumbs=http://10.0.0.7/thumbs/")]
     Form,
+    /// No target names such a group: a group ends at the first slash.
+    #[error("the name of a group has no slash")]
+    Slash,
     #[error("a group of this name is served already")]
     Repeated,
     #[error("there are more than 64 groups")]
@@ -49,6 +52,9 @@ fn origin_of<H: Net<Listener = TcpListener, Stream = TcpStream>>(
     };
     if name.is_empty() || url.is_empty() {
         return Err(GroupFault::Form);
+    }
+    if name.as_bytes().contains(&b'/') {
+        return Err(GroupFault::Slash);
     }
     let endpoint = Endpoint::of_url(rt, alloc, url).map_err(GroupFault::Endpoint)?;
     match name.as_bytes().to_vec(alloc) {

@@ -1,6 +1,7 @@
 //! The bytes of a connection that were read and not taken yet.
 ghost use Rattle.std.specs.Prelude.{◌≡◌, ◌≤◌, ◌++◌, [], drop, length, OnOk};
 
+use peer_view::cut_front;
 use std::alloc::{AllocError, Global};
 use std::marker::Model;
 
@@ -19,16 +20,6 @@ impl Model for Intake {
     ghost view = { λ i. drop i.from i.bytes.items };
 
     ghost invariant = { λ i. i.from ≤ length i.bytes.items };
-}
-
-// Forgets the first `n` bytes.
-fn cut_front(bytes: &mut Vec<u8>, n: usize)
-    requires { n ≤ length bytes.old.items }
-    ensures { bytes.new.items ≡ drop n bytes.old.items }
-{
-    let len = bytes.len();
-    bytes.copy_within(n..len, 0);
-    bytes.truncate(len - n);
 }
 
 // Puts bytes behind those that were read, of which some were taken. These are forgotten, so that a sender of heads without

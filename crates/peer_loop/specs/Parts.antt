@@ -1,32 +1,18 @@
--- The seats of loops: how they are taken off the lists of a pool's seats, and what comes back of them.
-use Rattle.std.specs.Prelude.{◌≡◌, ℕ, ◌+◌, ◌≤◌, List, Option, Some, None, IfSome, sum_by, vec_len, vec_capacity}
+-- How the seats of loops are taken off the lists of a pool's seats, and what comes back of them.
+use Rattle.std.specs.Prelude.{◌≡◌, ℕ, ◌+◌, ◌≤◌, List, Option, Some, None, sum_by, vec_len, vec_capacity}
 use Rattle.std.specs.Global.{Vec}
 use Rattle.std.specs.declared.thread.PromisedHandle.{PromisedHandle}
 use Rattle.peer_source.specs.declared.source.Source as Source
 use Rattle.std.specs.declared.sync.ledger.Ledger as Ledger
-use Rattle.peer_fill.specs.Pools.{IsConnSeatOf, IsFillSeatOf}
-use Rattle.peer_fill.specs.Seats.{conn_parts, fill_parts}
+use Rattle.peer_fill.specs.Seats.{conn_parts}
 use Rattle.peer_fill.specs.Lists.{all_conn_parts, all_fill_parts, AreSeatsOf}
 use Rattle.peer_fill.specs.declared.lists.Seats.{Seats}
 use Rattle.peer_fill.specs.declared.pool.Pool.{Pool}
-use Rattle.peer_fill.specs.declared.seats.FillSeat.{FillSeat}
-use Rattle.peer_loop.specs.declared.loop_seats.LoopSeats.{LoopSeats}
-use Rattle.peer_loop.specs.declared.loop_seats.KeepsLoop.{KeepsLoop}
+use Rattle.peer_clients.specs.Parts.{filling_parts}
+use Rattle.peer_clients.specs.declared.loop_seats.LoopSeats.{LoopSeats}
+use Rattle.peer_loop.specs.declared.dealing.KeepsLoop.{KeepsLoop}
 
 module _ {S L : Type 0} {g : Source.Ghosts S} {h : Ledger.Ghosts L} where
-  -- the parts of the seat by which a loop fills, none where it does not
-  abbrev pub filling_parts : Option (FillSeat S L g h) → ℕ
-  filling_parts None = 0
-  filling_parts (Some seat) = fill_parts seat
-
-  -- both are of the pool
-  abbrev pub AreOf : Pool S L g h → LoopSeats S L g h → Type 0
-  AreOf pool seats = IsConnSeatOf pool seats.conn × IfSome seats.fill (IsFillSeatOf pool)
-
-  -- both have their parts
-  abbrev pub KeepsParts : LoopSeats S L g h → LoopSeats S L g h → Type 0
-  KeepsParts old new = (conn_parts new.conn ≡ conn_parts old.conn) × (filling_parts new.fill ≡ filling_parts old.fill)
-
   -- the lists have the same room
   abbrev pub KeepsRoom : Seats S L g h → Seats S L g h → Type 0
   KeepsRoom old new = (vec_capacity new.conns ≡ vec_capacity old.conns) × (vec_capacity new.fills ≡ vec_capacity old.fills)

@@ -4,9 +4,9 @@
 //! told to stop, or has accepted as many as it is to, it accepts no more and lets go of the listener.
 
 use crate::listening::Listening;
-use crate::site::Site;
 use crate::stop::Stop;
 use mio::net::TcpStream;
+use peer_clients::Site;
 use peer_host::Host;
 use std::io::ErrorKind;
 use std::thread;

@@ -4,20 +4,20 @@ ghost use Rattle.peer_fill.specs.Pools.{source_of, IsFillSeatOf};
 ghost use Rattle.peer_fill.specs.Seats.{fill_parts};
 ghost use Rattle.peer_fetch.specs.Threads.{Allows};
 
-use crate::bells::Bells;
-use crate::fill_gate::FillGate;
-use peer_fetch::{FetchBell, FetchParts, FetchPlan, FetchThread};
+use peer_clients::FillGate;
+use peer_fetch::{FetchParts, FetchPlan, FetchThread};
 use peer_fill::{FillSeat, Pool};
 use peer_host::Network;
+use peer_poll::{OwnWaker, PollWakers};
 use peer_source::Source;
 use std::alloc::Global;
 use std::sync::ledger::Ledger;
 
-/// A thread that fetches, and its bell.
+/// A thread that fetches, and what wakes it.
 #[derive(Drop)]
 pub struct Fetcher<'a> {
     pub thread: FetchThread<'a>,
-    pub bell: &'a FetchBell,
+    pub waker: OwnWaker<'a>,
 }
 
 /// The next thread that fetches, where there is a plan.
@@ -25,21 +25,21 @@ pub fn next_fetcher<'a>(
     alloc: Global,
     plan: Option<FetchPlan<'a>>,
     parts: &mut Vec<FetchParts>,
-    bells: &'a Bells,
+    wakers: &'a PollWakers,
 ) -> Option<Fetcher<'a>>
     ensures { IfSome result (λ fetcher. plan.entry ≡ Some fetcher.thread.plan) }
 {
     let plan = plan?;
     let own = parts.pop()?;
-    let bell = bells.each.get(parts.len())?;
+    let waker = wakers.at(parts.len())?;
     Some(Fetcher {
         thread: FetchThread::new(alloc, own, plan),
-        bell,
+        waker,
     })
 }
 
-/// Fills jobs until the pool and the bell were stopped and there is none: by fetches, where it is given what that needs, and
-/// else by calls of the source.
+/// Fills jobs until the pool was stopped, or its waker closed, and there is none: by fetches, where it is given what that
+/// needs, and else by calls of the source.
 pub fn run_filler<S: Source, L: Ledger, H: Network>(
     rt: &H,
     alloc: Global,
@@ -54,7 +54,7 @@ pub fn run_filler<S: Source, L: Ledger, H: Network>(
     ensures parts { fill_parts result ≡ fill_parts seat }
 {
     match fetcher {
-        Some(Fetcher { thread, bell }) => thread.run(rt, pool, seat, bell, gate),
+        Some(Fetcher { thread, waker }) => thread.run(rt, pool, seat, waker, gate),
         None => pool.run_worker(rt, alloc, seat, gate),
     }
 }

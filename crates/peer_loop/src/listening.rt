@@ -1,11 +1,13 @@
 //! By what a server waits for clients: its listener, and the poll that reports them.
 
-use crate::limits::MAX_EVENTS;
 use mio::net::TcpListener;
 use mio::{Events, Interest, Poll, Token};
 use std::alloc::Global;
 use std::net;
 use std::net::Net;
+
+// How many events one wait reports: the listener's, and those of the two who wake it.
+const MAX_EVENTS: usize = 4;
 
 /// A listener whose clients are reported.
 #[derive(Drop)]

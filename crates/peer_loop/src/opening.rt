@@ -1,18 +1,12 @@
 //! What the system and memory give a server before its threads are started. Where they refuse something, no thread is started.
 ghost use Rattle.std.specs.Prelude.{◌≡◌, IfSome};
 
-use crate::bells::Bells;
-use crate::event_loop::Waits;
-use crate::limits::MAX_EVENTS;
 use crate::listening::Listening;
-use crate::mailbox::Mailbox;
-use crate::mailboxes::Mailboxes;
-use crate::occupancy::Occupancy;
 use crate::settings::Orders;
-use crate::work::{FillerParts, LoopParts, ThreadParts};
-use mio::{Events, Poll};
+use crate::work::{FillerParts, ThreadParts};
+use peer_clients::{LoopParts, Mailboxes, Occupancy};
 use peer_fetch::FetchParts;
-use peer_head::HEAD_LIMIT;
+use peer_poll::PollWakers;
 use std::alloc::Global;
 use std::net::{Net, TcpListener};
 
@@ -20,7 +14,7 @@ use std::net::{Net, TcpListener};
 #[derive(Drop)]
 pub struct Shared {
     pub mailboxes: Mailboxes,
-    pub bells: Bells,
+    pub wakers: PollWakers,
     pub occupancy: Occupancy,
 }
 
@@ -39,12 +33,9 @@ fn open_loop<H: Net>(
     loops: &mut Vec<LoopParts>,
     mailboxes: &mut Mailboxes,
 ) -> Option<()> {
-    let poll = Poll::new(rt).ok()?;
-    mailboxes.each.push(Mailbox::new(alloc, &poll)?).ok()?;
-    let events = Events::with_capacity(alloc, MAX_EVENTS).ok()?;
-    let buffer = vec![in alloc; 0; HEAD_LIMIT].ok()?;
-    let waits = Waits { poll, events };
-    loops.push(LoopParts { waits, buffer }).ok()
+    let (parts, mailbox) = LoopParts::new(rt, alloc)?;
+    mailboxes.each.push(mailbox).ok()?;
+    loops.push(parts).ok()
 }
 
 // The same for so many loops.
@@ -61,18 +52,18 @@ fn open_loops<H: Net>(
     Some(())
 }
 
-// Adds what threads need that fetch as these orders say, and their bells. None where memory or the system refuses it.
+// Adds what threads need that fetch as these orders say, and what wakes them. None where memory or the system refuses it.
 fn open_fetchers<H: Net>(
     rt: &H,
     alloc: Global,
     orders: Orders<'_>,
     fetchers: &mut Vec<FetchParts>,
-    bells: &mut Bells,
+    wakers: &mut PollWakers,
 ) -> Option<()> {
     let (count, origins) = orders.fetchers();
     for _ in 0..count {
-        let (parts, bell) = FetchParts::new(rt, alloc, origins)?;
-        bells.each.push(bell).ok()?;
+        let (parts, waker) = FetchParts::new(rt, alloc, origins)?;
+        wakers.each.push(waker).ok()?;
         fetchers.push(parts).ok()?;
     }
     Some(())
@@ -97,7 +88,7 @@ fn open_threads<H: Net>(
         mailboxes,
     )?;
     let fetchers = &mut parts.threads.fillers.fetchers;
-    open_fetchers(rt, alloc, orders, fetchers, &mut parts.shared.bells)?;
+    open_fetchers(rt, alloc, orders, fetchers, &mut parts.shared.wakers)?;
     orders.settings.stop.watch(&parts.listening.poll)
 }
 
@@ -125,7 +116,7 @@ fn parts_without_threads<'a>(
             mailboxes: Mailboxes {
                 each: Vec::new(alloc),
             },
-            bells: Bells {
+            wakers: PollWakers {
                 each: Vec::new(alloc),
             },
             occupancy,

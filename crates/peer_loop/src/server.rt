@@ -10,8 +10,8 @@ ghost use Rattle.peer_loop.specs.Serving.{fill_seats};
 use crate::acceptor::Acceptor;
 use crate::opening::{ServerParts, open_parts};
 use crate::settings::{Orders, Settings};
-use crate::site::Site;
 use crate::threads::use_threads;
+use peer_clients::Site;
 use peer_fetch::FetchPlan;
 use peer_fill::{MAX_SEATS, OpenFault, Opened, Pool, Report, Seats};
 use peer_host::Host;
@@ -56,7 +56,7 @@ fn serve_parts<S: Source, L: Ledger + Send + Sync, H: Host>(
     } = parts;
     let site = Site {
         mailboxes: &shared.mailboxes,
-        bells: &shared.bells,
+        wakers: &shared.wakers,
         occupancy: &shared.occupancy,
         limits: &settings.limits,
         counters: settings.counters,

@@ -9,12 +9,12 @@ ghost use Rattle.peer_fill.specs.Pools.{source_of};
 ghost use Rattle.peer_fill.specs.Lists.{AreSeatsOf, HaveParts};
 ghost use Rattle.peer_loop.specs.StartedThreads.{all_conns, all_fills, KeepAll, AreStarting, AreNew};
 
+use crate::dealing::{join_loops, pop_loop};
 use crate::filler::next_fetcher;
 use crate::fillers::Fillers;
-use crate::loop_seats::{join_loops, pop_loop};
-use crate::site::{LoopSite, Site};
 use crate::starting::{FillHandle, LoopHandle, spawn_filler, spawn_loop};
-use crate::work::{AllWork, FillWork, LoopWork, ThreadParts};
+use crate::work::{AllWork, FillWork, ThreadParts};
+use peer_clients::{LoopSite, LoopWork, Site};
 use peer_fill::{Pool, Seats, join_seats, pop_seat};
 use peer_host::Host;
 use peer_source::Source;
@@ -109,7 +109,7 @@ impl<'a, S: Source, L: Ledger + Send + Sync> ServerThreads<'a, S, L> {
             self.alloc,
             plan,
             &mut self.parts.fillers.fetchers,
-            self.site.bells,
+            self.site.wakers,
         );
         let gate = self.site.gate(self.seats.fills.len());
         let work = FillWork {
@@ -162,7 +162,7 @@ impl<'a, S: Source, L: Ledger + Send + Sync> ServerThreads<'a, S, L> {
         } = self;
         join_loops(rt, pool, serving, &mut seats);
         pool.stop();
-        site.bells.stop();
+        site.wakers.close();
         join_seats(rt, pool, working, &mut seats.fills);
         seats
     }

@@ -1,23 +1,19 @@
 //! How one thread of a server is started, that of a loop or one that fills, and what it does.
-ghost use Rattle.std.specs.Prelude.{◌≡◌, IfSome, Some};
+ghost use Rattle.std.specs.Prelude.{◌≡◌, IfSome};
 ghost use Rattle.peer_fill.specs.Pools.{source_of, IsFillSeatOf};
 ghost use Rattle.peer_fill.specs.Seats.{fill_parts};
 ghost use Rattle.peer_fetch.specs.Threads.{Allows};
-ghost use Rattle.peer_loop.specs.Parts.{AreOf, KeepsParts};
+ghost use Rattle.peer_clients.specs.Parts.{AreOf, KeepsParts};
 ghost use Rattle.peer_loop.specs.Works.{IsFillWorkOf};
 
-use crate::event_loop::EventLoop;
-use crate::facts::Facts;
+use crate::dealing::KeepsLoop;
 use crate::filler::run_filler;
-use crate::filling::Filling;
-use crate::loop_seats::{KeepsLoop, LoopSeats};
-use crate::seat::LoopSeat;
-use crate::work::{FillWork, LoopParts, LoopWork};
+use crate::work::FillWork;
+use peer_clients::{LoopSeats, LoopWork, run_loop};
 use peer_fill::{FillSeat, Keeps, Pool};
 use peer_host::Host;
 use peer_source::Source;
 use std::alloc::Global;
-use std::marker::{Brand, PhantomData};
 use std::sync::ledger::Ledger;
 use std::thread::{PromisedHandle, Scope};
 
@@ -26,47 +22,6 @@ pub type LoopHandle<'a, S, L> = PromisedHandle<LoopSeats<S, L>, KeepsLoop<'a, S,
 
 /// A thread that fills.
 pub type FillHandle<'a, S, L> = PromisedHandle<FillSeat<S, L>, Keeps<'a, S, L, FillSeat<S, L>>>;
-
-// Runs a loop whose contracts know its source.
-fn run_known<S: Source, L: Ledger, F: Facts<S>, H: Host>(
-    rt: &H,
-    alloc: Global,
-    pool: &Pool<S, L>,
-    work: LoopWork<'_, S, L>,
-) -> LoopSeats<S, L>
-    requires of { AreOf pool.now work.seats }
-    requires source { F.source ≡ Some (source_of pool.now) }
-    ensures of { AreOf pool.now result }
-    ensures parts { KeepsParts work.entry.seats result }
-{
-    let LoopWork { seats, parts, site } = work;
-    let LoopParts { mut waits, buffer } = parts;
-    let mut seat = LoopSeat::<S, L, F> {
-        pool,
-        alloc,
-        seats,
-        buffer,
-        filling: Filling::new(site.site.bells, site.site.gate(site.number)),
-        of: PhantomData,
-    };
-    let mut serving = EventLoop::new(alloc, site);
-    serving.run(rt, &mut seat, &mut waits);
-    seat.seats
-}
-
-// Runs a loop until no more streams are given and its clients are gone.
-fn run_loop<S: Source, L: Ledger, H: Host>(
-    rt: &H,
-    alloc: Global,
-    pool: &Pool<S, L>,
-    work: LoopWork<'_, S, L>,
-) -> LoopSeats<S, L>
-    requires { AreOf pool.now work.seats }
-    ensures of { AreOf pool.now result }
-    ensures parts { KeepsParts work.entry.seats result }
-{
-    run_known::<S, L, Brand, H>(rt, alloc, pool, work)
-}
 
 /// Starts the thread of a loop. None where it was refused.
 pub fn spawn_loop<'s, E, S: Source, L: Ledger + Send + Sync, H: Host>(

@@ -2,12 +2,12 @@
 //!
 //! It stands on the shared bytes of `bytes`, and on the views of `peer_view`. It promises the bytes that came and did not
 //! go, in order; and it takes no memory before the first.
-ghost use Rattle.std.specs.Prelude.{◌≡◌, ◌==◌, ◌≤◌, [], ◌++◌, length, drop, OnErr, OnOk, IfOk};
+ghost use Rattle.std.specs.Prelude.{◌≡◌, ◌==◌, ◌≤◌, [], ◌+◌, ◌++◌, length, drop, OnErr, OnOk, IfOk};
 ghost use Rattle.peer_reply.specs.Texts.{joined};
 
 use crate::parts::part_at;
 use bytes::Bytes;
-use peer_view::ByteView;
+use peer_view::{ByteView, cut_front};
 use std::alloc::{AllocError, Global};
 use std::marker::Model;
 
@@ -71,22 +71,12 @@ impl ByteQueue {
         }
     }
 
-    // Lets the bytes that went go, where they are more than the others.
-    fn compact(&mut self)
-        ensures { self.new ≡ self.old }
-    {
-        if self.start > self.bytes.len() - self.start {
-            cut_front(&mut self.bytes, self.start);
-            self.start = 0;
-        }
-    }
-
     /// The bytes of all the parts come, or none where memory is refused.
     pub fn put(&mut self, parts: &[&[u8]]) -> Result<(), AllocError>
         ensures put { OnOk result (self.new ≡ self.old ++ joined parts.now) }
         ensures refused { OnErr result (self.new ≡ self.old) }
     {
-        self.compact();
+        compact(&mut self.bytes, &mut self.start);
         append_parts(&mut self.bytes, parts)
     }
 
@@ -95,7 +85,7 @@ impl ByteQueue {
         ensures put { OnOk result (self.new ≡ self.old ++ more.now) }
         ensures refused { OnErr result (self.new ≡ self.old) }
     {
-        self.compact();
+        compact(&mut self.bytes, &mut self.start);
         self.bytes.extend_from_slice(more)
     }
 
@@ -120,14 +110,17 @@ fn empty(bytes: &mut Vec<u8>)
     bytes.shrink_to(KEPT);
 }
 
-// Forgets the first `n` bytes.
-fn cut_front(bytes: &mut Vec<u8>, n: usize)
-    requires { n ≤ length bytes.old.items }
-    ensures { bytes.new.items ≡ drop n bytes.old.items }
+// Lets the bytes before `start` go, where they are more than the others: those that went lie here for a while, and never more
+// of them than of those that wait.
+fn compact(bytes: &mut Vec<u8>, start: &mut usize)
+    requires { start.old ≤ length bytes.old.items }
+    ensures same { drop start.new bytes.new.items ≡ drop start.old bytes.old.items }
+    ensures few { start.new + start.new ≤ length bytes.new.items }
 {
-    let len = bytes.len();
-    bytes.copy_within(n..len, 0);
-    bytes.truncate(len - n);
+    if *start > bytes.len() - *start {
+        cut_front(bytes, *start);
+        *start = 0;
+    }
 }
 
 // Appends the parts: all of them, or none.

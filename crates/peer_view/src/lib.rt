@@ -21,6 +21,7 @@ mod view_sink;
 mod writer;
 
 pub use alloc_sink::AllocSink;
+pub use front::cut_front;
 pub use history::History;
 pub use mem_reader::MemReader;
 pub use mem_writer::MemWriter;

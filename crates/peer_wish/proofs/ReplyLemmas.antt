@@ -8,7 +8,8 @@ use Rattle.peer_reply.specs.Texts.{fault_reply, answer_reply}
 use Rattle.peer_reply.specs.declared.wish.Wish.{Wish}
 use Rattle.peer_reply.specs.declared.wish.WishBody.{WishBody}
 use Rattle.peer_reply.specs.declared.wish.WishBody.TheVariants as body
-use Rattle.peer_wish.specs.Replies.{IsReply, RepliesTo, Replies}
+use Rattle.peer_wish.specs.Ends.{IsAnswered}
+use Rattle.peer_wish.specs.Replies.{IsReply, RepliesTo, Replies, AreReplies}
 
 pub Replies-append : (answers : ℕ → List ℕ → Answer → Type 0) (ws vs : List Wish) (rs ss : List (List ℕ)) → Replies answers ws rs → Replies answers vs ss → Replies answers (ws ++ vs) (rs ++ ss)
 Replies-append answers [] vs rs ss h k = subst (λ x. Replies answers vs (x ++ ss)) (sym h) k
@@ -50,3 +51,9 @@ module _ (A B : ℕ → List ℕ → Answer → Type 0) (carries : (closing bare
   pub replies : (ws : List Wish) (rs : List (List ℕ)) → Replies A ws rs → Replies B ws rs
   replies [] rs h = h
   replies (w ∷ ws) rs h = (h.0, h.1, h.2, replies_to w.closing w.bare w.body h.0 h.3, replies ws h.1 h.4)
+
+  pub are_replies : (ws : List Wish) (o : List ℕ) → AreReplies A ws o → AreReplies B ws o
+  are_replies ws o h = record { replies = h.replies; each = replies ws h.replies h.each; all = h.all }
+
+  pub answered_under : (AreOf : List Wish → Type 0) (o : List ℕ) → IsAnswered A AreOf o → IsAnswered B AreOf o
+  answered_under AreOf o h = record { wishes = h.wishes; are = h.are; replies = are_replies h.wishes o h.replies }

@@ -9,8 +9,7 @@ use Rattle.peer_head.proofs.BlockLaws.{leaves_less_law}
 use Rattle.peer_head.proofs.LookSearch.{looks_some_way_law}
 use Rattle.peer_flight.specs.Events.{REPLIES}
 use Rattle.peer_reply.specs.declared.wish.Wish.{Wish}
-use Rattle.peer_wish.specs.Wishes.{fault_wish, head_wish, closes_after}
-use Rattle.peer_wish.specs.Laws.{IsWhole}
+use Rattle.peer_wish.specs.Wishes.{fault_wish, head_wish, closes_after, IsWhole}
 use Rattle.peer_wish.specs.Nexts.{IsNextWish, AsksOpen}
 use Rattle.peer_wish.proofs.WishLemmas.{fault_next, head_next, next_closes, next_stays, next_block}
 use Rattle.peer_wish.proofs.WishLemmas.{Open-none, Open-one, Open-append, Closed-one, Closed-append}

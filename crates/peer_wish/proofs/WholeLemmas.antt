@@ -13,9 +13,10 @@ use Rattle.peer_reply.specs.declared.wish.Wish.{Wish}
 use Rattle.peer_reply.specs.declared.wish.WishBody.{WishBody}
 use Rattle.peer_reply.specs.declared.wish.WishBody.TheVariants as body
 use Rattle.peer_flight.specs.Events.{REPLIES}
-use Rattle.peer_wish.specs.Wishes.{Asks, IsWish, no_head, refused, asked, fault_wish, head_wish, AsksInTurn, IsLastWish, too_long, closes, closes_after, OpenWishes, ClosedWishes, AreFirst, AreAll}
+use Rattle.peer_wish.specs.Wishes.{Asks, IsWish, no_head, refused, asked, fault_wish, head_wish, AsksInTurn, IsLastWish, too_long, closes, closes_after, OpenWishes, ClosedWishes, AreFirst, AreAll, IsWhole}
+use Rattle.peer_wish.specs.Allowed.{only}
 use Rattle.peer_wish.specs.Replies.{IsReply, RepliesTo, Replies}
-use Rattle.peer_wish.specs.Laws.{IsWhole, BeginsWith, HasOneListOfWishes, BeginsWithFirst, KeepsWishes, EndsWithClosing, RepliesAgree}
+use Rattle.peer_wish.specs.Laws.{BeginsWith, HasOneListOfWishes, BeginsWithFirst, KeepsWishes, EndsWithClosing, RepliesAgree}
 use Rattle.peer_wish.proofs.WishLemmas.{Open-extend}
 
 module _ (numbers : List ℕ → Option ℕ) where
@@ -198,14 +199,14 @@ ends_with_closing_law numbers n t more ws vs h k =
 
 module _ (answer : ℕ → List ℕ → Answer) where
   -- a wish has one reply
-  pub reply_unique : (w : Wish) (r q : List ℕ) → IsReply (λ g k a. a ≡ answer g k) w r → IsReply (λ g k a. a ≡ answer g k) w q → r ≡ q
+  pub reply_unique : (w : Wish) (r q : List ℕ) → IsReply (only answer) w r → IsReply (only answer) w q → r ≡ q
   reply_unique w r q x y = by_body w.closing w.bare w.body x y
     where
-      by_body : (c b : Bool) (body : WishBody) → RepliesTo (λ g k a. a ≡ answer g k) c b body r → RepliesTo (λ g k a. a ≡ answer g k) c b body q → r ≡ q
+      by_body : (c b : Bool) (body : WishBody) → RepliesTo (only answer) c b body r → RepliesTo (only answer) c b body q → r ≡ q
       by_body c b (body.Fault f) x y = x ∙ sym y
       by_body c b (body.Get g k) x y = x.2 ∙ ap (answer_reply c b) (x.1 ∙ sym y.1) ∙ sym y.2
 
-  pub replies_begin : (ws xs : List Wish) (rs ss : List (List ℕ)) → Replies (λ g k a. a ≡ answer g k) ws rs → Replies (λ g k a. a ≡ answer g k) (ws ++ xs) ss → BeginsWith ss rs
+  pub replies_begin : (ws xs : List Wish) (rs ss : List (List ℕ)) → Replies (only answer) ws rs → Replies (only answer) (ws ++ xs) ss → BeginsWith ss rs
   replies_begin [] xs rs ss h k = (ss, ap (λ v. v ++ ss) (sym h))
   replies_begin (w ∷ ws) xs rs ss h k =
       let rest = replies_begin ws xs h.1 k.1 h.4 k.4 in
@@ -214,6 +215,6 @@ module _ (answer : ℕ → List ℕ → Answer) where
 pub replies_agree_law : RepliesAgree
 replies_agree_law numbers answer n t ws vs rs ss h k x y =
     elim (first_compare numbers n t ws vs h k) as (λ _. BeginsWith ss rs ⊎ BeginsWith rs ss) [
-      | inl d ↦ inl (replies_begin answer ws d.0 rs ss x (subst (λ v. Replies (λ g k a. a ≡ answer g k) v ss) d.1 y))
-      | inr d ↦ inr (replies_begin answer vs d.0 ss rs y (subst (λ v. Replies (λ g k a. a ≡ answer g k) v rs) d.1 x))
+      | inl d ↦ inl (replies_begin answer ws d.0 rs ss x (subst (λ v. Replies (only answer) v ss) d.1 y))
+      | inr d ↦ inr (replies_begin answer vs d.0 ss rs y (subst (λ v. Replies (only answer) v rs) d.1 x))
     ]

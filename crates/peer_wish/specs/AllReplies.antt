@@ -2,7 +2,7 @@
 use Rattle.std.specs.Prelude.{ℕ, List, Option}
 use Rattle.peer_source.specs.Answers.{Answer}
 use Rattle.peer_reply.specs.declared.wish.Wish.{Wish}
-use Rattle.peer_wish.specs.Laws.{IsWhole}
+use Rattle.peer_wish.specs.Wishes.{IsWhole}
 use Rattle.peer_wish.specs.Replies.{Replies}
 
 -- all replies to a text under some list of answers, each once, in request order, and nothing after a closing one

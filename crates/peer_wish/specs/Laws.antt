@@ -3,12 +3,9 @@ use Rattle.std.specs.Prelude.{◌≡◌, ℕ, ◌<◌, ◌⊎◌, List, [], ◌+
 use Rattle.peer_source.specs.Answers.{Answer}
 use Rattle.peer_reply.specs.declared.wish.Wish.{Wish}
 use Rattle.peer_flight.specs.Events.{REPLIES}
-use Rattle.peer_wish.specs.Wishes.{ClosedWishes, AreFirst, AreAll}
+use Rattle.peer_wish.specs.Wishes.{ClosedWishes, AreFirst, IsWhole}
+use Rattle.peer_wish.specs.Allowed.{only}
 use Rattle.peer_wish.specs.Replies.{Replies}
-
--- all wishes of a text, after n others: the last one closes, or none does and what is left is unfinished
-abbrev pub IsWhole : (List ℕ → Option ℕ) → ℕ → List ℕ → List Wish → Type 0
-IsWhole numbers n t ws = ClosedWishes numbers n t ws ⊎ ((rest : List ℕ) × AreAll numbers n t ws rest)
 
 -- a list begins with another
 abbrev pub BeginsWith : {A : Type 0} → List A → List A → Type 0
@@ -42,4 +39,4 @@ EndsWithClosing = (numbers : List ℕ → Option ℕ) (n : ℕ) (t more : List �
 abbrev pub RepliesAgree : Type 0
 RepliesAgree = (numbers : List ℕ → Option ℕ) (answer : ℕ → List ℕ → Answer) (n : ℕ) (t : List ℕ) (ws vs : List Wish)
     (rs ss : List (List ℕ)) → AreFirst numbers n t ws → AreFirst numbers n t vs →
-    Replies (λ g k a. a ≡ answer g k) ws rs → Replies (λ g k a. a ≡ answer g k) vs ss → BeginsWith ss rs ⊎ BeginsWith rs ss
+    Replies (only answer) ws rs → Replies (only answer) vs ss → BeginsWith ss rs ⊎ BeginsWith rs ss

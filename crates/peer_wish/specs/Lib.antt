@@ -1,5 +1,6 @@
 pub mod Allowed
 pub mod AllReplies
+pub mod Ends
 pub mod Known
 pub mod Laws
 pub mod LentWishes

@@ -118,3 +118,7 @@ AreFirst numbers n t ws = ((u : List ℕ) × OpenWishes numbers n t ws u) ⊎ Cl
 pub record AreAll (numbers : List ℕ → Option ℕ) (n : ℕ) (t : List ℕ) (ws : List Wish) (rest : List ℕ) : Type 0 where
   pub opens : OpenWishes numbers n t ws rest
   pub unfinished : IsUnfinished rest
+
+-- all wishes of a text, after n others: the last one closes, or none does and what is left is unfinished
+abbrev pub IsWhole : (List ℕ → Option ℕ) → ℕ → List ℕ → List Wish → Type 0
+IsWhole numbers n t ws = ClosedWishes numbers n t ws ⊎ ((rest : List ℕ) × AreAll numbers n t ws rest)

@@ -1,9 +1,9 @@
-//! A client of a pool that asks for keys, and rings for each.
+//! A client of a pool that asks for keys, and wakes who fetches for each.
 ghost use Rattle.peer_fill.specs.Pools.{IsConnSeatOf};
 
-use peer_fetch::FetchBell;
 use peer_fill::{ConnSeat, Pool};
 use peer_flight::Claim;
+use peer_poll::PollWaker;
 use peer_source::{Fill, Outcome, Source};
 use std::alloc::Global;
 use std::sync::Wait;
@@ -67,13 +67,13 @@ impl Answered {
     }
 }
 
-/// A client of a pool, and the bell of the thread that fetches.
+/// A client of a pool, and what wakes the thread that fetches.
 #[derive(Drop)]
 pub struct Client<'p, S: Source, L: Ledger, R> {
     pub rt: &'p R,
     pub alloc: Global,
     pub pool: &'p Pool<S, L>,
-    pub bell: &'p FetchBell,
+    pub waker: &'p PollWaker,
 }
 
 impl<'p, S: Source, L: Ledger, R: Wait> Client<'p, S, L, R> {
@@ -83,7 +83,7 @@ impl<'p, S: Source, L: Ledger, R: Wait> Client<'p, S, L, R> {
         ensures { IsConnSeatOf self.now.pool.now seat.new }
     {
         let claim = ask_for(self.rt, self.alloc, self.pool, seat, key);
-        let _ = self.bell.ring();
+        let _ = self.waker.wake_asleep();
         claim
     }
 

@@ -1,9 +1,12 @@
 //! What clients of a fetch thread ask for, and what they and the origin are to see.
 
 use super::asking::{Plan, Texts};
+use super::lookup::{LOOPBACK, TWO_ADDRESSES};
 use super::running::{Seen, Setting, patient, see_over};
 use peer_fetch::FetchThreadSettings;
+use peer_fill::Report;
 use peer_origin::FetchSettings;
+use peer_stats::FailureCounts;
 use std::alloc::Global;
 use std::marker::Brand;
 use std::net::{Net, TcpListener, TcpStream};
@@ -79,9 +82,31 @@ const ENDING: Texts<'static> = &[
 // A value that does not come in its time.
 const LATE: Texts<'static> = &[(b"late", b"origin timed out"), (b"plain", b"plain")];
 
+// A value that comes later than an address is given up.
+const SLOW: Texts<'static> = &[(b"slow", b"slow"), (b"plain", b"plain")];
+
+// `closing` says that its connection is closed, which stays open; on a kept connection `stale` would be asked for twice.
+const CLOSING: Texts<'static> = &[(b"closing", b"closing"), (b"stale", b"stale")];
+
+// Values from an origin whose first address refuses.
+const PLAIN: Texts<'static> = &[(b"plain", b"plain"), (b"chunked", b"chunked")];
+
+// Nothing was counted.
+const NO_FAILURE: FailureCounts = FailureCounts {
+    no_such_key: 0,
+    status: 0,
+    unreached: 0,
+    late: 0,
+    lost: 0,
+    malformed: 0,
+    too_long: 0,
+    memory: 0,
+};
+
 // A client that asks for these texts.
 fn of_texts(texts: Texts<'_>, settings: FetchThreadSettings) -> Setting<'_> {
     Setting {
+        host: LOOPBACK,
         hold: 0,
         plan: Plan {
             texts,
@@ -96,6 +121,7 @@ fn of_texts(texts: Texts<'_>, settings: FetchThreadSettings) -> Setting<'_> {
 // many requests are open.
 fn of_numbers(in_turn: u32, together: u32, hold: usize) -> Setting<'static> {
     Setting {
+        host: LOOPBACK,
         hold,
         plan: Plan {
             texts: &[],
@@ -130,6 +156,27 @@ fn hasty() -> FetchThreadSettings {
     }
 }
 
+// A thread that gives an address up at once, and no value.
+fn brisk() -> FetchThreadSettings {
+    let patient = patient();
+    FetchThreadSettings {
+        fetch: FetchSettings {
+            connect: Duration::from_millis(100),
+            ..patient.fetch
+        },
+        ..patient
+    }
+}
+
+// What is seen of a setting, and the report of its pool.
+fn see<H: Net<Listener = TcpListener, Stream = TcpStream> + Threads + Wait + Clock + Sync>(
+    rt: &H,
+    alloc: Global,
+    setting: Setting<'_>,
+) -> Option<(Seen, Option<Report>)> {
+    see_over::<Brand, H>(rt, alloc, setting, Blank::new(16))
+}
+
 // Whether a client is answered as it is to be, each key leads a call, and the origin sees this load, if it is looked at.
 fn is_right<H: Net<Listener = TcpListener, Stream = TcpStream> + Threads + Wait + Clock + Sync>(
     rt: &H,
@@ -137,7 +184,7 @@ fn is_right<H: Net<Listener = TcpListener, Stream = TcpStream> + Threads + Wait 
     setting: Setting<'_>,
     load: Option<Load>,
 ) -> bool {
-    match see_over::<Brand, H>(rt, alloc, setting, Blank::new(16)) {
+    match see(rt, alloc, setting) {
         Some((seen, report)) => {
             seen.answered.is_right()
                 && report == Some(all_called(setting.plan.asks()))
@@ -176,6 +223,24 @@ fn each_client_is_answered_as_it_is_to_be(rt: HostRuntime) -> Result<(), Fail> {
             None,
         ),
         (
+            "the time of an address is not that of a value",
+            of_texts(SLOW, brisk()),
+            Load::in_turn(2),
+        ),
+        (
+            "no connection is kept that its origin is to close",
+            of_texts(CLOSING, patient()),
+            Load::in_turn(2),
+        ),
+        (
+            "the second address is tried where the first refuses",
+            Setting {
+                host: TWO_ADDRESSES,
+                ..of_texts(PLAIN, patient())
+            },
+            Load::in_turn(2),
+        ),
+        (
             "two hundred values are under way",
             of_numbers(0, 300, 200),
             Load::together(300, 200),
@@ -189,4 +254,40 @@ fn each_client_is_answered_as_it_is_to_be(rt: HostRuntime) -> Result<(), Fail> {
         assert!(rt; is_right(&rt, rt.alloc(), setting, load), "{what}");
     }
     Ok(())
+}
+
+// What is counted of a client's values that were not fetched.
+fn failures_of<H: Net<Listener = TcpListener, Stream = TcpStream> + Threads + Wait + Clock + Sync>(
+    rt: &H,
+    alloc: Global,
+    texts: Texts<'_>,
+) -> Option<FailureCounts> {
+    match see(rt, alloc, of_texts(texts, patient())) {
+        Some((seen, _)) => Some(seen.failures),
+        None => None,
+    }
+}
+
+#[test]
+fn each_value_that_is_not_fetched_is_counted_by_why(rt: HostRuntime) {
+    let counted = failures_of(&rt, rt.alloc(), ROWS);
+    assert!(rt;
+        counted
+            == Some(FailureCounts {
+                no_such_key: 1,
+                status: 1,
+                lost: 2,
+                malformed: 1,
+                too_long: 1,
+                ..NO_FAILURE
+            })
+    );
+    let of_an_end = failures_of(&rt, rt.alloc(), ENDING);
+    assert!(rt;
+        of_an_end
+            == Some(FailureCounts {
+                unreached: 2,
+                ..NO_FAILURE
+            })
+    );
 }

@@ -12,6 +12,9 @@ use std::time::{Clock, Duration};
 // For how many looks of a millisecond at least an origin runs at most.
 const LOOKS: u32 = 60_000;
 
+// For how many milliseconds a reply waits that comes late.
+const WHILE: u64 = 300;
+
 /// What is told to an origin and what it tells.
 #[derive(Drop)]
 pub struct Told {
@@ -107,16 +110,26 @@ impl Caller {
         }
     }
 
+    // Sends a text, and takes the next request.
+    fn keep(&mut self, text: &[u8]) {
+        self.send(text);
+        self.request.clear();
+        self.is_first = false;
+    }
+
     // Replies, where its request is whole. Whether the origin is to end.
-    fn reply(&mut self, alloc: Global) -> bool {
+    fn reply<H: Clock>(&mut self, rt: &H, alloc: Global) -> bool {
         let Ok(reply) = reply_to(alloc, self.key(), self.is_first) else {
             return false;
         };
         match reply {
             Reply::Keep(text) => {
-                self.send(&text);
-                self.request.clear();
-                self.is_first = false;
+                self.keep(&text);
+                false
+            }
+            Reply::KeepLate(text) => {
+                thread::sleep(rt, Duration::from_millis(WHILE));
+                self.keep(&text);
                 false
             }
             Reply::Close(text) => {
@@ -145,11 +158,11 @@ fn read_all(callers: &mut Vec<Caller>, told: &Told) -> usize {
 }
 
 // Replies to all whose requests are whole. Whether the origin is to end.
-fn reply_all(alloc: Global, callers: &mut Vec<Caller>) -> bool {
+fn reply_all<H: Clock>(rt: &H, alloc: Global, callers: &mut Vec<Caller>) -> bool {
     let mut ends = false;
     for caller in callers.iter_mut() {
         if caller.is_whole() {
-            ends |= caller.reply(alloc);
+            ends |= caller.reply(rt, alloc);
         }
     }
     ends
@@ -170,7 +183,7 @@ pub fn serve<H: Clock>(rt: &H, alloc: Global, listener: TcpListener, hold: usize
         let open = read_all(&mut callers, told);
         let _ = told.open.fetch_max(open, SeqCst);
         held &= open < hold;
-        if !held && reply_all(alloc, &mut callers) {
+        if !held && reply_all(rt, alloc, &mut callers) {
             return;
         }
         thread::sleep(rt, Duration::from_millis(1));

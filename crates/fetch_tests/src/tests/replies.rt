@@ -7,6 +7,8 @@ use std::alloc::{AllocError, Global};
 pub enum Reply {
     /// It sends this, and keeps the connection.
     Keep(Vec<u8>),
+    /// It sends this after a while, and keeps the connection.
+    KeepLate(Vec<u8>),
     /// It sends this, and closes the connection.
     Close(Vec<u8>),
     /// It sends nothing.
@@ -44,6 +46,10 @@ const KEPT: Table = &[
     (
         b"chunked",
         b"HTTP/1.1 200 OK\r\ntransfer-encoding: chunked\r\n\r\n3\r\nchu\r\n4\r\nnked\r\n0\r\n\r\n",
+    ),
+    (
+        b"closing",
+        b"HTTP/1.1 200 OK\r\nconnection: close\r\ncontent-length: 7\r\n\r\nclosing",
     ),
     (
         b"early",
@@ -84,6 +90,9 @@ pub fn reply_to(alloc: Global, key: &[u8], is_first: bool) -> Result<Reply, Allo
     }
     if key == b"stale".as_slice() && !is_first {
         return Ok(Reply::Close(Vec::new(alloc)));
+    }
+    if key == b"slow".as_slice() {
+        return Ok(Reply::KeepLate(echo(alloc, key)?));
     }
     if key == b"late".as_slice() {
         return Ok(Reply::Never);

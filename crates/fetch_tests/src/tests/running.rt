@@ -4,13 +4,15 @@ ghost use Rattle.peer_fill.specs.Pools.{source_of, IsConnSeatOf, IsFillSeatOf};
 ghost use Rattle.peer_fetch.specs.Threads.{Allows};
 
 use super::asking::{Answered, Client, Plan};
+use super::lookup::endpoint_of;
 use super::origin::{Told, serve};
-use peer_fetch::{Endpoints, FetchBell, FetchParts, FetchPlan, FetchThread, FetchThreadSettings};
+use peer_fetch::{Endpoints, FetchParts, FetchPlan, FetchThread, FetchThreadSettings};
 use peer_fill::{ConnSeat, FillSeat, NoGate, Pool, Report, Seats, pop_seat};
 use peer_host::{Host, Network};
-use peer_origin::{Endpoint, FetchSettings, Origin, OriginSource};
+use peer_origin::{FetchSettings, Origin, OriginSource};
+use peer_poll::{PollWaker, PollWakers};
 use peer_source::Source;
-use peer_stats::Counters;
+use peer_stats::{Counters, FailureCounts};
 use std::alloc::Global;
 use std::net::TcpListener;
 use std::sync::atomic::Ordering::SeqCst;
@@ -19,20 +21,23 @@ use std::thread;
 use std::time::Duration;
 use test_support::{close_pool, open_pool, push_seat};
 
-/// What is run: an origin that holds its replies back until so many requests were open, and a client's plan.
+/// What is run: an origin at a host, which holds its replies back until so many requests were open, and a client's plan.
 #[derive(Clone, Copy)]
 pub struct Setting<'k> {
+    pub host: &'k str,
     pub hold: usize,
     pub plan: Plan<'k>,
     pub settings: FetchThreadSettings,
 }
 
-/// What was seen: by the client, and by the origin, how many requests came and how many were open at most.
+/// What was seen: by the client; by the origin, how many requests came and how many were open at most; and what was counted of
+/// values that were not fetched.
 #[derive(Clone, Copy, Debug, PartialEq, Eq)]
 pub struct Seen {
     pub answered: Answered,
     pub requests: usize,
     pub open: usize,
+    pub failures: FailureCounts,
 }
 
 // An origin and the plan of its client.
@@ -49,7 +54,7 @@ fn ask_beside<S: Source, L: Ledger + Send + Sync, H: Host>(
     alloc: Global,
     pool: &Pool<S, L>,
     conn: ConnSeat<S, L>,
-    bell: &FetchBell,
+    waker: &PollWaker,
     beside: Beside<'_, '_>,
 ) -> (ConnSeat<S, L>, Answered)
     requires conn { IsConnSeatOf pool.now conn }
@@ -72,16 +77,23 @@ fn ask_beside<S: Source, L: Ledger + Send + Sync, H: Host>(
                 rt,
                 alloc,
                 pool,
-                bell,
+                waker,
             };
             let answered = client.ask_all(&mut conn, setting.plan);
             told.stopping.store(true, SeqCst);
-            bell.stop();
+            waker.close();
             (conn, answered)
         },
     );
     asked
 }
+
+// No thread fetched.
+const UNANSWERED: Answered = Answered {
+    wrong_text: None,
+    in_turn: false,
+    together: false,
+};
 
 // Runs a fetch thread beside an origin and a client.
 fn run_all<S: Source, L: Ledger + Send + Sync, H: Host>(
@@ -89,7 +101,7 @@ fn run_all<S: Source, L: Ledger + Send + Sync, H: Host>(
     alloc: Global,
     pool: &Pool<S, L>,
     seats: (FillSeat<S, L>, ConnSeat<S, L>),
-    running: (FetchThread<'_>, FetchBell),
+    running: (FetchThread<'_>, PollWakers),
     beside: Beside<'_, '_>,
 ) -> (FillSeat<S, L>, ConnSeat<S, L>, Answered)
     requires fill { IsFillSeatOf pool.now seats.0 }
@@ -99,19 +111,21 @@ fn run_all<S: Source, L: Ledger + Send + Sync, H: Host>(
     ensures conn { IsConnSeatOf pool.now result.1 }
 {
     let (fill, conn) = seats;
-    let (thread, bell) = running;
-    let bell = &bell;
+    let (thread, wakers) = running;
+    let Some(waker) = wakers.at(0) else {
+        return (fill, conn, UNANSWERED);
+    };
     let (fill, (conn, answered)) = thread::join(
         rt,
         move || -> FillSeat<S, L>
             requires fill { IsFillSeatOf pool.now fill }
             requires answers { Allows (S.answers (source_of pool.now)) thread.plan }
             ensures { IsFillSeatOf pool.entry.now result }
-        { thread.run(rt, pool, fill, bell, &NoGate) },
+        { thread.run(rt, pool, fill, waker, &NoGate) },
         move || -> (ConnSeat<S, L>, Answered)
             requires conn { IsConnSeatOf pool.now conn }
             ensures { IsConnSeatOf pool.entry.now result.0 }
-        { ask_beside(rt, alloc, pool, conn, bell, beside) },
+        { ask_beside(rt, alloc, pool, conn, waker.own, beside) },
     );
     (fill, conn, answered)
 }
@@ -122,7 +136,7 @@ fn use_lists<S: Source, L: Ledger + Send + Sync, H: Host>(
     alloc: Global,
     pool: &Pool<S, L>,
     lists: &mut Seats<S, L>,
-    running: (FetchThread<'_>, FetchBell),
+    running: (FetchThread<'_>, PollWakers),
     beside: Beside<'_, '_>,
 ) -> Option<Answered>
     requires fills { All (IsFillSeatOf pool.now) lists.old.fills.items }
@@ -144,7 +158,7 @@ fn run_opened<S: Source, L: Ledger + Send + Sync, H: Host>(
     rt: &H,
     alloc: Global,
     opened: (Pool<S, L>, Seats<S, L>),
-    running: (FetchThread<'_>, FetchBell),
+    running: (FetchThread<'_>, PollWakers),
     beside: Beside<'_, '_>,
 ) -> (Option<Answered>, Option<Report>)
     requires fills { All (IsFillSeatOf opened.0) opened.1.fills.items }
@@ -156,13 +170,6 @@ fn run_opened<S: Source, L: Ledger + Send + Sync, H: Host>(
     (answered, close_pool(rt, pool, lists))
 }
 
-// The endpoint of the listener, under the prefix `/v/`.
-fn endpoint_of<H: Network>(rt: &H, alloc: Global, listener: &TcpListener) -> Option<Endpoint> {
-    let port = listener.local_addr().ok()?.port();
-    let url = format!(in alloc; "http://127.0.0.1:{port}/v/").ok()?;
-    Endpoint::of_url(rt, alloc, &url).ok()
-}
-
 /// A listener, and the origins at its endpoint.
 #[derive(Drop)]
 pub struct Prepared {
@@ -170,24 +177,24 @@ pub struct Prepared {
     pub origins: Vec<Origin>,
 }
 
-/// A listener on a free port of the loopback address.
-pub fn prepare<H: Network>(rt: &H, alloc: Global) -> Option<Prepared> {
+/// A listener on a free port of the loopback address, which this host is to have.
+pub fn prepare<H: Network>(rt: &H, alloc: Global, host: &str) -> Option<Prepared> {
     let listener = TcpListener::bind(rt, "127.0.0.1:0").ok()?;
     let mut origins = Vec::new(alloc);
-    let endpoint = endpoint_of(rt, alloc, &listener)?;
+    let endpoint = endpoint_of(alloc, &listener, host, "")?;
     let name = b"echo".to_vec(alloc).ok()?;
     origins.push(Origin::new(alloc, name, endpoint)).ok()?;
     Some(Prepared { listener, origins })
 }
 
-// What is seen of a setting at the endpoints of these origins.
+// What is seen of a setting at the endpoints of these origins, and what was counted of values that were not fetched.
 fn see_at<L: Ledger + Send + Sync, H: Host>(
     rt: &H,
     alloc: Global,
     origins: Vec<Origin>,
     beside: Beside<'_, '_>,
     blank: Blank,
-) -> Option<(Option<Answered>, Option<Report>)>
+) -> Option<(Option<Answered>, Option<Report>, FailureCounts)>
     requires name { blank.name ≡ L.name }
     requires parts { (blank.parts ≡ L.parts) × (blank.parts ≡ 16) }
 {
@@ -195,7 +202,10 @@ fn see_at<L: Ledger + Send + Sync, H: Host>(
     let counters = Counters::new();
     let source = OriginSource::new(rt, counters.failures(), origins, settings.fetch);
     let endpoints = source.endpoints(alloc).ok()?;
-    let (parts, bell) = FetchParts::new(rt, alloc, endpoints.len())?;
+    let (parts, waker) = FetchParts::new(rt, alloc, endpoints.len())?;
+    let mut each = Vec::new(alloc);
+    each.push(waker).ok()?;
+    let wakers = PollWakers { each };
     let plan = FetchPlan {
         endpoints: Endpoints {
             first: 0,
@@ -204,12 +214,13 @@ fn see_at<L: Ledger + Send + Sync, H: Host>(
         settings,
         failures: counters.failures(),
     };
-    let running = (FetchThread::new(alloc, parts, plan), bell);
+    let running = (FetchThread::new(alloc, parts, plan), wakers);
     let opened = open_pool::<OriginSource<'_, H>, L>(alloc, source, 0, 1, 1, blank);
-    match opened {
-        Some(opened) => Some(run_opened(rt, alloc, opened, running, beside)),
-        None => None,
-    }
+    let Some(opened) = opened else {
+        return None;
+    };
+    let (answered, report) = run_opened(rt, alloc, opened, running, beside);
+    Some((answered, report, counters.failures().read()))
 }
 
 /// What is seen of a setting, and the report of its pool.
@@ -222,18 +233,19 @@ pub fn see_over<L: Ledger + Send + Sync, H: Host>(
     requires name { blank.name ≡ L.name }
     requires parts { (blank.parts ≡ L.parts) × (blank.parts ≡ 16) }
 {
-    let Prepared { listener, origins } = prepare(rt, alloc)?;
+    let Prepared { listener, origins } = prepare(rt, alloc, setting.host)?;
     let told = Told::new();
     let beside = Beside {
         listener,
         told: &told,
         setting,
     };
-    let (answered, report) = see_at::<L, H>(rt, alloc, origins, beside, blank)?;
+    let (answered, report, failures) = see_at::<L, H>(rt, alloc, origins, beside, blank)?;
     let seen = Seen {
         answered: answered?,
         requests: told.requests.load(SeqCst),
         open: told.open.load(SeqCst),
+        failures,
     };
     Some((seen, report))
 }

@@ -1,6 +1,7 @@
 //! A whole server in front of an origin: its loops wake the thread that fetches, and that thread wakes the loops.
 ghost use Rattle.peer_fetch.specs.Threads.{Allows};
 
+use super::lookup::LOOPBACK;
 use super::origin::{Told, serve};
 use super::running::{Prepared, patient, prepare};
 use peer_fetch::{Endpoints, FetchPlan};
@@ -145,7 +146,7 @@ fn serve_prepared<
         + Clock
         + Sync,
 >(rt: &'x H, outside: &'x Outside) -> Option<bool> {
-    let Prepared { listener, origins } = prepare(rt, rt.alloc())?;
+    let Prepared { listener, origins } = prepare(rt, rt.alloc(), LOOPBACK)?;
     let source = OriginSource::new(rt, outside.counters.failures(), origins, patient().fetch);
     let endpoints = source.endpoints(rt.alloc()).ok()?;
     let fetched = Counters::new();

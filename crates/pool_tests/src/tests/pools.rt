@@ -10,4 +10,5 @@ mod halves;
 mod numbering;
 mod opening;
 mod refills;
+mod taken;
 mod threads;

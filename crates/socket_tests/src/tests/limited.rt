@@ -110,3 +110,17 @@ fn a_client_that_takes_nothing_is_closed(rt: HostRuntime) -> Result<(), Fail> {
     }
     Ok(())
 }
+
+#[test]
+fn the_usual_limits_are_those_that_users_are_told(rt: HostRuntime) {
+    let told = Limits {
+        tick: Duration::from_secs(1),
+        silence: Duration::from_secs(60),
+        silence_when_full: Duration::from_secs(1),
+        request_when_full: Duration::from_secs(10),
+        unread: Duration::from_secs(10),
+        linger: Duration::from_secs(1),
+        pause: Duration::from_millis(10),
+    };
+    assert_eq!(rt; Limits::usual(), told);
+}

@@ -2,7 +2,7 @@
 ghost use Rattle.std.specs.Prelude.{◌≡◌, ◌-◌, ◌^◌, ◌<◌, length};
 
 use crate::tests::inputs::view_of;
-use peer_view::{ByteView, MemWriter, TextFault, WriteFault};
+use peer_view::{ByteView, MemWriter, TextFault, WriteFault, cut_front};
 use std::alloc::{AllocError, Global};
 
 fn hello() -> ByteView
@@ -27,6 +27,22 @@ fn lends_its_parts(rt: HostRuntime) {
     let (front, back) = view.parts_at(2);
     assert!(rt; front == b"he".as_slice());
     assert!(rt; back == b"llo".as_slice());
+}
+
+// What is left of `hello` without its first two bytes.
+fn hello_cut(alloc: Global) -> Result<Vec<u8>, AllocError> {
+    let mut bytes = Vec::new(alloc);
+    bytes.extend_from_slice(b"hello")?;
+    cut_front(&mut bytes, 2);
+    Ok(bytes)
+}
+
+#[test]
+fn a_front_is_forgotten(rt: HostRuntime) {
+    match hello_cut(rt.alloc()) {
+        Ok(bytes) => assert!(rt; bytes.as_slice() == b"llo".as_slice()),
+        Err(_) => assert!(rt; false),
+    }
 }
 
 // Whether memory was had for a view of these bytes.

@@ -17,7 +17,7 @@ use std::thread::Threads;
 use test_support::{all_called, ask_in, close_pool, open_pool, work_all};
 
 // Takes a while, in which a thread that waits falls asleep.
-fn take_a_while() {
+pub(super) fn take_a_while() {
     for _ in 0..1_000_000 {
         spin_loop();
     }

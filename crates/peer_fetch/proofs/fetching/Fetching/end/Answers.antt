@@ -9,5 +9,5 @@ returns-in-Ok-clause-found c =
     let new = c.end.new.self in
     let r = c.in-Ok.reply in
     answers_at_end f.request.items f.sent new.came.bytes f.first r.status r.value.items
-    c.requires.whole (subst (λ m. length r.value.items ≤ m) f.most c.in-Ok.ensures.within) c.answer_of.result.value c.answer_of.ensures
+    c.requires.whole (subst (λ m. length r.value.items ≤ m) f.most c.in-Ok.ensures.within) c.answer_of.result.value c.answer_of.ensures.value
     (subst (λ t. ∥ IsReply t r.status r.value.items ∥₁) (sym c.in-Ok.ensures.came) c.in-Ok.ensures.reply)

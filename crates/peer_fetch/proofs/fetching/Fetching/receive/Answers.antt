@@ -11,4 +11,4 @@ returns-in-Ok-Some-clause-found c =
     let within = subst (λ x. IfSome x (λ r. length r.value.items ≤ new.most)) given.field-0-is given.ensures.within in
     let reply = subst (λ x. IfSome x (λ r. ∥ IsStanding new.came.bytes r.status r.value.items ∥₁)) given.field-0-is given.ensures.reply in
     answers_standing f.request.items f.sent new.came.bytes f.first given.reply.status given.reply.value.items
-    c.requires.whole (subst (λ m. length given.reply.value.items ≤ m) (given.ensures.most ∙ f.most) within) f.ended c.answer_of.result.value c.answer_of.ensures reply
+    c.requires.whole (subst (λ m. length given.reply.value.items ≤ m) (given.ensures.most ∙ f.most) within) f.ended c.answer_of.result.value c.answer_of.ensures.value reply

@@ -2,7 +2,7 @@ use Rattle.std.proofs.Common.{◌≡◌, refl, ap, arith}
 use Rattle.peer_fill.specs.Seats.{conn_parts}
 use Rattle.peer_fill.proofs.Moving.{all_push}
 use Rattle.peer_fill.proofs.Lasts.{sum_last}
-use Rattle.peer_loop.specs.Parts.{filling_parts}
+use Rattle.peer_clients.specs.Parts.{filling_parts}
 use Rattle.peer_loop.proofs.StartLemmas.{hands_out}
 use Rattle.peer_loop.proofs.server_threads.ServerThreads.start_loop.Goals as goal
 

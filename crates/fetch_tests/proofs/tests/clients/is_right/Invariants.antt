@@ -1,4 +1,0 @@
-use Rattle.fetch_tests.proofs.tests.clients.is_right.Given as goal
-
-abbrev pub ghosts-see_over : goal.ghosts-see_over
-ghosts-see_over g a = record { name = a.blank.name; parts = a.blank.parts }

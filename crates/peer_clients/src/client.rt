@@ -1,0 +1,300 @@
+//! One client of a loop: its stream, its connection, and when it last did something.
+//!
+//! It stands on the connection as a state (`Exchange`), on the seat of its loop, and on what the system reports of the stream.
+//! It promises that the seat stays one of the pool, with its parts, and that the connection stays one of the pool's source.
+ghost use Rattle.std.specs.Prelude.{◌≡◌, Some};
+ghost use Rattle.peer_clients.specs.Parts.{KeepsParts};
+
+use crate::activity::Activity;
+use crate::client_state::ClientState;
+use crate::facts::Facts;
+use crate::limits::{ASKS_OF_ROUND, MAX_UNCOUNTED, ROUNDS_OF_TURN};
+use crate::occupancy::Occupancy;
+use crate::seat::{LoopSeat, Progress};
+use crate::skip::skip;
+use mio::event::Event;
+use mio::net::TcpStream;
+use mio::{Interest, Registry, Token};
+use peer_exchange::Exchange;
+use peer_limits::Limits;
+use peer_poll::{Readiness, was_interrupted, would_block};
+use peer_source::Source;
+use std::cmp::min;
+use std::io;
+use std::io::{Read, Write};
+use std::marker::PhantomData;
+use std::net::Shutdown;
+use std::sync::Wait;
+use std::sync::ledger::Ledger;
+use std::time::Duration;
+
+/// A client.
+#[derive(Drop)]
+pub struct Client<'a, S: Source, F: Facts<S>> {
+    stream: TcpStream,
+    exchange: Exchange<'a, S>,
+    of: PhantomData<F>,
+    readiness: Readiness,
+    // The client told its end.
+    ended: bool,
+    // A call of the stream failed.
+    failed: bool,
+    // The replies are sent, and what still comes is discarded.
+    lingers: bool,
+    skipped: usize,
+    // What is counted of what it holds.
+    counted: usize,
+    /// Whether it is on the list of those that are to have a turn.
+    pub is_ready: bool,
+    /// Whether it is on the list of those that wait for room in the queue of jobs.
+    pub is_for_room: bool,
+    activity: Activity,
+    ghost source: { F.source ≡ Some exchange.names },
+}
+
+impl<'a, S: Source, F: Facts<S>> Client<'a, S, F> {
+    ghost use Rattle.std.specs.Prelude.{◌≡◌, Some};
+    ghost use Rattle.peer_clients.specs.Parts.{KeepsParts};
+
+    /// A client of whom nothing was reported.
+    pub fn new(stream: TcpStream, exchange: Exchange<'a, S>, now: Duration) -> Client<'a, S, F>
+        requires { F.source ≡ Some exchange.names }
+    {
+        Client {
+            stream,
+            exchange,
+            of: PhantomData,
+            readiness: Readiness::unknown(),
+            ended: false,
+            failed: false,
+            lingers: false,
+            skipped: 0,
+            counted: 0,
+            is_ready: false,
+            is_for_room: false,
+            activity: Activity::new(now),
+        }
+    }
+
+    /// Has events of the stream reported under the token.
+    pub fn register(&mut self, registry: &Registry, token: Token) -> io::Result<()> {
+        let interest = Interest::READABLE | Interest::WRITABLE;
+        registry.register(&mut self.stream, token, interest)
+    }
+
+    /// Notes what was reported.
+    pub fn note(&mut self, event: &Event) {
+        self.readiness.note(event);
+    }
+
+    /// The number of the flight whose fill it waits for.
+    pub fn awaits(&self) -> Option<u64> {
+        self.exchange.awaits()
+    }
+
+    // Whether bytes are read.
+    fn reads(&self) -> bool {
+        self.readiness.readable && self.exchange.takes_bytes() && self.exchange.room() > 0
+    }
+
+    // Whether bytes are written: those that are to be sent, where the stream is known to take some.
+    fn writes(&self) -> bool {
+        self.readiness.writable && !self.failed && !self.exchange.output().is_empty()
+    }
+
+    // Reads once, where bytes are read.
+    fn receive(&mut self, buffer: &mut [u8], now: Duration) {
+        let room = min(self.exchange.room(), buffer.len());
+        if !self.reads() || !self.exchange.takes_bytes() {
+            return;
+        }
+        match self.stream.read(&mut buffer[..room]) {
+            Ok(0) => {
+                self.readiness.readable = false;
+                self.ended = true;
+                self.exchange.end();
+            }
+            Ok(n) => {
+                // Where memory is refused, the connection is over.
+                let _ = self.exchange.receive(&buffer[..n]);
+                self.activity.note_came(now);
+                // Less than there was room for is all that has come.
+                self.readiness.readable = n == room || self.readiness.read_closed;
+            }
+            Err(error) if would_block(&error) => self.readiness.readable = false,
+            Err(error) if was_interrupted(&error) => {}
+            Err(_) => self.failed = true,
+        }
+    }
+
+    // Writes until all is sent or the stream takes no more, some times at most.
+    fn send(&mut self, now: Duration) {
+        for _ in 0..ROUNDS_OF_TURN {
+            if !self.writes() {
+                return;
+            }
+            match self.stream.write(self.exchange.output()) {
+                Ok(n) => {
+                    self.exchange.sent(n);
+                    self.activity.note_taken(now);
+                }
+                Err(error) if would_block(&error) => {
+                    self.readiness.writable = false;
+                    self.activity.note_refused(now);
+                }
+                Err(error) if was_interrupted(&error) => {}
+                Err(_) => self.failed = true,
+            }
+        }
+    }
+
+    // Closes what is over. Where the client has not told its end, the close lingers.
+    fn close(&mut self, now: Duration) -> ClientState {
+        if self.ended || self.stream.shutdown(Shutdown::Write).is_err() {
+            return ClientState::Gone;
+        }
+        self.lingers = true;
+        self.activity.note_close(now);
+        skip(&mut self.stream, &mut self.skipped)
+    }
+
+    // Whether it holds nothing: no reply is to be sent, and no ticket waits.
+    fn holds_nothing(&self) -> bool {
+        let rest = self.exchange.rest();
+        !rest.output && !rest.fill
+    }
+
+    // Asks and answers, as far as that goes in one round. Where all clients together hold too much, it asks only where it
+    // holds nothing itself, and for one value.
+    fn serve<L: Ledger, H: Wait>(
+        &mut self,
+        rt: &H,
+        seat: &mut LoopSeat<'a, S, L, F>,
+        occupancy: &Occupancy,
+    ) -> Progress
+        ensures pool { seat.new.pool.now ≡ seat.old.pool.now }
+        ensures parts { KeepsParts seat.old.seats seat.new.seats }
+    {
+        for _ in 0..ASKS_OF_ROUND {
+            if occupancy.holds_too_much() {
+                if !self.holds_nothing() {
+                    return seat.answer(&mut self.exchange);
+                }
+                self.exchange.narrow();
+            }
+            let progress = seat.serve(rt, &mut self.exchange);
+            if progress != Progress::More {
+                return progress;
+            }
+        }
+        Progress::More
+    }
+
+    // What it waits for behind a round, none where more can be done at once: also since a fill came behind the look at it, or
+    // since the replies that had to be sent first were.
+    fn state(&self, progress: Progress) -> Option<ClientState> {
+        let awaits = self.awaits();
+        let came = awaits.is_none() && self.exchange.rest().fill;
+        let sent = progress == Progress::Unsent && self.exchange.output().is_empty();
+        if came || sent || progress == Progress::More || self.reads() || self.writes() {
+            return None;
+        }
+        match awaits {
+            _ if progress == Progress::NoRoom => Some(ClientState::NoRoom),
+            Some(number) => Some(ClientState::Awaits(number)),
+            None => Some(ClientState::Idle),
+        }
+    }
+
+    // Reads once, and answers and writes some times at most. What it waits for, none where more can be done at once.
+    fn round<L: Ledger, H: Wait>(
+        &mut self,
+        rt: &H,
+        seat: &mut LoopSeat<'a, S, L, F>,
+        now: Duration,
+        occupancy: &Occupancy,
+    ) -> Option<ClientState>
+        ensures pool { seat.new.pool.now ≡ seat.old.pool.now }
+        ensures parts { KeepsParts seat.old.seats seat.new.seats }
+    {
+        self.receive(seat.buffer.as_mut_slice(), now);
+        let progress = self.serve(rt, seat, occupancy);
+        self.send(now);
+        if self.failed {
+            return Some(ClientState::Gone);
+        }
+        if self.exchange.is_over() {
+            return Some(self.close(now));
+        }
+        self.state(progress)
+    }
+
+    /// Counts what it holds among what all clients hold, where that is more than each may.
+    pub fn count_held(&mut self, occupancy: &Occupancy) {
+        let held = self.exchange.held();
+        let counted = if held > MAX_UNCOUNTED { held } else { 0 };
+        if counted != self.counted {
+            occupancy.recount(self.counted, counted);
+            self.counted = counted;
+        }
+    }
+
+    /// What it holds is let go.
+    pub fn let_go(&mut self, occupancy: &Occupancy) {
+        occupancy.recount(self.counted, 0);
+        self.counted = 0;
+    }
+
+    /// Reads nothing more of it, as if it had told its end. Whether it can be let go: it holds nothing, and its close does not
+    /// linger.
+    pub fn stop(&mut self) -> bool {
+        self.exchange.end();
+        !self.is_ready && !self.lingers && self.holds_nothing() && !self.exchange.rest().job
+    }
+
+    /// Reads, answers and writes, as far as that goes in one turn.
+    pub fn turn<L: Ledger, H: Wait>(
+        &mut self,
+        rt: &H,
+        seat: &mut LoopSeat<'a, S, L, F>,
+        now: Duration,
+        occupancy: &Occupancy,
+    ) -> ClientState
+        ensures pool { seat.new.pool.now ≡ seat.old.pool.now }
+        ensures parts { KeepsParts seat.old.seats seat.new.seats }
+    {
+        if self.lingers {
+            return skip(&mut self.stream, &mut self.skipped);
+        }
+        for _ in 0..ROUNDS_OF_TURN {
+            if let Some(state) = self.round(rt, seat, now, occupancy) {
+                return state;
+            }
+        }
+        ClientState::Busy
+    }
+
+    /// Has it write once more, where output waits: the system reports room only once much of it is free. Whether there is output.
+    pub fn tries_to_write(&mut self) -> bool {
+        let waits = !self.lingers && !self.exchange.output().is_empty();
+        self.readiness.writable |= waits;
+        waits
+    }
+
+    /// Whether it is to be let go: it is silent, takes nothing, or is slow where no more connections can be had. What was just
+    /// reported of it, and the value or the room that came for it, are for its next turn.
+    pub fn is_overdue(&self, now: Duration, limits: &Limits, full: bool) -> bool {
+        if self.lingers {
+            return self.activity.has_lingered(now, limits);
+        }
+        if !self.exchange.output().is_empty() {
+            return self.activity.takes_nothing(limits);
+        }
+        let rest = self.exchange.rest();
+        if rest.fill || rest.job {
+            return false;
+        }
+        let silent = !self.is_ready && self.activity.is_silent(now, limits, full);
+        silent || full && self.activity.is_slow(now, limits)
+    }
+}

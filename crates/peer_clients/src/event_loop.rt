@@ -1,0 +1,198 @@
+//! One event loop: it waits for what its clients can do, and gives each its turn.
+//!
+//! It stands on the turns of its clients (`Turns`), on its seats of the pool, and on the readiness of `mio`. It promises
+//! that the seats stay those of the pool, with their parts.
+
+use crate::facts::Facts;
+use crate::limits::LOOKS;
+use crate::seat::LoopSeat;
+use crate::site::LoopSite;
+use crate::turns::Turns;
+use mio::{Events, Poll};
+use peer_host::Host;
+use peer_poll::WOKEN;
+use peer_source::Source;
+use std::alloc::Global;
+use std::hint::spin_loop;
+use std::sync::Wait;
+use std::sync::ledger::Ledger;
+use std::thread;
+use std::time::{Clock, Duration, Instant};
+
+/// What a loop waits by.
+#[derive(Drop)]
+pub struct Waits {
+    pub poll: Poll,
+    pub events: Events,
+}
+
+/// A loop and its clients.
+#[derive(Drop)]
+pub struct EventLoop<'a, S: Source, F: Facts<S>> {
+    turns: Turns<'a, S, F>,
+    // When it last looked for clients that are overdue, as it was when it last published how many bytes the caches have.
+    weighed: Duration,
+}
+
+impl<'a, S: Source, F: Facts<S>> EventLoop<'a, S, F> {
+    ghost use Rattle.std.specs.Prelude.{◌≡◌};
+    ghost use Rattle.peer_clients.specs.Parts.{KeepsParts};
+
+    /// A loop without clients.
+    pub fn new(alloc: Global, shared: LoopSite<'a>) -> EventLoop<'a, S, F> {
+        EventLoop {
+            turns: Turns::new(alloc, shared),
+            weighed: Duration::ZERO,
+        }
+    }
+
+    // Publishes what the loop has counted.
+    fn publish<L: Ledger>(&self, seat: &LoopSeat<'a, S, L, F>) {
+        let counts = seat.counts(self.turns.clients.each.len());
+        self.turns
+            .shared
+            .site
+            .counters
+            .of_loop(self.turns.shared.number)
+            .publish(counts);
+    }
+
+    // Publishes how many bytes the caches have, where a tick is over, or the loop has no clients.
+    fn publish_caches<L: Ledger, H: Wait>(&mut self, rt: &H, seat: &LoopSeat<'a, S, L, F>) {
+        if self.weighed != self.turns.swept || self.turns.clients.each.is_empty() {
+            self.weighed = self.turns.swept;
+            self.turns
+                .shared
+                .site
+                .counters
+                .publish_cache_bytes(seat.cached_bytes(rt));
+        }
+    }
+
+    // Tells the time.
+    fn tell_time<H: Clock>(&mut self, rt: &H, begun: Option<Instant>) {
+        let Some(now) = begun.and_then(|begun| begun.elapsed(rt).ok()) else {
+            return;
+        };
+        self.turns.tell_time(now);
+    }
+
+    // Has the jobs filled that were pushed. Where the loop fills them, those have their turn who waited for them.
+    fn fill_jobs<L: Ledger, H: Wait>(&mut self, rt: &H, seat: &mut LoopSeat<'a, S, L, F>)
+        ensures pool { seat.new.pool.now ≡ seat.old.pool.now }
+        ensures parts { KeepsParts seat.old.seats seat.new.seats }
+    {
+        if !seat.has_jobs() {
+            return;
+        }
+        seat.fill_jobs(rt);
+        if seat.fills() {
+            self.turns.serve_told(rt, seat);
+        }
+    }
+
+    // Whether there is something to do by now.
+    fn is_awake<L: Ledger>(&self, seat: &LoopSeat<'a, S, L, F>) -> bool {
+        !self.turns.clients.ready.is_empty()
+            || self.turns.shared.mailbox.is_told()
+            || seat.has_jobs()
+    }
+
+    // Whether nothing is left to do, and nothing comes any more.
+    fn is_done<L: Ledger>(&self, seat: &LoopSeat<'a, S, L, F>) -> bool {
+        self.turns.shared.mailbox.is_over()
+            && self.turns.clients.each.is_empty()
+            && !seat.has_left()
+            && !seat.has_jobs()
+    }
+
+    // How long the loop may wait for events: not at all where there is something to do, and until the next tick where there
+    // are clients.
+    fn time_to_wait<L: Ledger, H: Wait>(
+        &mut self,
+        rt: &H,
+        seat: &mut LoopSeat<'a, S, L, F>,
+    ) -> Option<Duration>
+        ensures pool { seat.new.pool.now ≡ seat.old.pool.now }
+        ensures parts { KeepsParts seat.old.seats seat.new.seats }
+    {
+        let looks = if self.turns.clients.has_listed() {
+            LOOKS
+        } else {
+            1
+        };
+        for _ in 0..looks {
+            if self.is_awake(seat) {
+                return Some(Duration::ZERO);
+            }
+            spin_loop();
+        }
+        self.turns.shared.mailbox.fall_asleep();
+        self.turns.push_left(rt, seat);
+        if self.is_awake(seat) || self.is_done(seat) {
+            Some(Duration::ZERO)
+        } else if self.turns.clients.each.is_empty() {
+            None
+        } else {
+            Some(self.turns.time_to_tick())
+        }
+    }
+
+    // Waits for events so long, and notes them.
+    fn wait<H: Host>(&mut self, rt: &H, time: Option<Duration>, waits: &mut Waits) {
+        let waited = waits.poll.poll(&mut waits.events, time);
+        self.turns.shared.mailbox.stay_awake();
+        if waited.is_err() {
+            thread::sleep(rt, self.turns.shared.site.limits.pause);
+            return;
+        }
+        for event in waits.events.iter() {
+            if event.token() != WOKEN {
+                self.turns.clients.note(event);
+            }
+        }
+    }
+
+    // One turn of the loop: it waits for events, and serves those whom they concern.
+    fn serve_once<L: Ledger, H: Host>(
+        &mut self,
+        rt: &H,
+        seat: &mut LoopSeat<'a, S, L, F>,
+        waits: &mut Waits,
+        begun: Option<Instant>,
+    )
+        ensures pool { seat.new.pool.now ≡ seat.old.pool.now }
+        ensures parts { KeepsParts seat.old.seats seat.new.seats }
+    {
+        let time = self.time_to_wait(rt, seat);
+        self.wait(rt, time, waits);
+        self.turns.stop_clients();
+        // Before streams are taken: a loop without clients may have slept for longer than a client may be silent.
+        self.tell_time(rt, begun);
+        self.turns.take_streams(rt, waits.poll.registry(), seat);
+        self.turns.serve_told(rt, seat);
+        self.fill_jobs(rt, seat);
+        self.publish(seat);
+        self.publish_caches(rt, seat);
+    }
+
+    /// Serves until no more streams are given and all clients are gone.
+    pub fn run<L: Ledger, H: Host>(
+        &mut self,
+        rt: &H,
+        seat: &mut LoopSeat<'a, S, L, F>,
+        waits: &mut Waits,
+    )
+        ensures pool { seat.new.pool.now ≡ seat.old.pool.now }
+        ensures parts { KeepsParts seat.old.seats seat.new.seats }
+    {
+        let begun = Instant::now(rt).ok();
+        for _ in rt.forever() {
+            if self.is_done(seat) {
+                return;
+            }
+            self.serve_once(rt, seat, waits, begun);
+        }
+        unreachable!()
+    }
+}

@@ -1,0 +1,71 @@
+//! How many connections are open, what they hold, and how the thread that accepts waits for one to end.
+//!
+//! The thread that accepts says that it falls asleep, and looks at `open` behind that. A loop lowers `open`, and wakes it
+//! behind that where it sleeps. So either the one finds room, or the other wakes it (`PollWaker`).
+
+use crossbeam_utils::CachePadded;
+use mio::Poll;
+use peer_poll::PollWaker;
+use std::sync::atomic::AtomicUsize;
+use std::sync::atomic::Ordering::SeqCst;
+
+/// The connections of a server. Its threads share it.
+#[derive(Drop)]
+pub struct Occupancy {
+    open: AtomicUsize,
+    most: usize,
+    // Wakes the thread that accepts.
+    waker: PollWaker,
+    // How many bytes the clients hold that hold more than each may.
+    held: CachePadded<AtomicUsize>,
+    most_held: usize,
+}
+
+impl Occupancy {
+    /// No connection is open, of so many at most, which hold so many bytes before they hold too much. The poll is that of
+    /// the thread that accepts. None where the system refuses it.
+    pub fn new(poll: &Poll, most: usize, most_held: usize) -> Option<Occupancy> {
+        Some(Occupancy {
+            open: AtomicUsize::new(0),
+            most,
+            waker: PollWaker::new(poll)?,
+            held: CachePadded::new(AtomicUsize::new(0)),
+            most_held,
+        })
+    }
+
+    /// A connection is open.
+    pub fn enter(&self) {
+        self.open.fetch_add(1, SeqCst);
+    }
+
+    /// A connection is closed.
+    pub fn leave(&self) {
+        self.open.fetch_sub(1, SeqCst);
+        let _ = self.waker.wake_asleep();
+    }
+
+    /// Whether no more connections can be had.
+    pub fn is_full(&self) -> bool {
+        self.open.load(SeqCst) >= self.most
+    }
+
+    /// A client holds so many bytes now, and held so many before.
+    pub fn recount(&self, before: usize, now: usize) {
+        if now > before {
+            self.held.fetch_add(now.wrapping_sub(before), SeqCst);
+        } else {
+            self.held.fetch_sub(before.wrapping_sub(now), SeqCst);
+        }
+    }
+
+    /// Whether the clients together hold too much.
+    pub fn holds_too_much(&self) -> bool {
+        self.held.load(SeqCst) > self.most_held
+    }
+
+    /// The thread that accepts wants to be woken once there is room. It looks behind this.
+    pub fn want_room(&self) {
+        self.waker.fall_asleep();
+    }
+}

@@ -1,0 +1,172 @@
+//! The seats of a loop, beside the pool that they are of and the room for what is read.
+ghost use Rattle.std.specs.Prelude.{◌≡◌, Some};
+ghost use Rattle.std.proofs.Props.{props};
+ghost use Rattle.peer_fill.specs.Pools.{source_of};
+ghost use Rattle.peer_clients.specs.Parts.{AreOf};
+
+use crate::facts::Facts;
+use crate::filling::{Filling, work};
+use crate::limits::JOBS_OF_TURN;
+use crate::loop_seats::LoopSeats;
+use peer_exchange::{Exchange, Rest};
+use peer_fill::Pool;
+use peer_source::Source;
+use peer_stats::LoopCounts;
+use std::alloc::Global;
+use std::marker::PhantomData;
+use std::sync::Wait;
+use std::sync::ledger::Ledger;
+
+/// The seats of a loop. All of its connections ask by the one.
+#[derive(Drop)]
+pub struct LoopSeat<'a, S: Source, L: Ledger, F: Facts<S>> {
+    pub pool: &'a Pool<S, L>,
+    pub alloc: Global,
+    pub seats: LoopSeats<S, L>,
+    /// Where streams are read into.
+    pub buffer: Vec<u8>,
+    /// By whom the jobs are filled that its connections push.
+    pub filling: Filling<'a>,
+    pub of: PhantomData<F>,
+    ghost of_pool: { AreOf pool.now seats } by { Prim.hlevel props },
+    ghost source: { F.source ≡ Some (source_of pool.now) },
+}
+
+/// What became of the requests that a connection holds.
+#[derive(Clone, Copy, PartialEq, Eq, Debug)]
+pub enum Progress {
+    /// All of them were judged, or the fill of the first ticket has to come first.
+    Done,
+    /// Replies have to be sent first.
+    Unsent,
+    /// More can be judged by now.
+    More,
+    /// A job is left with the seat, for which the queue has no room.
+    NoRoom,
+}
+
+impl Progress {
+    // What became of them, by what `ask_held` said, where the first ticket waits for a fill or does not.
+    fn of(rest: Rest, waits: bool) -> Progress {
+        if rest.job {
+            Progress::NoRoom
+        } else if rest.bytes {
+            Progress::Done
+        } else if !rest.fill {
+            Progress::Unsent
+        } else if waits {
+            Progress::Done
+        } else {
+            Progress::More
+        }
+    }
+}
+
+impl<'a, S: Source, L: Ledger, F: Facts<S>> LoopSeat<'a, S, L, F> {
+    ghost use Rattle.std.specs.Prelude.{◌≡◌, Some};
+    ghost use Rattle.peer_clients.specs.Parts.{KeepsParts};
+
+    /// A connection that asks the pool.
+    pub fn exchange(&self) -> Exchange<'a, S>
+        ensures { F.source ≡ Some result.names }
+    {
+        Exchange::new(self.alloc, self.pool.names())
+    }
+
+    /// Judges what a connection holds, asks for it, and puts the replies whose fills are there.
+    pub fn serve<H: Wait>(&mut self, rt: &H, exchange: &mut Exchange<'a, S>) -> Progress
+        requires { F.source ≡ Some exchange.old.names }
+        ensures names { exchange.new.names ≡ exchange.old.names }
+        ensures pool { self.new.pool.now ≡ self.old.pool.now }
+        ensures parts { KeepsParts self.old.seats self.new.seats }
+    {
+        let Ok(rest) = exchange.ask_held(rt, self.pool, &mut self.seats.conn) else {
+            return Progress::Done;
+        };
+        if exchange
+            .answer_ready(self.pool, &mut self.seats.conn)
+            .is_err()
+        {
+            return Progress::Done;
+        }
+        Progress::of(rest, exchange.awaits().is_some())
+    }
+
+    /// Puts the replies whose fills are there, and asks for nothing more.
+    pub fn answer(&mut self, exchange: &mut Exchange<'a, S>) -> Progress
+        requires { F.source ≡ Some exchange.old.names }
+        ensures names { exchange.new.names ≡ exchange.old.names }
+        ensures pool { self.new.pool.now ≡ self.old.pool.now }
+        ensures parts { KeepsParts self.old.seats self.new.seats }
+    {
+        let _ = exchange.answer_ready(self.pool, &mut self.seats.conn);
+        if exchange.rest().output {
+            Progress::Unsent
+        } else {
+            Progress::Done
+        }
+    }
+
+    // How many jobs its connections have pushed.
+    fn pushed(&self) -> u64 {
+        let left = u64::from(self.has_left());
+        self.seats.conn.led().wrapping_sub(left)
+    }
+
+    /// Whether jobs are there of which those were not told who fill them, or which the loop is to fill itself.
+    pub fn has_jobs(&self) -> bool {
+        self.filling.has_more || self.filling.told != self.pushed()
+    }
+
+    /// Whether it fills jobs itself.
+    pub fn fills(&self) -> bool {
+        self.seats.fill.is_some()
+    }
+
+    /// Has the jobs filled that its connections pushed: fills some, where the loop fills, and else wakes those who fetch.
+    pub fn fill_jobs<H: Wait>(&mut self, rt: &H)
+        ensures pool { self.new.pool.now ≡ self.old.pool.now }
+        ensures parts { KeepsParts self.old.seats self.new.seats }
+    {
+        let pushed = self.pushed();
+        self.filling.tell(pushed);
+        let done = work(
+            rt,
+            self.alloc,
+            self.pool,
+            &mut self.seats.fill,
+            &self.filling.gate,
+        );
+        self.filling.has_more = done == JOBS_OF_TURN;
+    }
+
+    /// What it has counted, where the loop has so many connections.
+    pub fn counts(&self, connections: usize) -> LoopCounts {
+        LoopCounts {
+            asked: self.seats.conn.asked(),
+            hits: self.seats.conn.hits(),
+            led: self.seats.conn.led(),
+            joined: self.seats.conn.joined(),
+            strangers: self.seats.conn.strangers(),
+            connections: connections as u64,
+        }
+    }
+
+    /// The bytes of keys and values in all caches.
+    pub fn cached_bytes<H: Wait>(&self, rt: &H) -> u64 {
+        self.pool.cached_bytes(rt)
+    }
+
+    /// Whether a job is left, for which the queue of jobs had no room.
+    pub fn has_left(&self) -> bool {
+        self.seats.conn.has_left()
+    }
+
+    /// Tries again to push the job that is left, and says whether none is left.
+    pub fn put_left<H: Wait>(&mut self, rt: &H) -> bool
+        ensures pool { self.new.pool.now ≡ self.old.pool.now }
+        ensures parts { KeepsParts self.old.seats self.new.seats }
+    {
+        self.pool.put_left(rt, &mut self.seats.conn)
+    }
+}

@@ -1,0 +1,42 @@
+//! What the threads of a server share.
+
+use crate::fill_gate::FillGate;
+use crate::mailbox::Mailbox;
+use crate::mailboxes::Mailboxes;
+use crate::occupancy::Occupancy;
+use peer_limits::Limits;
+use peer_poll::PollWakers;
+use peer_stats::Counters;
+
+/// What the threads of a server share.
+#[derive(Clone, Copy)]
+pub struct Site<'a> {
+    pub mailboxes: &'a Mailboxes,
+    /// Those of the threads that fetch.
+    pub wakers: &'a PollWakers,
+    pub occupancy: &'a Occupancy,
+    pub limits: &'a Limits,
+    pub counters: &'a Counters,
+}
+
+impl<'a> Site<'a> {
+    /// The gate of the thread with this number that fills.
+    pub fn gate(&self, number: usize) -> FillGate<'a> {
+        FillGate::new(self.mailboxes, self.counters, number)
+    }
+
+    /// No more streams are given, and no more jobs are pushed.
+    pub fn close(&self) {
+        self.mailboxes.close();
+        self.wakers.close();
+    }
+}
+
+/// What a loop shares with other threads.
+#[derive(Clone, Copy)]
+pub struct LoopSite<'a> {
+    pub site: Site<'a>,
+    pub mailbox: &'a Mailbox,
+    /// The number of the loop, by which it publishes what it counts.
+    pub number: usize,
+}

@@ -1,6 +1,0 @@
-use Rattle.std.specs.Prelude.{◌≡◌}
-use Rattle.peer_loop.specs.Parts.{KeepsParts}
-use Rattle.peer_loop.proofs.client.Client.serve.Given as goal
-
-abbrev pub invariant-loop : goal.invariant-loop
-invariant-loop g l = (l.seat.pool.now ≡ l.fn.seat.pool.now) × KeepsParts l.fn.seat.seats l.seat.seats
