@@ -18,6 +18,8 @@ import tempfile
 from common import free_port
 
 PROGRAM = sys.argv[1] if len(sys.argv) > 1 else "crates/peer_front/out/peer_front"
+# A shell has what it starts in the background ignore SIGINT, and so would all that is started here.
+signal.signal(signal.SIGINT, signal.SIG_DFL)
 ON_TERM = os.path.join(os.path.dirname(os.path.abspath(__file__)), "../examples/service/end_on_term.sh")
 
 
@@ -106,6 +108,7 @@ ROWS = [
     (HERE + ["=" + URL], 1, f"peer_front: ={URL}: GROUP=URL is needed, such as thumbs=http://10.0.0.7/thumbs/\n"),
     (HERE + ["a=ftp://127.0.0.1/"], 1, "peer_front: a=ftp://127.0.0.1/: "),
     (HERE + ["a=https://127.0.0.1/"], 1, "peer_front: a=https://127.0.0.1/: https is not supported: "),
+    (HERE + ["a/b=" + URL], 1, f"peer_front: a/b={URL}: the name of a group has no slash\n"),
     (HERE + ["a=http://name.invalid/"], 1, "peer_front: a=http://name.invalid/: "),
     (HERE + ["a=" + URL, "a=" + URL], 1, f"peer_front: a={URL}: a group of this name is served already\n"),
     (HERE + ["--table", GOOD, "colors=" + URL], 1, f"peer_front: colors={URL}: a group of this name is served already\n"),
@@ -113,6 +116,7 @@ ROWS = [
     (HERE + ["--demo", "--table", ECHO], 1, "peer_front: --demo: a group of this name is served already\n"),
     (HERE + [f"g{i}={URL}" for i in range(65)], 1, f"peer_front: g64={URL}: there are more than 64 groups\n"),
     (HERE + ["--table", "/nothing/here"], 1, "/nothing/here"),
+    (HERE + ["--table", "/"], 3, "peer_front: --table /: read failed\n"),
     (HERE + ["--table", BAD], 2, "bad table at line 1\n"),
     (HERE + ["--table", TWICE], 2, "bad table at line 2\n"),
     (HERE + ["--table", LARGE], 2, "table too large\n"),
@@ -141,11 +145,18 @@ FEW_FILES = [
     (60, ["--demo", "--loops", "1"], 10100, "3 groups at ADDR, 1 connection at most, on 1 loop"),
 ]
 
+# how many files the program may open, where its output goes, the status, and what standard error holds
+REFUSED = [
+    (8, "/dev/null", 5, "peer_front: out of memory, threads or descriptors\n"),
+    (20000, "/dev/full", 4, "peer_front: standard output: "),
+]
+
 # other words that are taken: the program says that it listens
 TAKEN_WORDS = [
     ["--demo", "--workers", "1", "--loops", "1", "--connections", "1", "--cache", "0", "--memory", "1KiB"],
     ["a=" + URL, "--timeout", "1"],
     ["a=" + URL, "--connection-for-each"],
+    ["a=" + URL + "v?k=", "--timeout", "1"],
     ["a=http://localhost:1/", "--timeout", "1"],
     ["a=http://[::1]:1/"],
     ["--demo", "--listen", "[::1]:0"],
@@ -154,12 +165,12 @@ TAKEN_WORDS = [
 ]
 
 
-def ended_at_once(words, files=20000):
-    """The status and standard error of a program that has no input and may open so many files."""
+def ended_at_once(words, files=20000, output=subprocess.PIPE):
+    """The status and standard error of a program that has no input and may open so many files, and whose output goes there."""
     def allow():
         resource.setrlimit(resource.RLIMIT_NOFILE, (files, files))
 
-    done = subprocess.run([PROGRAM] + words, stdin=subprocess.DEVNULL, stdout=subprocess.PIPE, stderr=subprocess.PIPE,
+    done = subprocess.run([PROGRAM] + words, stdin=subprocess.DEVNULL, stdout=output, stderr=subprocess.PIPE,
                           timeout=60, check=False, preexec_fn=allow)
     return done.returncode, done.stderr.decode()
 
@@ -209,8 +220,15 @@ for files, words, needed, text in FEW_FILES:
         failures += 1
         print("files", files, "words", words, "status", ended, "told", repr(told), "wanted", repr(text))
 
+for files, output, status, text in REFUSED:
+    with open(output, "wb") as opened:
+        ended, told = ended_at_once(HERE + ["--until-eof", "--demo"], files, opened)
+    if ended != status or text not in told:
+        failures += 1
+        print("files", files, "output", output, "status", ended, "wanted", status, "told", repr(told))
+
 for words in TAKEN_WORDS:
-    run = subprocess.Popen([PROGRAM] + ([] if "--listen" in words else HERE) + words, stdout=subprocess.PIPE)
+    run = subprocess.Popen([PROGRAM] + ([] if "--listen" in words else HERE) + words, stdout=subprocess.PIPE, stderr=subprocess.DEVNULL)
     line = run.stdout.readline()
     run.kill()
     run.wait()
@@ -228,5 +246,5 @@ for sent, tell, text in SIGNALS:
 
 for name in (GOOD, BAD, TWICE, LARGE, ECHO):
     os.unlink(name)
-print("rows", len(ROWS) + len(STARTS) + len(FEW_FILES) + len(TAKEN_WORDS) + len(SIGNALS), "failures", failures)
+print("rows", len(ROWS) + len(STARTS) + len(FEW_FILES) + len(REFUSED) + len(TAKEN_WORDS) + len(SIGNALS), "failures", failures)
 sys.exit(1 if failures else 0)

@@ -5,7 +5,8 @@
     python3 bench/kept.py [crates/peer_front/out/peer_front]
 
 Connections are kept for a service that is asked now, also where another one, asked before, leaves as many as are kept; none is
-kept that a service has ended; and interim replies without end fill no memory.
+kept that a service has ended; of two services each value comes from its own, also where one ends its connections now and then;
+and interim replies without end fill no memory.
 
 Its last line is `rows N failures 0`; where a row fails, so does the program.
 """
@@ -13,6 +14,7 @@ import socket
 import sys
 import threading
 import time
+from concurrent.futures import ThreadPoolExecutor
 
 from common import Listening, run_rows
 
@@ -58,6 +60,19 @@ def closes(stream):
     stream.sendall(VALUE)
 
 
+def gives(value, most=None):
+    """Answers each request with this value, on each connection so many at most, and ends it behind the last."""
+    reply = VALUE[:-1] + value
+
+    def serve(stream):
+        served = 0
+        while served != most and stream.recv(10000):
+            stream.sendall(reply)
+            served += 1
+
+    return serve
+
+
 def never_replies(stream):
     stream.recv(10000)
     while True:
@@ -77,11 +92,9 @@ class Server(Listening):
             return b"".join(iter(lambda: stream.recv(10000), b""))
 
     def ask_together(self, *paths):
-        threads = [threading.Thread(target=self.ask, args=(path,)) for path in paths]
-        for thread in threads:
-            thread.start()
-        for thread in threads:
-            thread.join()
+        """The replies to requests that come at once."""
+        with ThreadPoolExecutor(len(paths)) as threads:
+            return list(threads.map(self.ask, paths))
 
     def most_memory(self):
         """How many bytes the process had in memory at most."""
@@ -113,6 +126,17 @@ def none_is_kept_that_was_ended():
         return service.connections == 20 and waiting_to_close(service.port) == 0
 
 
+def each_value_is_of_its_own_service():
+    first, second = Service(gives(b"x")), Service(gives(b"y", most=3))
+    with Server("a=" + first.url, "b=" + second.url) as server:
+        replies = []
+        for number in range(20):
+            replies += [server.ask(f"a/{number}"), server.ask(f"b/{number}")]
+            replies += server.ask_together(f"a/p{number}", f"b/p{number}")
+        right = [reply.endswith(b"\x0a\x01" + value) for reply, value in zip(replies, (b"x", b"y") * 40)]
+        return all(right) and first.connections < 10 and second.connections >= 13
+
+
 def interim_replies_fill_no_memory():
     service = Service(never_replies)
     with Server("--timeout", "3", "g=" + service.url) as server:
@@ -120,4 +144,11 @@ def interim_replies_fill_no_memory():
         return b"origin timed out" in reply and server.most_memory() < MOST_MEMORY
 
 
-run_rows([connections_to_each_service_are_kept, none_is_kept_that_was_ended, interim_replies_fill_no_memory])
+run_rows(
+    [
+        connections_to_each_service_are_kept,
+        none_is_kept_that_was_ended,
+        each_value_is_of_its_own_service,
+        interim_replies_fill_no_memory,
+    ]
+)

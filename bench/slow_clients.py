@@ -1,16 +1,20 @@
 #!/usr/bin/env python3
-"""A client that is slow, but does not take nothing, at the built peer_front: it has all its replies.
+"""Clients that are slow, but do not take nothing, at the built peer_front: they have all their replies.
 
     ./build
     python3 bench/slow_clients.py [crates/peer_front/out/peer_front]
 
-It takes so little at a time that the system reports room for more only after longer than a client may take nothing.
+One takes so little at a time that the system reports room for more only after longer than a client may take nothing. Others
+take all that there is while the server itself is stopped for longer than that.
 
 Its last line is `rows N failures 0`; where a row fails, so does the program.
 """
+import signal
 import socket
 import sys
 import time
+from contextlib import ExitStack
+from multiprocessing.pool import ThreadPool
 
 from common import Listening, run_rows
 
@@ -21,6 +25,7 @@ REQUEST = b"GET /_groupcache/fill/1000000 HTTP/1.1\r\nHost: h\r\n\r\n"
 LAST = b"GET /_groupcache/echo/last HTTP/1.1\r\nHost: h\r\nConnection: close\r\n\r\n"
 # More than the buffers of both sides take.
 REQUESTS = 40
+SERVERS = 8
 
 
 class Server(Listening):
@@ -57,4 +62,27 @@ def one_that_takes_little_at_a_time():
         return has_all(*rest_of(stream, taken))
 
 
-run_rows([one_that_takes_little_at_a_time])
+def has_all_behind_a_stop(server):
+    with server.begin() as stream:
+        # By then the server waits for room in the stream.
+        time.sleep(1)
+        server.process.send_signal(signal.SIGSTOP)
+        stream.settimeout(SECONDS)
+        taken = 0
+        try:
+            while part := stream.recv(1 << 20):
+                taken += len(part)
+        except TimeoutError:
+            server.process.send_signal(signal.SIGCONT)
+        stream.settimeout(30)
+        return has_all(*rest_of(stream, taken))
+
+
+def those_whose_server_stood_still():
+    """Each of several: whether a wait ends by the stop or by what came meanwhile is chance."""
+    with ExitStack() as stack, ThreadPool(SERVERS) as pool:
+        servers = [stack.enter_context(Server()) for _ in range(SERVERS)]
+        return all(pool.map(has_all_behind_a_stop, servers))
+
+
+run_rows([one_that_takes_little_at_a_time, those_whose_server_stood_still])

@@ -197,7 +197,7 @@ def through_proxy(name, server, words, config):
             text = text.replace(word, f"127.0.0.1:{port}")
         path = os.path.join(folder, config)
         with open(path, "w") as file:
-            file.write(text.replace("STATS", str(server.stats)))
+            file.write(text)
         os.chmod(folder, 0o755)
         log = open(os.path.join(folder, "log"), "w")
         proxy = subprocess.Popen([word.replace("FOLDER", folder).replace("CONFIG", path) for word in words],
