@@ -135,6 +135,13 @@ STARTS = [
      "5 groups at ADDR, 10000 connections at most, on 2 loops, and fetches on 2 threads, 1 value under way on each"),
 ]
 
+# services, and those of them whose keys stand right behind a name, which the program asks about
+PREFIXES = [
+    (["a=http://127.0.0.1:1", "b=" + URL + "v/", "c=" + URL + "v?k="], []),
+    (["a=" + URL + "v"], ["a=" + URL + "v"]),
+    (["a=" + URL + "v/", "b=" + URL + "v?k", "c=" + URL + "v-"], ["b=" + URL + "v?k", "c=" + URL + "v-"]),
+]
+
 # how many files the program may open, the words, how many it would need, and what it serves then
 FEW_FILES = [
     (1024, ["--demo"], 10100, "3 groups at ADDR, 924 connections at most, on 2 loops"),
@@ -213,6 +220,13 @@ for words, text in STARTS:
         failures += 1
         print("words", words, "status", ended, "told", repr(told), "wanted", repr(text))
 
+for words, asked in PREFIXES:
+    ended, told = ended_at_once(HERE + ["--until-eof"] + words)
+    wanted = "".join(f"peer_front: {word}: keys stand right behind this, with no / between: is that meant?\n" for word in asked)
+    if ended != 0 or not told.startswith(wanted + "peer_front: serves ") or told.count("\n") != len(asked) + 1:
+        failures += 1
+        print("words", words, "status", ended, "told", repr(told), "wanted", repr(wanted))
+
 for files, words, needed, text in FEW_FILES:
     ended, told = ended_at_once(HERE + ["--until-eof"] + words, files)
     less = f"peer_front: may open {files} files (ulimit -n), and all that is asked for needs {needed}: serves less\n"
@@ -246,5 +260,5 @@ for sent, tell, text in SIGNALS:
 
 for name in (GOOD, BAD, TWICE, LARGE, ECHO):
     os.unlink(name)
-print("rows", len(ROWS) + len(STARTS) + len(FEW_FILES) + len(REFUSED) + len(TAKEN_WORDS) + len(SIGNALS), "failures", failures)
+print("rows", len(ROWS) + len(STARTS) + len(PREFIXES) + len(FEW_FILES) + len(REFUSED) + len(TAKEN_WORDS) + len(SIGNALS), "failures", failures)
 sys.exit(1 if failures else 0)

@@ -6,11 +6,13 @@
 
 Connections are kept for a service that is asked now, also where another one, asked before, leaves as many as are kept; none is
 kept that a service has ended; of two services each value comes from its own, also where one ends its connections now and then;
-and interim replies without end fill no memory.
+what comes on a kept connection without a request is no value; a reply that runs until its connection ends is no value where
+that is reset; and interim replies without end fill no memory.
 
 Its last line is `rows N failures 0`; where a row fails, so does the program.
 """
 import socket
+import struct
 import sys
 import threading
 import time
@@ -71,6 +73,22 @@ def gives(value, most=None):
             served += 1
 
     return serve
+
+
+def speaks_unasked(stream):
+    """Answers each request, and once again soon behind it, where nobody asks."""
+    while stream.recv(10000):
+        stream.sendall(VALUE)
+        time.sleep(0.1)
+        stream.sendall(VALUE[:-1] + b"x")
+
+
+def resets_within(stream):
+    """Answers by a reply that runs until the connection ends, and resets that within it."""
+    stream.recv(10000)
+    stream.sendall(b"HTTP/1.1 200 OK\r\n\r\nv")
+    time.sleep(0.2)
+    stream.setsockopt(socket.SOL_SOCKET, socket.SO_LINGER, struct.pack("ii", 1, 0))
 
 
 def never_replies(stream):
@@ -137,6 +155,23 @@ def each_value_is_of_its_own_service():
         return all(right) and first.connections < 10 and second.connections >= 13
 
 
+def no_value_is_one_that_nobody_asked_for():
+    service = Service(speaks_unasked)
+    with Server("g=" + service.url) as server:
+        for number in range(5):
+            if not server.ask(f"g/{number}").endswith(b"\x0a\x01v"):
+                return False
+            time.sleep(0.3)
+        return service.connections == 5
+
+
+def no_value_is_cut_by_a_reset():
+    service = Service(resets_within)
+    with Server("g=" + service.url) as server:
+        replies = [server.ask(f"g/{number}") for number in range(3)]
+        return all(b"origin closed the connection" in reply for reply in replies)
+
+
 def interim_replies_fill_no_memory():
     service = Service(never_replies)
     with Server("--timeout", "3", "g=" + service.url) as server:
@@ -149,6 +184,8 @@ run_rows(
         connections_to_each_service_are_kept,
         none_is_kept_that_was_ended,
         each_value_is_of_its_own_service,
+        no_value_is_one_that_nobody_asked_for,
+        no_value_is_cut_by_a_reset,
         interim_replies_fill_no_memory,
     ]
 )

@@ -2,6 +2,7 @@
 
 use peer_fill::Report;
 use peer_flags::Options;
+use peer_origin::Endpoint;
 use std::fmt::{Display, Formatter};
 use std::io::Write;
 use std::net::TcpListener;
@@ -72,6 +73,23 @@ pub fn say_serving<H: AllocGlobal + Eprint>(
             "peer_front: serves {groups} at {address}, {most} at most, on {loops}"
         ),
     };
+}
+
+// Whether a key can stand right behind this prefix as a part of its own: of the path, or of the query.
+fn ends_a_part(prefix: &[u8]) -> bool {
+    prefix.ends_with(b"/") || prefix.ends_with(b"=")
+}
+
+/// Asks on standard error whether it is meant that keys stand right behind the last part of a service's URL. The words name
+/// the services in the order of their endpoints.
+pub fn say_prefixes<H: AllocGlobal + Eprint>(rt: &H, words: &[&str], endpoints: &[Endpoint]) {
+    for (word, endpoint) in words.iter().zip(endpoints.iter()) {
+        if !ends_a_part(endpoint.prefix.as_slice()) {
+            let _ = eprintln!(rt;
+                "peer_front: {word}: keys stand right behind this, with no / between: is that meant?"
+            );
+        }
+    }
 }
 
 /// Says that connections can come.

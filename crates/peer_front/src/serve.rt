@@ -6,7 +6,7 @@ use crate::exit::{BAD_WORD, CANNOT_BIND, DONE, Exit, NO_OUTPUT, NO_SEED, OUT_OF_
 use crate::files::within_files;
 use crate::page::page_of;
 use crate::running::{Service, serve_watched};
-use crate::said::{FilledBy, say_listening, say_serving, say_totals};
+use crate::said::{FilledBy, say_listening, say_prefixes, say_serving, say_totals};
 use crate::source::{fetch_settings, source_of};
 use crate::until_eof::stop_of;
 use peer_fetch::FetchPlan;
@@ -185,15 +185,13 @@ pub fn serve<
     let (Some(fetched), Ok(stop)) = (fetched_of(rt.alloc(), &source), stop_of(rt, options)) else {
         return refuse(rt, &"out of memory, threads or descriptors", OUT_OF_MEMORY);
     };
-    let plan = if has_services {
-        Some(fetched.plan(
-            fetch_settings(options),
-            options.under_way,
-            counters.failures(),
-        ))
-    } else {
-        None
-    };
+    let plan = fetched.plan(
+        fetch_settings(options),
+        options.under_way,
+        counters.failures(),
+    );
+    say_prefixes(rt, words, plan.endpoints.each);
+    let plan = if has_services { Some(plan) } else { None };
     let outside = Outside {
         counters: &counters,
         stop: &stop,

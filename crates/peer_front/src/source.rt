@@ -126,6 +126,11 @@ pub fn source_of<'a, H: AllocGlobal + Eprint + Files + Network + Sync>(
     let Some(source) = join(rt, failures, options, table, origins) else {
         return Err(refuse(rt, &"out of memory", OUT_OF_MEMORY));
     };
-    check_count(rt, source.group_count())?;
-    Ok(source)
+    match check_count(rt, source.group_count()) {
+        Ok(()) => Ok(source),
+        Err(exit) => {
+            drop(source);
+            Err(exit)
+        }
+    }
 }
