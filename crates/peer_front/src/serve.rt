@@ -4,7 +4,7 @@ ghost use Rattle.peer_fetch.specs.Threads.{Allows};
 
 use crate::exit::{BAD_WORD, CANNOT_BIND, DONE, Exit, NO_OUTPUT, NO_SEED, OUT_OF_MEMORY, refuse};
 use crate::files::within_files;
-use crate::page::page_of;
+use crate::page::{Page, page_of};
 use crate::running::{Service, serve_watched};
 use crate::said::{FilledBy, say_listening, say_prefixes, say_serving, say_totals};
 use crate::source::{fetch_settings, source_of};
@@ -109,6 +109,36 @@ fn end_of<H: AllocGlobal + Print + Eprint>(rt: &H, served: &Result<Report, Serve
     }
 }
 
+// What a server is opened with.
+#[derive(Drop)]
+struct Opened {
+    seed: RandomState,
+    listener: TcpListener,
+    page: Option<Page>,
+}
+
+// The seed, the listener and the page, or says why there are none.
+fn open<H: AllocGlobal + Eprint + RandomSource + Host>(
+    rt: &H,
+    options: &Options<'_>,
+) -> Result<Opened, Exit> {
+    let Ok(seed) = RandomState::new(rt) else {
+        return Err(refuse(rt, &"no random seed", NO_SEED));
+    };
+    let listener = bind(rt, options)?;
+    match page_of(rt, options, seed) {
+        Ok(page) => Ok(Opened {
+            seed,
+            listener,
+            page,
+        }),
+        Err(exit) => {
+            drop(listener);
+            Err(exit)
+        }
+    }
+}
+
 // Serves this source, or says why not.
 fn serve_source<S: Source, H: AllocGlobal + Print + Eprint + RandomSource + Host>(
     rt: &H,
@@ -119,22 +149,31 @@ fn serve_source<S: Source, H: AllocGlobal + Print + Eprint + RandomSource + Host
 ) -> Exit
     requires { IfSome plan (Allows (S.answers source)) }
 {
-    let Ok(seed) = RandomState::new(rt) else {
-        return refuse(rt, &"no random seed", NO_SEED);
-    };
-    let listener = match bind(rt, options) {
-        Ok(listener) => listener,
-        Err(exit) => return exit,
-    };
-    let page = match page_of(rt, options, seed) {
-        Ok(page) => page,
-        Err(exit) => return exit,
+    let opened = match open(rt, options) {
+        Ok(opened) => opened,
+        Err(exit) => {
+            drop(source);
+            return exit;
+        }
     };
     let filled_by = who_fills(options, plan.is_some());
-    say_serving(rt, source.group_count(), &listener, options, filled_by);
+    say_serving(
+        rt,
+        source.group_count(),
+        &opened.listener,
+        options,
+        filled_by,
+    );
     if let Err(error) = say_listening(rt) {
+        drop(opened);
+        drop(source);
         return no_output(rt, &error);
     }
+    let Opened {
+        seed,
+        listener,
+        page,
+    } = opened;
     let settings = settings_of(options, filled_by, seed, outside);
     let service = Service {
         source,
@@ -170,6 +209,11 @@ pub fn check_flags<H: AllocGlobal + Eprint>(
     }
 }
 
+// Says that what the server needs was refused.
+fn refused<H: AllocGlobal + Eprint>(rt: &H) -> Exit {
+    refuse(rt, &"out of memory, threads or descriptors", OUT_OF_MEMORY)
+}
+
 /// Serves what is asked for, or says why not.
 pub fn serve<
     R: Read + Send + Drop + 'static,
@@ -182,8 +226,14 @@ pub fn serve<
         Ok(source) => source,
         Err(exit) => return exit,
     };
-    let (Some(fetched), Ok(stop)) = (fetched_of(rt.alloc(), &source), stop_of(rt, options)) else {
-        return refuse(rt, &"out of memory, threads or descriptors", OUT_OF_MEMORY);
+    let Some(fetched) = fetched_of(rt.alloc(), &source) else {
+        drop(source);
+        return refused(rt);
+    };
+    let Ok(stop) = stop_of(rt, options) else {
+        drop(fetched);
+        drop(source);
+        return refused(rt);
     };
     let plan = fetched.plan(
         fetch_settings(options),
