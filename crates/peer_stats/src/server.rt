@@ -85,15 +85,22 @@ pub fn open_stats<H: Net>(
 impl<'a> Running<'a> {
     // Adds a client, unless memory or the system refuses that.
     fn add(&mut self, poll: &Poll, stream: TcpStream) {
-        let now = self.service.uptime;
-        let mut client = StatsClient::new(self.alloc, self.keys, stream, now);
         if self.clients.reserve(1).is_err() {
+            drop(stream);
             return;
         }
         let token = Token(self.clients.vacant_key());
+        let mut client = StatsClient::new(self.alloc, self.keys, stream, self.service.uptime);
         if client.register(poll.registry(), token).is_ok() {
-            let _ = self.clients.insert(client);
+            drop(self.clients.insert(client));
+        } else {
+            drop(client);
         }
+    }
+
+    // Lets a client go.
+    fn remove(&mut self, key: usize) {
+        drop(self.clients.try_remove(key));
     }
 
     // Accepts the clients that wait, as many as there is room for.
@@ -115,7 +122,7 @@ impl<'a> Running<'a> {
             return;
         };
         if !client.turn(&mut self.service) {
-            let _ = self.clients.try_remove(key);
+            self.remove(key);
         }
     }
 
@@ -127,7 +134,7 @@ impl<'a> Running<'a> {
                 None => false,
             };
             if overdue {
-                let _ = self.clients.try_remove(key);
+                self.remove(key);
             }
         }
     }
