@@ -3,151 +3,131 @@
 use clap::{Arg, ArgAction, Command};
 use std::alloc::{AllocError, Global};
 
-// A flag with a value.
-fn flag<'a>(
-    alloc: Global,
-    name: &'a str,
-    value: &'a str,
-    default: &'a str,
-    help: &'a str,
-) -> Arg<'a> {
-    Arg::new(alloc, name)
-        .long(name)
-        .value_name(value)
-        .default_value(default)
-        .help(help)
+// What is given with a flag.
+#[derive(Clone, Copy)]
+enum Takes {
+    // Nothing.
+    Nothing,
+    // A value of this name, always.
+    Required(&'static str),
+    // A value of this name.
+    Value(&'static str),
+    // A value of this name, and by default this one.
+    Defaulted(&'static str, &'static str),
+    // Words that stand without a flag.
+    Words,
 }
 
-// The flags for what is served.
-fn with_groups<'a>(alloc: Global, command: Command<'a>) -> Result<Command<'a>, AllocError> {
-    command
-        .arg(
-            Arg::new(alloc, "listen")
-                .long("listen")
-                .value_name("ADDR")
-                .required(true)
-                .help("The address to serve, such as 127.0.0.1:8001"),
-        )?
-        .arg(
-            Arg::new(alloc, "demo")
-                .long("demo")
-                .action(ArgAction::SetTrue)
-                .help("Serve the groups echo, square and fill, for demonstrations"),
-        )?
-        .arg(
-            Arg::new(alloc, "table")
-                .long("table")
-                .value_name("FILE")
-                .help("Serve the lines GROUP tab KEY tab VALUE of a file"),
-        )?
-        .arg(
-            Arg::new(alloc, "GROUP=URL")
-                .action(ArgAction::Append)
-                .num_args(0..)
-                .help(
-                    "A group, and what stands before its keys at its origin, such as thumbs=http://10.0.0.7/thumbs/",
-                ),
-        )
+// A flag, without its dashes.
+#[derive(Clone, Copy)]
+struct Flag {
+    name: &'static str,
+    takes: Takes,
+    help: &'static str,
 }
 
-// The flags for how services are asked.
-fn with_fetching<'a>(alloc: Global, command: Command<'a>) -> Result<Command<'a>, AllocError> {
-    command
-        .arg(flag(
-            alloc,
-            "fetchers",
-            "N",
-            "1",
-            "Threads that fetch values of services, 1 to 4",
-        ))?
-        .arg(flag(
-            alloc,
-            "under-way",
-            "N",
-            "1024",
-            "Values of services that each of them has under way, 1 to 1024",
-        ))?
-        .arg(flag(
-            alloc,
-            "timeout",
-            "SECONDS",
-            "10",
-            "How long a service may take for a value, 1 to 3600",
-        ))?
-        .arg(
-            Arg::new(alloc, "connection-for-each")
-                .long("connection-for-each")
-                .action(ArgAction::SetTrue)
-                .help("Send each request to a service on a connection of its own"),
-        )
-}
+// The flags, as `--help` lists them: for what is served, for how services are asked, for how it is served, and for whoever
+// runs it.
+const FLAGS: [Flag; 15] = [
+    Flag {
+        name: "listen",
+        takes: Takes::Required("ADDR"),
+        help: "The address to serve, such as 127.0.0.1:8001",
+    },
+    Flag {
+        name: "demo",
+        takes: Takes::Nothing,
+        help: "Serve the groups echo, square and fill, for demonstrations",
+    },
+    Flag {
+        name: "table",
+        takes: Takes::Value("FILE"),
+        help: "Serve the lines GROUP tab KEY tab VALUE of a file",
+    },
+    Flag {
+        name: "GROUP=URL",
+        takes: Takes::Words,
+        help: "A group, and what stands before its keys at its origin, such as thumbs=http://10.0.0.7/thumbs/",
+    },
+    Flag {
+        name: "fetchers",
+        takes: Takes::Defaulted("N", "1"),
+        help: "Threads that fetch values of services, 1 to 4",
+    },
+    Flag {
+        name: "under-way",
+        takes: Takes::Defaulted("N", "1024"),
+        help: "Values of services that each of them has under way, 1 to 1024",
+    },
+    Flag {
+        name: "timeout",
+        takes: Takes::Defaulted("SECONDS", "10"),
+        help: "How long a service may take for a value, 1 to 3600",
+    },
+    Flag {
+        name: "connection-for-each",
+        takes: Takes::Nothing,
+        help: "Send each request to a service on a connection of its own",
+    },
+    Flag {
+        name: "workers",
+        takes: Takes::Defaulted("N", "0"),
+        help: "Threads that look up a table or the groups of --demo, 0 to 16; with 0 the loops do that",
+    },
+    Flag {
+        name: "loops",
+        takes: Takes::Defaulted("N", "2"),
+        help: "Threads that serve connections, 1 to 16",
+    },
+    Flag {
+        name: "connections",
+        takes: Takes::Defaulted("N", "10000"),
+        help: "Connections open at one moment, 1 to 65536",
+    },
+    Flag {
+        name: "cache",
+        takes: Takes::Defaulted("BYTES", "64MiB"),
+        help: "Keys and values that the cache of each group keeps, in bytes, KiB, MiB or GiB; 4096 keys at most",
+    },
+    Flag {
+        name: "memory",
+        takes: Takes::Defaulted("BYTES", "256MiB"),
+        help: "Above this, a client that takes no replies gets no further value, in bytes, KiB, MiB or GiB",
+    },
+    Flag {
+        name: "stats",
+        takes: Takes::Value("ADDR"),
+        help: "Where /metrics and /healthz are served, such as 9100 for 127.0.0.1:9100",
+    },
+    Flag {
+        name: "until-eof",
+        takes: Takes::Nothing,
+        help: "End once standard input has ended and clients have their replies, and print the totals",
+    },
+];
 
-// The flags for how it is served.
-fn with_serving<'a>(alloc: Global, command: Command<'a>) -> Result<Command<'a>, AllocError> {
-    command
-        .arg(flag(
-            alloc,
-            "workers",
-            "N",
-            "0",
-            "Threads that look up a table or the groups of --demo, 0 to 16; with 0 the loops do that",
-        ))?
-        .arg(flag(
-            alloc,
-            "loops",
-            "N",
-            "2",
-            "Threads that serve connections, 1 to 16",
-        ))?
-        .arg(flag(
-            alloc,
-            "connections",
-            "N",
-            "10000",
-            "Connections open at one moment, 1 to 65536",
-        ))?
-        .arg(flag(
-            alloc,
-            "cache",
-            "BYTES",
-            "64MiB",
-            "Keys and values that the cache of each group keeps, in bytes, KiB, MiB or GiB; 4096 keys at most",
-        ))?
-        .arg(flag(
-            alloc,
-            "memory",
-            "BYTES",
-            "256MiB",
-            "Above this, a client that takes no replies gets no further value, in bytes, KiB, MiB or GiB",
-        ))
-}
-
-// The flags for whoever runs it.
-fn with_operation<'a>(alloc: Global, command: Command<'a>) -> Result<Command<'a>, AllocError> {
-    command
-        .arg(
-            Arg::new(alloc, "stats")
-                .long("stats")
-                .value_name("ADDR")
-                .help("Where /metrics and /healthz are served, such as 9100 for 127.0.0.1:9100"),
-        )?
-        .arg(
-            Arg::new(alloc, "until-eof")
-                .long("until-eof")
-                .action(ArgAction::SetTrue)
-                .help(
-                    "End once standard input has ended and clients have their replies, and print the totals",
-                ),
-        )
+// A flag, as `clap` reads it.
+fn arg_of<'a>(alloc: Global, flag: Flag) -> Arg<'a> {
+    let arg = Arg::new(alloc, flag.name).help(flag.help);
+    match flag.takes {
+        Takes::Nothing => arg.long(flag.name).action(ArgAction::SetTrue),
+        Takes::Required(value) => arg.long(flag.name).value_name(value).required(true),
+        Takes::Value(value) => arg.long(flag.name).value_name(value),
+        Takes::Defaulted(value, default) => arg
+            .long(flag.name)
+            .value_name(value)
+            .default_value(default),
+        Takes::Words => arg.action(ArgAction::Append).num_args(0..),
+    }
 }
 
 /// What the program can be called with.
 pub fn command<'a>(alloc: Global) -> Result<Command<'a>, AllocError> {
-    let command = Command::new(alloc, "peer_front").version("0.2.0").about(
+    let mut command = Command::new(alloc, "peer_front").version("0.2.0").about(
         "A peer server for groupcache's clients, in front of HTTP services, a table or both",
     );
-    let command = with_groups(alloc, command)?;
-    let command = with_fetching(alloc, command)?;
-    let command = with_serving(alloc, command)?;
-    with_operation(alloc, command)
+    for flag in FLAGS {
+        command = command.arg(arg_of(alloc, flag))?;
+    }
+    Ok(command)
 }

@@ -178,6 +178,54 @@ fn first_for_services(matches: &ArgMatches<'_>) -> Option<&'static str> {
     None
 }
 
+// The numbers of threads, and how much they have to do at one moment.
+#[derive(Clone, Copy)]
+struct Counts {
+    fetchers: usize,
+    under_way: usize,
+    workers: usize,
+    loops: usize,
+    connections: usize,
+}
+
+impl Counts {
+    // What the words say, or the first that cannot be used.
+    fn of<'w>(matches: &ArgMatches<'w>) -> Result<Counts, BadWord<'w>>
+        ensures fetchers { IfOk result (λ c. (1 ≤ c.fetchers) × (c.fetchers ≤ 4)) }
+        ensures under_way { IfOk result (λ c. (1 ≤ c.under_way) × (c.under_way ≤ 1024)) }
+        ensures workers { IfOk result (λ c. c.workers ≤ 16) }
+        ensures loops { IfOk result (λ c. (1 ≤ c.loops) × (c.loops ≤ 16)) }
+        ensures connections { IfOk result (λ c. (1 ≤ c.connections) × (c.connections ≤ 65536)) }
+    {
+        Ok(Counts {
+            fetchers: number(matches, "fetchers", 1, MAX_FETCHERS)? as usize,
+            under_way: number(matches, "under-way", 1, MAX_UNDER_WAY)? as usize,
+            workers: number(matches, "workers", 0, MAX_THREADS)? as usize,
+            loops: number(matches, "loops", 1, MAX_THREADS)? as usize,
+            connections: number(matches, "connections", 1, MAX_CONNECTIONS)? as usize,
+        })
+    }
+}
+
+// What memory and time have to stay within.
+#[derive(Clone, Copy)]
+struct Limits {
+    cache_bytes: u64,
+    memory: usize,
+    timeout: Duration,
+}
+
+impl Limits {
+    // What the words say, or the first that cannot be used.
+    fn of<'w>(matches: &ArgMatches<'w>) -> Result<Limits, BadWord<'w>> {
+        Ok(Limits {
+            cache_bytes: size(matches, "cache")?,
+            memory: size(matches, "memory")? as usize,
+            timeout: Duration::from_secs(number(matches, "timeout", 1, MAX_TIMEOUT)?),
+        })
+    }
+}
+
 impl<'w> Options<'w> {
     /// What the words say, or the first that cannot be used.
     pub fn of(matches: &ArgMatches<'w>) -> Result<Options<'w>, BadWord<'w>>
@@ -187,20 +235,24 @@ impl<'w> Options<'w> {
         ensures loops { IfOk result (λ o. (1 ≤ o.loops) × (o.loops ≤ 16)) }
         ensures connections { IfOk result (λ o. (1 ≤ o.connections) × (o.connections ≤ 65536)) }
     {
+        let listen = listen(matches)?;
+        let counts = Counts::of(matches)?;
+        let limits = Limits::of(matches)?;
+        let stats = stats(matches)?;
         Ok(Options {
-            listen: listen(matches)?,
+            listen,
             demo: matches.get_flag("demo"),
             table: matches.get_str("table"),
-            fetchers: number(matches, "fetchers", 1, MAX_FETCHERS)? as usize,
-            under_way: number(matches, "under-way", 1, MAX_UNDER_WAY)? as usize,
-            workers: number(matches, "workers", 0, MAX_THREADS)? as usize,
-            loops: number(matches, "loops", 1, MAX_THREADS)? as usize,
-            connections: number(matches, "connections", 1, MAX_CONNECTIONS)? as usize,
-            cache_bytes: size(matches, "cache")?,
-            memory: size(matches, "memory")? as usize,
-            timeout: Duration::from_secs(number(matches, "timeout", 1, MAX_TIMEOUT)?),
+            fetchers: counts.fetchers,
+            under_way: counts.under_way,
+            workers: counts.workers,
+            loops: counts.loops,
+            connections: counts.connections,
+            cache_bytes: limits.cache_bytes,
+            memory: limits.memory,
+            timeout: limits.timeout,
             connection_for_each: matches.get_flag("connection-for-each"),
-            stats: stats(matches)?,
+            stats,
             until_eof: matches.get_flag("until-eof"),
             for_services: first_for_services(matches),
         })
