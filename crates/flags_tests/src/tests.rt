@@ -1,18 +1,24 @@
-//! Tests of the words that the program is called with: what each bad one prints.
-use crate::flags::command;
-use crate::options::Options;
-use crate::room::Room;
-use crate::size::bytes_of;
+//! The words that the program is called with.
+
+use clap::ArgMatches;
+use peer_flags::{Options, Room, command};
 use std::alloc::Global;
 use std::test::Fail;
 
+// What these words are read as.
+fn matches_of<'w>(alloc: Global, words: &'w [&'w str]) -> Result<ArgMatches<'w>, Fail> {
+    Ok(command(alloc)?.try_get_matches_from(words)?)
+}
+
 // What the options of these words print where one cannot be used, or nothing.
 fn told(alloc: Global, words: &[&str]) -> Result<String, Fail> {
-    let matches = command(alloc)?.try_get_matches_from(words)?;
-    match Options::of(&matches) {
+    let matches = matches_of(alloc, words)?;
+    let said = match Options::of(&matches) {
         Ok(_) => Ok(String::new(alloc)),
-        Err(bad) => Ok(format!(in alloc; "{bad}")?),
-    }
+        Err(bad) => format!(in alloc; "{bad}"),
+    };
+    drop(matches);
+    Ok(said?)
 }
 
 // Whether a flag with this value prints this.
@@ -79,26 +85,39 @@ fn numbers_are_within_their_bounds(rt: HostRuntime) -> Result<(), Fail> {
     Ok(())
 }
 
+// How many bytes the cache of a group keeps by these words, or none where one cannot be used.
+fn cache_bytes(alloc: Global, words: &[&str]) -> Result<Option<u64>, Fail> {
+    let matches = matches_of(alloc, words)?;
+    let bytes = match Options::of(&matches) {
+        Ok(options) => Some(options.cache_bytes),
+        Err(_) => None,
+    };
+    drop(matches);
+    Ok(bytes)
+}
+
 #[test]
-fn sizes_are_numbers_with_a_unit(rt: HostRuntime) {
+fn sizes_are_numbers_with_a_unit(rt: HostRuntime) -> Result<(), Fail> {
+    let alloc = rt.alloc();
     let mut right = true;
-    for (text, bytes) in [
-        ("0", Some(0)),
-        ("1048576", Some(1_048_576)),
-        ("1KiB", Some(1024)),
-        ("64MiB", Some(67_108_864)),
-        ("2GiB", Some(2_147_483_648)),
-        ("64MB", None),
-        ("MiB", None),
-        ("", None),
-        ("-1", None),
-        ("1 MiB", None),
-        ("18446744073709551616", None),
-        ("18446744073709551615GiB", None),
+    for (flag, bytes) in [
+        ("--cache=0", Some(0)),
+        ("--cache=1048576", Some(1_048_576)),
+        ("--cache=1KiB", Some(1024)),
+        ("--cache=64MiB", Some(67_108_864)),
+        ("--cache=2GiB", Some(2_147_483_648)),
+        ("--cache=64MB", None),
+        ("--cache=MiB", None),
+        ("--cache=", None),
+        ("--cache=-1", None),
+        ("--cache=1 MiB", None),
+        ("--cache=18446744073709551616", None),
+        ("--cache=18446744073709551615GiB", None),
     ] {
-        right &= bytes_of(text) == bytes;
+        right &= cache_bytes(alloc, &["peer_front", "--listen", "127.0.0.1:1", flag])? == bytes;
     }
     assert!(rt; right);
+    Ok(())
 }
 
 #[test]
@@ -129,21 +148,23 @@ fn a_page_has_a_port(rt: HostRuntime) -> Result<(), Fail> {
     Ok(())
 }
 
-// The room within so many files, and how many are opened at most.
+// The room within so many files, and how many are opened at most, or none where a word cannot be used.
 fn room(
     alloc: Global,
     words: &[&str],
     files: usize,
     has_services: bool,
-) -> Result<(Room, usize), Fail> {
-    let matches = command(alloc)?.try_get_matches_from(words)?;
-    match Options::of(&matches) {
-        Ok(options) => Ok((
+) -> Result<Option<(Room, usize)>, Fail> {
+    let matches = matches_of(alloc, words)?;
+    let room = match Options::of(&matches) {
+        Ok(options) => Some((
             options.room_within(files, has_services),
             options.files(has_services),
         )),
-        Err(_) => Err(Fail::new("a word that cannot be used")),
-    }
+        Err(_) => None,
+    };
+    drop(matches);
+    Ok(room)
 }
 
 #[test]
@@ -162,14 +183,11 @@ fn few_files_leave_less_room(rt: HostRuntime) -> Result<(), Fail> {
         (fetchers.as_slice(), 1_024, true, 468, 57, 18_292),
     ] {
         let seen = room(rt.alloc(), words, files, has_services)?;
-        right &= seen
-            == (
-                Room {
-                    connections,
-                    under_way,
-                },
-                most,
-            );
+        let expected = Room {
+            connections,
+            under_way,
+        };
+        right &= seen == Some((expected, most));
     }
     assert!(rt; right);
     Ok(())

@@ -1,0 +1,8 @@
+//! Tests of the words that `peer_front` is called with: what each bad one prints, sizes, and the room that few files leave.
+//!
+//! It stands on `peer_flags` and `clap`, and uses their public calls alone. It has tests alone and promises nothing: what
+//! they expect is written out.
+#![tactic(auto)]
+
+#[cfg(test)]
+mod tests;
