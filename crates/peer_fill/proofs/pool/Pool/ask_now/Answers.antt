@@ -1,0 +1,4 @@
+use Rattle.peer_fill.proofs.pool.Pool.ask_now.Goals as goal
+
+pub returns-in-Some-clause-not_now : goal.returns-in-Some-clause-not_now
+returns-in-Some-clause-not_now g c = tt
