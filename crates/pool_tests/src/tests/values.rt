@@ -28,3 +28,11 @@ pub fn is_shown<S: Source>(claim: &Claim<S>, value: &[u8]) -> bool {
     let mut note = claim.note();
     shows(claim.look(&mut note), value)
 }
+
+/// The same of a claim that may not be there.
+pub fn is_shown_by<S: Source>(claim: &Option<Claim<S>>, value: &[u8]) -> bool {
+    match claim {
+        Some(claim) => is_shown(claim, value),
+        None => false,
+    }
+}

@@ -14,6 +14,14 @@ use test_support::all_called;
 /// What five asks gave: which were hits, and the last byte of what each showed, or 0.
 type Shown = ([bool; 5], [u8; 5]);
 
+// Whether the claim is a hit, and the last byte that it shows.
+fn shown_last<S: Source>(claim: &Claim<S>) -> Option<(bool, u8)> {
+    let mut note = claim.note();
+    let value = value_of(claim.look(&mut note)?);
+    let last = value.last().copied().unwrap_or(0);
+    Some((matches!(claim, Claim::Ready(_)), last))
+}
+
 // Asks for a key of one byte, and has the worker run behind it: whether it was a hit, and the last byte that it showed.
 fn ask_and_work<S: Source, L: Ledger, R: Wait>(
     rt: &R,
@@ -22,10 +30,9 @@ fn ask_and_work<S: Source, L: Ledger, R: Wait>(
 ) -> Option<(bool, u8)> {
     let claim = desk.ask(rt, ECHO, &[key])?;
     desk.work(rt, 1, &NoGate);
-    let mut note = claim.note();
-    let value = value_of(claim.look(&mut note)?);
-    let last = value.last().copied().unwrap_or(0);
-    Some((matches!(claim, Claim::Ready(_)), last))
+    let seen = shown_last(&claim);
+    drop(claim);
+    seen
 }
 
 // The same for five keys.
@@ -55,7 +62,7 @@ impl Steps for SixAsks {
 
     fn take<L: Ledger, R: Wait>(&self, rt: &R, desk: &mut Desk<Numbering, L>) -> Option<Shown> {
         let shown = ask_for_each(rt, desk, &self.keys);
-        let _claim = desk.ask(rt, ECHO, &[self.keys[4]]);
+        drop(desk.ask(rt, ECHO, &[self.keys[4]]));
         shown
     }
 }

@@ -4,7 +4,7 @@ ghost use Rattle.peer_view.specs.Sinks.{MAX_VALUE};
 
 use super::desk::{Desk, Steps, run};
 use super::numbering::Numbering;
-use crate::tests::values::{ECHO, is_shown, value_of};
+use crate::tests::values::{ECHO, is_shown_by, value_of};
 use bytes::Bytes;
 use peer_fill::{Gate, Report, TakenJob};
 use peer_flight::Claim;
@@ -59,12 +59,23 @@ fn bring<L: Ledger, R: Wait>(
     is_own
 }
 
+// Two claims, if they are there.
+type Pair = [Option<Claim<Numbering>>; 2];
+
 // Whether each claim shows the value that is brought.
-fn are_shown(claims: &[Claim<Numbering>; 2]) -> [bool; 2] {
+fn are_shown(claims: &Pair) -> [bool; 2] {
     [
-        is_shown(&claims[0], b"brought"),
-        is_shown(&claims[1], b"brought"),
+        is_shown_by(&claims[0], b"brought"),
+        is_shown_by(&claims[1], b"brought"),
     ]
+}
+
+// Whether there is no job.
+fn lacks_job<L: Ledger, R: Wait>(rt: &R, desk: &mut Desk<Numbering, L>, gate: &Counting) -> bool {
+    let job = desk.take_job(rt, gate);
+    let is_none = job.is_none();
+    drop(job);
+    is_none
 }
 
 // What became of two jobs that were taken, the second of which was finished first.
@@ -90,12 +101,12 @@ struct Seen {
 fn bring_both<L: Ledger, R: Wait>(
     rt: &R,
     desk: &mut Desk<Numbering, L>,
-    claims: &[Claim<Numbering>; 2],
+    claims: &Pair,
     gate: &Counting,
 ) -> ([bool; 2], [[bool; 2]; 3], bool) {
     let first = desk.take_job(rt, gate);
     let second = desk.take_job(rt, gate);
-    let is_last = desk.take_job(rt, gate).is_none();
+    let is_last = lacks_job(rt, desk, gate);
     let before = are_shown(claims);
     let second_own = bring(rt, desk, second, b"two", gate);
     let between = are_shown(claims);
@@ -114,11 +125,28 @@ fn work_off<L: Ledger, R: Wait>(
     gate: &Counting,
 ) -> [usize; 3] {
     for key in [b"three".as_slice(), b"four", b"five"] {
-        let _led = desk.ask(rt, ECHO, key);
+        drop(desk.ask(rt, ECHO, key));
     }
     let two = desk.work(rt, 2, gate);
     let one = desk.work(rt, 2, gate);
     [two, one, desk.work(rt, 2, gate)]
+}
+
+// Takes a job, and has it filled by a call of the source.
+fn fill_taken<L: Ledger, R: Wait>(rt: &R, desk: &mut Desk<Numbering, L>, gate: &Counting) {
+    if let Some(job) = desk.take_job(rt, gate) {
+        let fill = &mut desk.seats.fill;
+        desk.pool.fill_job(rt, desk.alloc, fill, job, gate);
+    }
+}
+
+// Whether the claim shows a value of its source.
+fn shows_six(claim: &Claim<Numbering>) -> bool {
+    let mut note = claim.note();
+    match claim.look(&mut note) {
+        Some(fill) => value_of(fill).starts_with(b"six") && value_of(fill).len() == 4,
+        None => false,
+    }
 }
 
 // Takes the job of a flight, and has it filled by a call of the source. Whether its value is shown, and is kept where the
@@ -130,13 +158,19 @@ fn fill_one<L: Ledger, R: Wait>(
 ) -> Option<[bool; 2]> {
     let before = desk.pool.cached_bytes(rt);
     let claim = desk.ask(rt, ECHO, b"six")?;
-    let job = desk.take_job(rt, gate)?;
-    let fill = &mut desk.seats.fill;
-    desk.pool.fill_job(rt, desk.alloc, fill, job, gate);
-    let mut note = claim.note();
-    let value = value_of(claim.look(&mut note)?);
+    fill_taken(rt, desk, gate);
+    let is_called = shows_six(&claim);
+    drop(claim);
     let is_kept = desk.pool.cached_bytes(rt) == before.saturating_add(7);
-    Some([value.starts_with(b"six") && value.len() == 4, is_kept])
+    Some([is_called, is_kept])
+}
+
+// Whether an ask for the second key that was brought is a hit.
+fn hits<L: Ledger, R: Wait>(rt: &R, desk: &mut Desk<Numbering, L>) -> bool {
+    let claim = desk.ask(rt, ECHO, b"two");
+    let is_hit = matches!(claim, Some(Claim::Ready(_)));
+    drop(claim);
+    is_hit
 }
 
 /// Asks for two keys whose values are brought, and then for four that are filled.
@@ -152,17 +186,18 @@ impl Steps for Brings {
             before: AtomicU64::new(0),
             after: AtomicU64::new(0),
         };
-        let is_empty = desk.take_job(rt, &gate).is_none();
-        let claims = [desk.ask(rt, ECHO, b"one")?, desk.ask(rt, ECHO, b"two")?];
+        let is_empty = lacks_job(rt, desk, &gate);
+        let claims = [desk.ask(rt, ECHO, b"one"), desk.ask(rt, ECHO, b"two")];
         let (own, shown, is_last) = bring_both(rt, desk, &claims, &gate);
-        let hit = desk.ask(rt, ECHO, b"two")?;
+        drop(claims);
+        let hit = hits(rt, desk);
         let filled = work_off(rt, desk, &gate);
         let called = fill_one(rt, desk, &gate)?;
         Some(Seen {
             none: [is_empty, is_last],
             own,
             shown,
-            hit: matches!(hit, Claim::Ready(_)),
+            hit,
             gate: [gate.before.load(SeqCst), gate.after.load(SeqCst)],
             filled,
             called,

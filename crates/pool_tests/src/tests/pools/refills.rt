@@ -1,7 +1,7 @@
 //! What is made up for the fills of strangers, and how they are counted.
 
 use super::desk::{Desk, Steps, run};
-use crate::tests::values::{ECHO, SQUARE, shows};
+use crate::tests::values::{ECHO, SQUARE, value_of};
 use peer_fill::Report;
 use peer_flight::Claim;
 use peer_source::{DemoSource, Fill, GroupId};
@@ -19,11 +19,26 @@ fn refill<L: Ledger>(
 ) -> Option<Fill<DemoSource>> {
     let key = ByteView::copy_of(desk.alloc, key).ok()?;
     let came = Fill::run(desk.alloc, &DemoSource, group, key);
-    desk.pool.refill(desk.alloc, claim, &came).ok()?
+    let refill = desk.pool.refill(desk.alloc, claim, &came).ok();
+    drop(came);
+    refill?
 }
 
-/// Two seats count so many strangers, and one of them asks for the square of 12: whether its claim is not refilled from
-/// its own fill, and is from one of another key or group.
+// Whether the refill where this key's fill of the group came is the square of 12. None where there is no refill.
+fn is_refilled<L: Ledger>(
+    desk: &Desk<DemoSource, L>,
+    claim: &Claim<DemoSource>,
+    group: GroupId,
+    key: &[u8],
+) -> Option<bool> {
+    let refill = refill(desk, claim, group, key)?;
+    let is_square = value_of(&refill) == b"144".as_slice();
+    drop(refill);
+    Some(is_square)
+}
+
+/// Two seats count so many strangers, and one of them asks for the square of 12: whether its claim is refilled from its
+/// own fill, from one of another key, and from one of another group.
 #[derive(Clone, Copy)]
 struct Refills {
     strangers: [u64; 2],
@@ -32,21 +47,23 @@ struct Refills {
 impl Steps for Refills {
     type Source = DemoSource;
 
-    type Seen = [bool; 3];
+    type Seen = [Option<bool>; 3];
 
     fn take<L: Ledger, R: Wait>(
         &self,
         rt: &R,
         desk: &mut Desk<DemoSource, L>,
-    ) -> Option<[bool; 3]> {
+    ) -> Option<[Option<bool>; 3]> {
         desk.seats.conn.add_strangers(self.strangers[0]);
         desk.seats.other.add_strangers(self.strangers[1]);
         let claim = desk.ask(rt, SQUARE, b"12")?;
-        Some([
-            refill(desk, &claim, SQUARE, b"12").is_none(),
-            shows(refill(desk, &claim, SQUARE, b"13").as_ref(), b"144"),
-            shows(refill(desk, &claim, ECHO, b"12").as_ref(), b"144"),
-        ])
+        let seen = [
+            is_refilled(desk, &claim, SQUARE, b"12"),
+            is_refilled(desk, &claim, SQUARE, b"13"),
+            is_refilled(desk, &claim, ECHO, b"12"),
+        ];
+        drop(claim);
+        Some(seen)
     }
 }
 
@@ -60,5 +77,5 @@ fn strangers_are_refilled_and_counted_up_to_the_most(rt: HostRuntime) {
     };
     let strangers = [3, u64::MAX];
     let seen = run(&rt, rt.alloc(), DemoSource, 0, &Refills { strangers });
-    assert_eq!(rt; seen, Some(([true; 3], report)));
+    assert_eq!(rt; seen, Some(([None, Some(true), Some(true)], report)));
 }
