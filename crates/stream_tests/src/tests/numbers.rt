@@ -5,7 +5,7 @@ ghost use Rattle.peer_fill.specs.Pools.{IsConnSeatOf, IsFillSeatOf};
 ghost use Rattle.stream_tests.specs.Numbers.{IsNumber, echo_number, echo_numbered, number_limited, some_number};
 
 use itoa::Buffer;
-use peer_fill::{Pool, Seats, pop_seat};
+use peer_fill::{ConnSeat, FillSeat, Pool, Seats, pop_seat};
 use peer_flight::Claim;
 use peer_source::{Fill, GetFault, GetResult, GroupId, Outcome, Source};
 use peer_view::AllocSink;
@@ -89,6 +89,35 @@ pub fn shows<S: Source>(claim: &Option<Claim<S>>, value: &[u8]) -> bool {
 }
 
 // Both seats ask, the worker runs, the first seat asks again, and the worker runs: whether the claims show 1, 1 and 2.
+fn show_by<S: Source, L: Ledger, R: Wait>(
+    rt: &R,
+    alloc: Global,
+    pool: &Pool<S, L>,
+    fills: &mut Vec<FillSeat<S, L>>,
+    one: &mut ConnSeat<S, L>,
+    two: &mut ConnSeat<S, L>,
+) -> [bool; 3]
+    requires fills { All (IsFillSeatOf pool.now) fills.old.items }
+    requires one { IsConnSeatOf pool.now one.old }
+    requires two { IsConnSeatOf pool.now two.old }
+{
+    let first = ask_for(rt, alloc, pool, one, b"k");
+    let second = ask_for(rt, alloc, pool, two, b"k");
+    do_jobs(rt, alloc, pool, fills);
+    let third = ask_for(rt, alloc, pool, one, b"k");
+    do_jobs(rt, alloc, pool, fills);
+    let seen = [
+        shows(&first, b"1"),
+        shows(&second, b"1"),
+        shows(&third, b"2"),
+    ];
+    drop(first);
+    drop(second);
+    drop(third);
+    seen
+}
+
+// The same of two seats of these lists.
 fn show_numbers<S: Source, L: Ledger>(
     rt: &(impl Abort + AllocGlobal + Wait),
     pool: &Pool<S, L>,
@@ -97,19 +126,13 @@ fn show_numbers<S: Source, L: Ledger>(
     requires fills { All (IsFillSeatOf pool.now) lists.old.fills.items }
     requires conns { All (IsConnSeatOf pool.now) lists.old.conns.items }
 {
-    let alloc = rt.alloc();
     let mut one = pop_seat(pool, &mut lists.conns).expect(rt, "a seat");
     let mut two = pop_seat(pool, &mut lists.conns).expect(rt, "a seat");
-    let first = ask_for(rt, alloc, pool, &mut one, b"k");
-    let second = ask_for(rt, alloc, pool, &mut two, b"k");
-    do_jobs(rt, alloc, pool, &mut lists.fills);
-    let third = ask_for(rt, alloc, pool, &mut one, b"k");
-    do_jobs(rt, alloc, pool, &mut lists.fills);
-    [
-        shows(&first, b"1"),
-        shows(&second, b"1"),
-        shows(&third, b"2"),
-    ]
+    let fills = &mut lists.fills;
+    let seen = show_by(rt, rt.alloc(), pool, fills, &mut one, &mut two);
+    drop(one);
+    drop(two);
+    seen
 }
 
 // The same with a pool of its own, which was stopped and keeps nothing.
