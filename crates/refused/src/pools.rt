@@ -186,7 +186,9 @@ pub fn work<L: Ledger, R: Wait>(
     window::begin(lent.alloc);
     let seats = lent.run_worker(seats);
     window::end(lent.alloc);
-    Some((seats, fill_seen(&claim)))
+    let seen = fill_seen(&claim);
+    drop(claim);
+    Some((seats, seen))
 }
 
 // What a refill gave.
@@ -198,15 +200,27 @@ fn refill_seen(refilled: Result<Option<Fill<DemoSource>>, AllocError>) -> Seen {
     }
 }
 
+// `Pool::refill` of a claim by a fill of another key.
+fn refill_claim<L: Ledger, R: Wait>(
+    lent: &Demo<'_, L, R>,
+    claim: &Claim<DemoSource>,
+) -> Option<Seen> {
+    let other = fill_of(lent.alloc, ECHO, b"other")?;
+    window::begin(lent.alloc);
+    let refilled = lent.pool.refill(lent.alloc, claim, &other);
+    window::end(lent.alloc);
+    let seen = refill_seen(refilled).only_if(finds(&other, b"other"), "the other fill changed");
+    drop(other);
+    Some(seen)
+}
+
 /// `Pool::refill` of a fill of another key.
 pub fn refill<L: Ledger, R: Wait>(lent: &Demo<'_, L, R>, seats: &mut DemoSeats<L>) -> Option<Seen>
     requires { AreOf lent.now.pool.now seats.old }
     ensures { AreOf lent.now.pool.now seats.new }
 {
     let claim = lent.ask_for(seats, b"k")?;
-    let other = fill_of(lent.alloc, ECHO, b"other")?;
-    window::begin(lent.alloc);
-    let refilled = lent.pool.refill(lent.alloc, &claim, &other);
-    window::end(lent.alloc);
-    Some(refill_seen(refilled).only_if(finds(&other, b"other"), "the other fill changed"))
+    let seen = refill_claim(lent, &claim);
+    drop(claim);
+    seen
 }

@@ -11,7 +11,7 @@ use crate::sources::{ECHO, cache_with, fill_of, finds};
 use crate::uses::{Call, over_pool};
 use crate::window;
 use bytes::Bytes;
-use peer_flight::{FillRight, Flight, Table};
+use peer_flight::{Claim, FillRight, Flight, Table};
 use peer_head::{FieldPlaces, HeadBuf, Look};
 use peer_lane::{Body, LaneIn, LaneOut, Ticket, beside, lane};
 use peer_path::locate;
@@ -258,20 +258,32 @@ fn is_enough(refilled: Result<Option<Fill<DemoSource>>, AllocError>) -> bool {
     }
 }
 
+// Whether no other fill was needed for a claim than one of its key, in a pool that is stopped before. Growths are counted on
+// behind that.
+fn is_own_enough<L: Ledger, R: Wait>(
+    lent: &Demo<'_, L, R>,
+    claim: &Claim<DemoSource>,
+) -> Option<bool> {
+    let own = fill_of(lent.alloc, ECHO, b"k")?;
+    window::begin(lent.alloc);
+    lent.pool.stop();
+    let refilled = is_enough(lent.pool.refill(lent.alloc, claim, &own));
+    drop(own);
+    Some(refilled)
+}
+
 /// The calls of a pool that was asked once. Growths are counted on behind them.
 pub fn calls<L: Ledger, R: Wait>(lent: &Demo<'_, L, R>, seats: &mut DemoSeats<L>) -> Option<Seen>
     requires { AreOf lent.now.pool.now seats.old }
     ensures { AreOf lent.now.pool.now seats.new }
 {
-    let own = fill_of(lent.alloc, ECHO, b"k")?;
     let claim = lent.ask_for(seats, b"k")?;
-    window::begin(lent.alloc);
-    lent.pool.stop();
+    let refilled = is_own_enough(lent, &claim);
+    drop(claim);
     let named = lent.pool.names().group(b"echo") == Some(ECHO);
-    let refilled = is_enough(lent.pool.refill(lent.alloc, &claim, &own));
     seats.conn.add_strangers(1);
     let counted = seats.counts() == [1, 0, 1, 0] && seats.conn.strangers() == 1;
-    all(&[named, refilled, counted])
+    all(&[named, refilled?, counted])
 }
 
 /// The calls of a pool, with the one that closes it.
