@@ -4,7 +4,7 @@ ghost use Rattle.peer_fill.specs.Pools.{source_of, IsConnSeatOf};
 
 use super::desk::{Desk, DeskSeats};
 use super::numbering::Numbering;
-use crate::tests::values::{ECHO, is_shown};
+use crate::tests::values::{ECHO, is_shown_by};
 use peer_fill::{ConnSeat, Gate, Pool};
 use peer_flight::Claim;
 use peer_source::GroupId;
@@ -58,11 +58,10 @@ struct Counts {
 fn ask_both<L: Ledger, R: Wait>(
     rt: &R,
     desk: &mut Desk<Numbering, L>,
-) -> Option<(Claim<Numbering>, Claim<Numbering>)> {
-    let first = desk.ask(rt, ECHO, b"k")?;
+) -> [Option<Claim<Numbering>>; 2] {
+    let first = desk.ask(rt, ECHO, b"k");
     desk.change_seats();
-    let second = desk.ask(rt, ECHO, b"k")?;
-    Some((first, second))
+    [first, desk.ask(rt, ECHO, b"k")]
 }
 
 // Runs the worker, by whose gate the connection asks again: what the connection counted then, and the worker.
@@ -106,8 +105,12 @@ fn seen<L: Ledger + Send + Sync, R: Wait>(
     let mut desk = Desk::<Numbering, L>::open(alloc, Numbering::new(2, 0, 0), 0, blank)?;
     let claims = ask_both(rt, &mut desk);
     let counts = meddle(rt, desk);
-    let (first, second) = claims?;
-    Some(([is_shown(&first, b"k1"), is_shown(&second, b"k1")], counts))
+    let shown = [
+        is_shown_by(&claims[0], b"k1"),
+        is_shown_by(&claims[1], b"k1"),
+    ];
+    drop(claims);
+    Some((shown, counts))
 }
 
 #[test]

@@ -2,7 +2,7 @@
 
 use super::desk::{Desk, Steps, run};
 use super::numbering::Numbering;
-use crate::tests::values::{ECHO, is_shown};
+use crate::tests::values::{ECHO, is_shown_by};
 use peer_fill::{NoGate, Report};
 use peer_flight::Claim;
 use peer_view::ByteView;
@@ -36,10 +36,13 @@ impl Steps for AskTwice {
     type Seen = [bool; 2];
 
     fn take<L: Ledger, R: Wait>(&self, rt: &R, desk: &mut Desk<Numbering, L>) -> Option<[bool; 2]> {
-        let first = desk.ask(rt, ECHO, b"k")?;
-        let second = ask_by_halves(rt, desk)?;
+        let first = desk.ask(rt, ECHO, b"k");
+        let second = ask_by_halves(rt, desk);
         desk.work(rt, 1, &NoGate);
-        Some([is_shown(&first, b"k1"), is_shown(&second, b"k1")])
+        let shown = [is_shown_by(&first, b"k1"), is_shown_by(&second, b"k1")];
+        drop(first);
+        drop(second);
+        Some(shown)
     }
 }
 
