@@ -169,12 +169,8 @@ fn serve_source<S: Source, H: AllocGlobal + Print + Eprint + RandomSource + Host
         drop(source);
         return no_output(rt, &error);
     }
-    let Opened {
-        seed,
-        listener,
-        page,
-    } = opened;
-    let settings = settings_of(options, filled_by, seed, outside);
+    let settings = settings_of(options, filled_by, opened.seed, outside);
+    let Opened { listener, page, .. } = opened;
     let service = Service {
         source,
         listener,
