@@ -205,11 +205,6 @@ pub fn check_flags<H: AllocGlobal + Eprint>(
     }
 }
 
-// Says that what the server needs was refused.
-fn refused<H: AllocGlobal + Eprint>(rt: &H) -> Exit {
-    refuse(rt, &"out of memory, threads or descriptors", OUT_OF_MEMORY)
-}
-
 /// Serves what is asked for, or says why not.
 pub fn serve<
     R: Read + Send + Drop + 'static,
@@ -222,22 +217,21 @@ pub fn serve<
         Ok(source) => source,
         Err(exit) => return exit,
     };
-    let Some(fetched) = fetched_of(rt.alloc(), &source) else {
-        drop(source);
-        return refused(rt);
+    let (Some(fetched), Ok(stop)) = (fetched_of(rt.alloc(), &source), stop_of(rt, options)) else {
+        return refuse(rt, &"out of memory, threads or descriptors", OUT_OF_MEMORY);
     };
-    let Ok(stop) = stop_of(rt, options) else {
-        drop(fetched);
-        drop(source);
-        return refused(rt);
+    let plan = if has_services {
+        Some(fetched.plan(
+            fetch_settings(options),
+            options.under_way,
+            counters.failures(),
+        ))
+    } else {
+        None
     };
-    let plan = fetched.plan(
-        fetch_settings(options),
-        options.under_way,
-        counters.failures(),
-    );
-    say_prefixes(rt, words, plan.endpoints.each);
-    let plan = if has_services { Some(plan) } else { None };
+    if let Some(plan) = &plan {
+        say_prefixes(rt, words, plan.endpoints.each);
+    }
     let outside = Outside {
         counters: &counters,
         stop: &stop,
