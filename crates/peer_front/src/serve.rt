@@ -126,17 +126,12 @@ fn open<H: AllocGlobal + Eprint + RandomSource + Host>(
         return Err(refuse(rt, &"no random seed", NO_SEED));
     };
     let listener = bind(rt, options)?;
-    match page_of(rt, options, seed) {
-        Ok(page) => Ok(Opened {
-            seed,
-            listener,
-            page,
-        }),
-        Err(exit) => {
-            drop(listener);
-            Err(exit)
-        }
-    }
+    let page = page_of(rt, options, seed)?;
+    Ok(Opened {
+        seed,
+        listener,
+        page,
+    })
 }
 
 // Serves this source, or says why not.
@@ -221,17 +216,13 @@ pub fn serve<
         return refuse(rt, &"out of memory, threads or descriptors", OUT_OF_MEMORY);
     };
     let plan = if has_services {
-        Some(fetched.plan(
-            fetch_settings(options),
-            options.under_way,
-            counters.failures(),
-        ))
+        let fetch = fetch_settings(options);
+        let plan = fetched.plan(fetch, options.under_way, counters.failures());
+        say_prefixes(rt, words, plan.endpoints.each);
+        Some(plan)
     } else {
         None
     };
-    if let Some(plan) = &plan {
-        say_prefixes(rt, words, plan.endpoints.each);
-    }
     let outside = Outside {
         counters: &counters,
         stop: &stop,
