@@ -1,5 +1,5 @@
-"""What several scripts of this folder share: a free port, a server that ends with its block, rows, and words of the command
-line."""
+"""What several scripts of this folder share: a free port, a request, a server that ends with its block, rows, and words of the
+command line."""
 import argparse
 import socket
 import subprocess
@@ -10,6 +10,13 @@ def free_port():
     with socket.socket() as probe:
         probe.bind(("127.0.0.1", 0))
         return probe.getsockname()[1]
+
+
+def ask(address, path):
+    """The reply of a server to a request for this group and key, on a connection of its own."""
+    with socket.create_connection(address, 30) as stream:
+        stream.sendall(f"GET /_groupcache/{path} HTTP/1.1\r\nHost: h\r\nConnection: close\r\n\r\n".encode())
+        return b"".join(iter(lambda: stream.recv(10000), b""))
 
 
 class Started:

@@ -18,7 +18,7 @@ import threading
 import time
 from concurrent.futures import ThreadPoolExecutor
 
-from common import Listening, run_rows
+from common import Listening, ask, run_rows
 
 PROGRAM = sys.argv[1] if len(sys.argv) > 1 else "crates/peer_front/out/peer_front"
 VALUE = b"HTTP/1.1 200 OK\r\nContent-Length: 1\r\n\r\nv"
@@ -104,10 +104,7 @@ class Server(Listening):
         super().__init__(PROGRAM, "--cache", "0", *words)
 
     def ask(self, path):
-        """The reply to a request on a connection of its own."""
-        with socket.create_connection(self.address, 30) as stream:
-            stream.sendall(f"GET /_groupcache/{path} HTTP/1.1\r\nHost: h\r\nConnection: close\r\n\r\n".encode())
-            return b"".join(iter(lambda: stream.recv(10000), b""))
+        return ask(self.address, path)
 
     def ask_together(self, *paths):
         """The replies to requests that come at once."""

@@ -6,12 +6,11 @@
 
 Its last line is `rows N failures 0`; where a row fails, so does the program.
 """
-import socket
 import subprocess
 import sys
 import time
 
-from common import Started, free_port, run_rows
+from common import Started, ask, free_port, run_rows
 
 PROGRAM = sys.argv[1] if len(sys.argv) > 1 else "crates/upper_peer/out/upper_peer"
 
@@ -23,19 +22,14 @@ class Upper(Started):
         self.address = ("127.0.0.1", free_port())
         self.process = subprocess.Popen([PROGRAM, "%s:%d" % self.address], stdout=subprocess.DEVNULL)
 
-    def connect(self):
-        """A connection, once it listens, which it does not say."""
+    def ask(self, path):
+        """The reply to a request, once the server listens, which it does not say."""
         for _ in range(100):
             try:
-                return socket.create_connection(self.address, 30)
+                return ask(self.address, path)
             except ConnectionRefusedError:
                 time.sleep(0.1)
         raise ConnectionRefusedError
-
-    def ask(self, path):
-        with self.connect() as stream:
-            stream.sendall(f"GET /_groupcache/{path} HTTP/1.1\r\nHost: h\r\nConnection: close\r\n\r\n".encode())
-            return b"".join(iter(lambda: stream.recv(10000), b""))
 
 
 def a_key_comes_in_capital_letters():
