@@ -1,16 +1,17 @@
 -- What a value is that was found.
-use Rattle.std.proofs.Common.{◌≡◌, ℕ, ◌≤◌, Bool, true, false, List, [], ◌∷◌, ◌++◌, length, take, drop, cond, Option, Some, None, Result, Ok, Err, IfOk, IfSome, refl, sym, ap, ◌∙◌, subst, subst₂, arith, append-nil, Vec}
+use Rattle.std.proofs.Common.{◌≡◌, ℕ, ◌≤◌, Bool, true, false, List, [], length, take, drop, Option, Some, None, Result, Ok, Err, IfOk, refl, sym, subst, subst₂, arith, append-nil, Vec}
 use mathlib.Core.Logic.{∥∥₁_map}
 use Rattle.std.proofs.lemmas.List.{take-append-drop, take_all}
 use Rattle.std.specs.declared.alloc.Global.{Global}
 use Rattle.peer_view.specs.Sinks.{MAX_VALUE}
 use Rattle.peer_http.specs.Replies.{IsReply}
 use Rattle.peer_http.specs.Receivings.{IsStanding}
-use Rattle.peer_origin.specs.declared.exchange.Failure.{Failure}
 use Rattle.peer_origin.specs.declared.fault.FetchFault.{FetchFault}
-use Rattle.peer_origin.specs.Fetches.{Use, IsTry, IsFoundBy, Tries, once, twice}
-use Rattle.peer_fetch.specs.Fetchings.{GoesOnAnew, IsFoundIn, first_uses, use_by, uses_by}
-use Rattle.peer_fetch.specs.declared.fetching.Answer.{Answer}
+use Rattle.peer_origin.specs.Fetches.{IsTry, Tries, once, twice}
+use Rattle.peer_fetch.specs.Fetchings.{GoesOnAnew, IsFoundIn, use_by, uses_by}
+use Rattle.peer_fetch.specs.Values.{IsFree}
+use Rattle.peer_fetch.specs.declared.done.Fetched.{Fetched}
+use Rattle.peer_fetch.specs.declared.fetching.Fetching.{Fetching}
 use Rattle.peer_fetch.specs.declared.fetching.Silence.{Silence}
 
 tries_by : (request : List ℕ) (sent : ℕ) (came : List ℕ) (ended : Bool) → IsTry (Some []) request (use_by request sent came ended)
@@ -63,6 +64,12 @@ module _ (request : List ℕ) (sent : ℕ) (came : List ℕ) (first : Option Sil
   answers_at_end (Ok v) (same, ok) s =
       ∥∥₁_map s (λ h. found_at_end request sent came first v whole (subst (λ x. length x ≤ MAX_VALUE) (sym same) within) (subst₂ (IsReply came) ok (sym same) h))
   answers_at_end (Err f) h s = tt
+
+-- a value that was found by a fetch on whose connection another request may follow
+pub free_by : (got : Result Fetched FetchFault) (f : Fetching) (answer : Result (Vec ℕ Global) FetchFault)
+    → IfOk got (λ x. (x.by ≡ f) × (answer ≡ Ok x.value)) → IsFree f → IfOk got (λ x. IsFree x.by)
+free_by (Ok x) f answer (by, is) free = subst IsFree (sym by) free
+free_by (Err why) f answer h free = tt
 
 -- a fetch that begins anew
 pub anew : (request : List ℕ) (sent : ℕ) (came : List ℕ) (ended : Bool) (first : Option Silence) (came' : List ℕ) → came ≡ [] → first ≡ None → came' ≡ []

@@ -3,7 +3,7 @@ use Rattle.std.specs.Prelude.{◌≡◌, ◌⊎◌, ℕ, List, [], Option, Some,
 use Rattle.std.specs.declared.alloc.Global.{Global}
 use Rattle.peer_origin.specs.Fetches.{Use}
 use Rattle.peer_source.specs.Answers.{Answer}
-use Rattle.peer_fetch.specs.Fetchings.{GoesOnAnew, IsFoundIn, uses_by}
+use Rattle.peer_fetch.specs.Fetchings.{GoesOnAnew, IsFoundIn, IsFreeBehind, uses_by}
 use Rattle.peer_fetch.specs.declared.fetching.Fetching.{Fetching}
 
 -- the uses of all connections of a fetch, the last one first
@@ -21,6 +21,10 @@ MayGoOnAnew f = (f.first ≡ None) × (f.receiving.came.bytes ≡ [])
 -- the same request in the same try, so much of it sent
 abbrev pub IsSameTry : Fetching → Fetching → Type 0
 IsSameTry f f' = (f'.request.items ≡ f.request.items) × (f'.sent ≡ f.sent) × (f'.first ≡ f.first)
+
+-- another request may follow on the connection of the fetch
+abbrev pub IsFree : Fetching → Type 0
+IsFree f = IsFreeBehind f.receiving.came.bytes f.receiving.client
 
 -- the value was found on the connections of this very fetch
 abbrev pub IsFoundBy : Fetching → Vec ℕ Global → Type 0

@@ -2,13 +2,14 @@
 //! second try.
 //!
 //! It stands on the reply as a state of `peer_http`. It promises that a value which is found is the content of a whole
-//! reply with status 200, on bytes that came on a connection on which the whole request was sent, and that two requests are
-//! sent at most: the second behind a connection on which nothing came.
+//! reply with status 200, on bytes that came on a connection on which the whole request was sent, that two requests are
+//! sent at most, the second behind a connection on which nothing came, and that a connection may be asked again only where all
+//! that came on it is one reply.
 ghost use Rattle.std.specs.Prelude.{◌≡◌, ◌+◌, ◌≤◌, ◌↔◌, ◌++◌, [], drop, false, length, true, IfOk, IfSome, IsTrue, None};
 ghost use Rattle.peer_view.specs.Sinks.{MAX_VALUE};
 ghost use Rattle.peer_http.specs.Requests.{Awaits};
 ghost use Rattle.peer_origin.specs.declared.exchange.Failure.TheVariants as fail;
-ghost use Rattle.peer_fetch.specs.Fetchings.{GoesOnAnew, IsFoundIn, uses_by};
+ghost use Rattle.peer_fetch.specs.Fetchings.{GoesOnAnew, IsFoundIn, IsFreeBehind, uses_by};
 
 use http1::Client;
 use peer_http::{Receiving, Reply, Request};
@@ -125,6 +126,8 @@ impl Fetching {
         ensures came { self.new.receiving.came.bytes ≡ self.old.receiving.came.bytes ++ bytes.now }
         ensures ended { self.new.ended ≡ self.old.ended }
         ensures first { self.new.first ≡ self.old.first }
+        ensures keeps { IfOk result (λ given. IfSome given (λ a.
+            IsTrue a.keeps → IsFreeBehind self.new.receiving.came.bytes self.new.receiving.client)) }
         ensures within { IfOk result (λ given. IfSome given (λ a. IfOk a.value (λ v. length v.items ≤ MAX_VALUE))) }
         ensures found { IfOk result (λ given. IfSome given (λ a. IfOk a.value (λ v.
             ∥ IsFoundIn self.new.request.items self.new.sent self.new.receiving.came.bytes self.new.ended self.new.first v ∥₁))) }
@@ -144,6 +147,7 @@ impl Fetching {
         ensures came { self.new.receiving.came.bytes ≡ self.old.receiving.came.bytes }
         ensures ended { self.new.ended ≡ true }
         ensures first { self.new.first ≡ self.old.first }
+        ensures keeps { IfOk result (λ a. IsTrue a.keeps → IsFreeBehind self.new.receiving.came.bytes self.new.receiving.client) }
         ensures within { IfOk result (λ a. IfOk a.value (λ v. length v.items ≤ MAX_VALUE)) }
         ensures found { IfOk result (λ a. IfOk a.value (λ v.
             ∥ IsFoundIn self.new.request.items self.new.sent self.new.receiving.came.bytes self.new.ended self.new.first v ∥₁)) }

@@ -1,8 +1,8 @@
 //! How the request for a value is sent over a stream that never waits, and its reply received.
-ghost use Rattle.std.specs.Prelude.{◌≤◌, length, IfOk, IfSome};
+ghost use Rattle.std.specs.Prelude.{◌≤◌, length, IfOk, IfSome, IsTrue};
 ghost use Rattle.peer_view.specs.Sinks.{MAX_VALUE};
 ghost use Rattle.peer_fetch.specs.Turns.{HasSameJob};
-ghost use Rattle.peer_fetch.specs.Values.{IsFoundBy};
+ghost use Rattle.peer_fetch.specs.Values.{IsFoundBy, IsFree};
 
 use crate::fetching::Answer;
 use crate::under_way::UnderWay;
@@ -70,6 +70,7 @@ fn read(
 fn take_in<S: Source>(under: &mut UnderWay<'_, S>, bytes: &[u8]) -> Result<Option<Answer>, Failure>
     requires { length under.old.fetching.request.items ≤ under.old.fetching.sent }
     ensures kept { HasSameJob under.old under.new }
+    ensures keeps { IfOk result (λ came. IfSome came (λ a. IsTrue a.keeps → IsFree under.new.fetching)) }
     ensures within { IfOk result (λ came. IfSome came (λ a. IfOk a.value (λ v. length v.items ≤ MAX_VALUE))) }
     ensures found { IfOk result (λ came. IfSome came (λ a. IfOk a.value (IsFoundBy under.new.fetching))) }
 {
@@ -88,6 +89,7 @@ pub fn receive<S: Source>(
     readiness: &mut Readiness,
 ) -> Result<Answer, Halt>
     ensures kept { HasSameJob under.old under.new }
+    ensures keeps { IfOk result (λ a. IsTrue a.keeps → IsFree under.new.fetching) }
     ensures within { IfOk result (λ a. IfOk a.value (λ v. length v.items ≤ MAX_VALUE)) }
     ensures found { IfOk result (λ a. IfOk a.value (IsFoundBy under.new.fetching)) }
 {

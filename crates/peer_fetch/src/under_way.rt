@@ -4,7 +4,7 @@ ghost use Rattle.peer_view.specs.Sinks.{MAX_VALUE};
 ghost use Rattle.peer_origin.specs.declared.exchange.Failure.TheVariants as fail;
 ghost use Rattle.peer_origin.specs.declared.fault.FetchFault.TheVariants as fault;
 ghost use Rattle.peer_fetch.specs.Fetchings.{request_at, use_by};
-ghost use Rattle.peer_fetch.specs.Values.{uses_of, IsFoundBy, IsSameTry, IsSecondTry, MayGoOnAnew};
+ghost use Rattle.peer_fetch.specs.Values.{uses_of, IsFoundBy, IsFree, IsSameTry, IsSecondTry, MayGoOnAnew};
 
 use crate::done::{Done, Fetched};
 use crate::endpoints::Numbered;
@@ -146,6 +146,7 @@ impl<'a, S: Source> UnderWay<'a, S> {
         ensures same { IsSameTry self.old.fetching self.new.fetching }
         ensures came { self.new.fetching.receiving.came.bytes ≡ self.old.fetching.receiving.came.bytes ++ bytes.now }
         ensures ended { self.new.fetching.ended ≡ self.old.fetching.ended }
+        ensures keeps { IfOk result (λ given. IfSome given (λ a. IsTrue a.keeps → IsFree self.new.fetching)) }
         ensures within { IfOk result (λ given. IfSome given (λ a. IfOk a.value (λ v. length v.items ≤ MAX_VALUE))) }
         ensures found { IfOk result (λ given. IfSome given (λ a. IfOk a.value (IsFoundBy self.new.fetching))) }
     {
@@ -159,6 +160,7 @@ impl<'a, S: Source> UnderWay<'a, S> {
         ensures same { IsSameTry self.old.fetching self.new.fetching }
         ensures came { self.new.fetching.receiving.came.bytes ≡ self.old.fetching.receiving.came.bytes }
         ensures ended { self.new.fetching.ended ≡ true }
+        ensures keeps { IfOk result (λ a. IsTrue a.keeps → IsFree self.new.fetching) }
         ensures within { IfOk result (λ a. IfOk a.value (λ v. length v.items ≤ MAX_VALUE)) }
         ensures found { IfOk result (λ a. IfOk a.value (IsFoundBy self.new.fetching)) }
     {

@@ -78,7 +78,7 @@ module _ (c c' : Client) (input : List ℕ) (spans : List HeaderSpan) (read : Pr
   reads_end : (value : List ℕ) (count : ℕ) → read.event ≡ Event.End count → TakesEnd d input (drop read.consumed input) value value
   reads_end value count ev =
       let p : ReadsPiece {H = ResponseSpans} d input spans within.0 read.consumed (Event.End count) = subst (ReadsPiece {H = ResponseSpans} d input spans within.0 read.consumed) ev within.1 in
-      record { trailers = p.1.trailers; len = read.consumed; completes = p.1.completes; same = refl }
+      record { trailers = p.1.trailers; len = read.consumed; completes = p.1.completes; rest = refl; same = refl }
 
 -- the same, of what an intake held and holds
 module _ (c c' : Client) (input unread unread' : List ℕ) (spans : List HeaderSpan) (read : Progress ResponseSpans) (d : Decoder) (is : c.reading ≡ Reads.Body d) (found : ClientReads c input spans c' read) (held : input ≡ unread) (left : unread' ≡ drop read.consumed unread) (value : List ℕ) where

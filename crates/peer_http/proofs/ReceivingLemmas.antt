@@ -8,11 +8,12 @@ use Rattle.http1.specs.declared.conn.Reading.TheVariants as Reads
 use Rattle.http1.specs.declared.decode.Decoder.{Decoder}
 use Rattle.http1.specs.declared.decode.Decoder.TheVariants.{UntilClose}
 use Rattle.http1.specs.Body.{body_of}
+use Rattle.http1.specs.Client.{IsIdle}
 use Rattle.http1.specs.Decoder.{Completes, decoder_for, with_front}
 use Rattle.http1.proofs.OneParse.{body_from_completes}
 use Rattle.peer_http.specs.Requests.{LIMITS}
-use Rattle.peer_http.specs.Replies.{Interims, IsReply, ReadsOn, TakesEnd, TakesFinal, TakesNothing, TakesPiece}
-use Rattle.peer_http.specs.Receivings.{FindsHead, IsInContent, IsReadTo, IsStanding, Proceeds, TakesContent}
+use Rattle.peer_http.specs.Replies.{Interims, IsReply, IsReplyBefore, ReadsOn, TakesEnd, TakesFinal, TakesNothing, TakesPiece}
+use Rattle.peer_http.specs.Receivings.{FindsHead, IsInContent, IsReadTo, IsStanding, IsStandingBefore, MayAskAgain, Proceeds, TakesContent}
 use Rattle.peer_http.specs.declared.stage.Stage.{Stage}
 use Rattle.peer_http.specs.declared.stage.Stage.TheVariants as stage
 use Rattle.peer_http.specs.declared.reply.Reply.{Reply}
@@ -38,21 +39,24 @@ pub begins : (came : List ℕ) (c : Client) (unread unread' : List ℕ) (status 
 begins came c unread unread' status is t = (
   decoder_for LIMITS t.framing,
   t.body,
-  λ later body rest done. record {
-    start = unread ++ later;
-    interims = interims_append came unread later is;
-    response = record { head = t.head; body = body };
-    rest = rest;
-    reads = record {
-      framing = t.framing;
-      after_head = unread' ++ later;
-      head = accepts_append unread t.head t.framing unread' later t.accepts;
-      body = body_from_completes LIMITS t.framing (unread' ++ later) body rest done;
-    };
-    final = t.final;
-    code = t.code;
-    body = refl;
-  },
+  λ later body rest done. (
+    record {
+      start = unread ++ later;
+      interims = interims_append came unread later is;
+      response = record { head = t.head; body = body };
+      rest = rest;
+      reads = record {
+        framing = t.framing;
+        after_head = unread' ++ later;
+        head = accepts_append unread t.head t.framing unread' later t.accepts;
+        body = body_from_completes LIMITS t.framing (unread' ++ later) body rest done;
+      };
+      final = t.final;
+      code = t.code;
+      body = refl;
+    },
+    refl,
+  ),
 )
 
 -- a piece
@@ -62,14 +66,14 @@ goes came status d c unread unread' value value' p t = (
   t.reading,
   λ later body rest done.
       let back = t.continues.back later body rest (subst (λ u. Completes t.new (u ++ later) body rest) t.rest done) in
-      subst (IsReply (came ++ later) status) (sym (append_assoc value t.piece body.bytes) ∙ ap (λ v. v ++ body.bytes) (sym t.grown))
+      subst (λ v. IsReplyBefore (came ++ later) status v rest) (sym (append_assoc value t.piece body.bytes) ∙ ap (λ v. v ++ body.bytes) (sym t.grown))
       (p later (with_front t.piece body) rest back),
 )
 
 -- the end
-pub ends : (came : List ℕ) (status : ℕ) (d : Decoder) (unread unread' value value' : List ℕ) → Proceeds came status value d unread → TakesEnd d unread unread' value value' → IsStanding came status value'
+pub ends : (came : List ℕ) (status : ℕ) (d : Decoder) (unread unread' value value' : List ℕ) → Proceeds came status value d unread → TakesEnd d unread unread' value value' → IsStandingBefore came status value' unread'
 ends came status d unread unread' value value' p t later =
-    subst (IsReply (came ++ later) status) (append-nil value ∙ sym t.same)
+    subst₂ (λ v u. IsReplyBefore (came ++ later) status v (u ++ later)) (append-nil value ∙ sym t.same) (sym t.rest)
     (p later (body_of [] t.trailers) (drop t.len unread ++ later) (t.completes later))
 
 -- nothing is left of a body that runs until the end of the connection
@@ -83,18 +87,32 @@ comes came bytes (stage.Content status) c unread value (d, is, p) = (
   d,
   is,
   λ later body rest done.
-      subst (λ t. IsReply t status (value ++ body.bytes)) (sym (append_assoc came bytes later))
+      subst (λ t. IsReplyBefore t status (value ++ body.bytes) rest) (sym (append_assoc came bytes later))
       (p (bytes ++ later) body rest (subst (λ t. Completes d t body rest) (append_assoc unread bytes later) done)),
 )
 comes came bytes stage.Over c unread value h = tt
 
 -- the end of the connection
-pub closes : (came : List ℕ) (status : ℕ) (c : Client) (unread value : List ℕ) → IsInContent came status c unread value → c.reading ≡ Reads.Body UntilClose → unread ≡ [] → IsReply came status value
+pub closes : (came : List ℕ) (status : ℕ) (c : Client) (unread value : List ℕ) → IsInContent came status c unread value → c.reading ≡ Reads.Body UntilClose → unread ≡ [] → IsReplyBefore came status value []
 closes came status c unread value (d, is, p) until none =
     let at : d ≡ UntilClose = same_body (sym is ∙ until) in
     let last : Completes d (unread ++ []) (body_of [] []) [] =
     subst₂ (λ x u. Completes x (u ++ []) (body_of [] []) []) (sym at) (sym none) (refl, refl, refl) in
-    subst₂ (λ t v. IsReply t status v) (append-nil came) (append-nil value) (p [] (body_of [] []) [] last)
+    subst₂ (λ t v. IsReplyBefore t status v []) (append-nil came) (append-nil value) (p [] (body_of [] []) [] last)
+
+-- a reply that stands, with nothing unread behind it, is all that came
+pub alone_now : (came : List ℕ) (status : ℕ) (value unread : List ℕ) → IsStandingBefore came status value unread → unread ≡ [] → IsReplyBefore came status value []
+alone_now came status value unread s none = subst₂ (λ t u. IsReplyBefore t status value (u ++ [])) (append-nil came) none (s [])
+
+-- a reply that is given, behind which nothing is unread, and whose client takes another request
+pub asks_again : (came came' : List ℕ) (c c' : Client) (unread : List ℕ) (status : ℕ) (value : List ℕ) (r : Reply) → came ≡ came' → c' ≡ c
+    → r.status ≡ status → r.value.items ≡ value → IsTrue r.keeps ↔ (IsIdle c × (unread ≡ [])) → ∥ (unread ≡ [] → IsReplyBefore came status value []) ∥₁
+    → IsTrue r.keeps → MayAskAgain came' c' r
+asks_again came came' c c' unread status value r grown same code body keeps alone kept = (
+  subst IsIdle (sym same) (keeps.0 kept).0,
+  ∥∥₁_map alone (λ h. subst (λ t. IsReplyBefore t r.status r.value.items []) grown
+      (subst₂ (λ s v. IsReplyBefore came s v []) (sym code) (sym body) (h (keeps.0 kept).1))),
+)
 
 -- a reply that stands is there
 pub stands_now : (came : List ℕ) (status : ℕ) (value : List ℕ) → IsStanding came status value → IsReply came status value
@@ -121,11 +139,11 @@ module _ (came : List ℕ) (s : Stage) (status : ℕ) (c c' : Client) (unread un
   waits_in t = subst (λ x. IsReadTo came x c' unread' value') (sym is) (t.0 came status in_content)
 
   -- all of it came
-  pub whole : TakesContent c c' unread unread' value value' (Ok true) → IsStanding came status value'
+  pub whole : TakesContent c c' unread unread' value value' (Ok true) → IsStandingBefore came status value' unread'
   whole t = t came status in_content
 
   -- all of it came with the end of the connection
-  pub whole_at_end : TakesContent c c' unread unread' value value' (Ok false) → c'.reading ≡ Reads.Body UntilClose → IsReply came status value'
+  pub whole_at_end : TakesContent c c' unread unread' value value' (Ok false) → c'.reading ≡ Reads.Body UntilClose → IsReplyBefore came status value' []
   whole_at_end t until = closes came status c' unread' value' (t.0 came status in_content) until (t.1 in_content.0 in_content.1 until)
 
 -- a read behind bytes that came, which gave these

@@ -5,11 +5,13 @@ use Rattle.http1.specs.declared.conn.Reading.TheVariants as Reads
 use Rattle.http1.specs.declared.decode.Decoder.{Decoder}
 use Rattle.http1.specs.declared.decode.Decoder.TheVariants.{UntilClose}
 use Rattle.http1.specs.Body.{Body}
+use Rattle.http1.specs.Client.{IsIdle}
 use Rattle.http1.specs.Decoder.{Completes}
 use Rattle.peer_http.specs.Requests.{Awaits}
-use Rattle.peer_http.specs.Replies.{Interims, IsReply}
+use Rattle.peer_http.specs.Replies.{Interims, IsReply, IsReplyBefore}
 use Rattle.peer_http.specs.declared.fault.Fault.{Fault}
 use Rattle.peer_http.specs.declared.fault.ReplyFault.{ReplyFault}
+use Rattle.peer_http.specs.declared.reply.Reply.{Reply}
 use Rattle.peer_http.specs.declared.stage.Stage.{Stage}
 use Rattle.peer_http.specs.declared.stage.Stage.TheVariants as stage
 
@@ -17,7 +19,7 @@ use Rattle.peer_http.specs.declared.stage.Stage.TheVariants as stage
 abbrev pub Proceeds : List ℕ → ℕ → List ℕ → Decoder → List ℕ → Type 0
 Proceeds came status value d unread =
     (later : List ℕ) (body : Body) (rest : List ℕ) → Completes d (unread ++ later) body rest
-    → IsReply (came ++ later) status (value ++ body.bytes)
+    → IsReplyBefore (came ++ later) status (value ++ body.bytes) rest
 
 -- the head of the final reply came, and the client goes on with its body, of which this value was taken
 abbrev pub IsInContent : List ℕ → ℕ → Client → List ℕ → List ℕ → Type 0
@@ -33,6 +35,14 @@ IsReadTo came stage.Over c unread value = Unit {0}
 abbrev pub IsStanding : List ℕ → ℕ → List ℕ → Type 0
 IsStanding came status value = (later : List ℕ) → IsReply (came ++ later) status value
 
+-- the same, and this is unread behind it
+abbrev pub IsStandingBefore : List ℕ → ℕ → List ℕ → List ℕ → Type 0
+IsStandingBefore came status value unread = (later : List ℕ) → IsReplyBefore (came ++ later) status value (unread ++ later)
+
+-- another request may follow: the client takes one, and all that came is this reply
+abbrev pub MayAskAgain : List ℕ → Client → Reply → Type 0
+MayAskAgain came c r = IsIdle c × ∥ IsReplyBefore came r.status r.value.items [] ∥₁
+
 -- what a client finds of heads in what is unread
 abbrev pub FindsHead : Client → List ℕ → List ℕ → Result (Option ℕ) Fault → Type 0
 FindsHead c unread unread' (Ok (Some status)) = (came : List ℕ) → Interims came unread → IsInContent came status c unread' []
@@ -42,7 +52,7 @@ FindsHead c unread unread' (Err f) = Unit {0}
 -- what was taken of a body: the whole of it, or what is there
 abbrev pub TakesContent : Client → Client → List ℕ → List ℕ → List ℕ → List ℕ → Result Bool Fault → Type 0
 TakesContent old new unread unread' value value' (Ok true) =
-    (came : List ℕ) (status : ℕ) → IsInContent came status old unread value → IsStanding came status value'
+    (came : List ℕ) (status : ℕ) → IsInContent came status old unread value → IsStandingBefore came status value' unread'
 TakesContent old new unread unread' value value' (Ok false) =
     ((came : List ℕ) (status : ℕ) → IsInContent came status old unread value → IsInContent came status new unread' value')
     × ((d : Decoder) → old.reading ≡ Reads.Body d → new.reading ≡ Reads.Body UntilClose → unread' ≡ [])
@@ -50,7 +60,7 @@ TakesContent old new unread unread' value value' (Err f) = Unit {0}
 
 -- what was read of a body, of bytes that begin with a reply: the whole of it, or all that is there, which is the whole where it
 -- runs until the end of the connection
-abbrev pub ReadsBody : List ℕ → ℕ → Client → List ℕ → Result Bool ReplyFault → Type 0
-ReadsBody came status c value (Ok true) = ∥ IsStanding came status value ∥₁
-ReadsBody came status c value (Ok false) = ∥ (c.reading ≡ Reads.Body UntilClose → IsReply came status value) ∥₁
-ReadsBody came status c value (Err f) = Unit {0}
+abbrev pub ReadsBody : List ℕ → ℕ → Client → List ℕ → List ℕ → Result Bool ReplyFault → Type 0
+ReadsBody came status c unread value (Ok true) = ∥ IsStandingBefore came status value unread ∥₁
+ReadsBody came status c unread value (Ok false) = ∥ (c.reading ≡ Reads.Body UntilClose → IsReplyBefore came status value []) ∥₁
+ReadsBody came status c unread value (Err f) = Unit {0}

@@ -38,6 +38,10 @@ pub record IsReply (text : List ℕ) (status : ℕ) (value : List ℕ) : Type 0 
   pub code : status ≡ status_code response.head
   pub body : value ≡ response.body.bytes
 
+-- the text begins with this reply, and this stands behind it
+abbrev pub IsReplyBefore : List ℕ → ℕ → List ℕ → List ℕ → Type 0
+IsReplyBefore text status value rest = (r : IsReply text status value) × (r.rest ≡ rest)
+
 -- the text begins with this reply, and does so whatever comes behind it, unless the end was told
 abbrev pub StandsAs : ℕ → ℕ → List ℕ → ℕ → List ℕ → Type 0
 StandsAs ends ends' text status value =
@@ -110,6 +114,7 @@ pub record TakesEnd (d : Decoder) (unread unread' value value' : List ℕ) : Typ
   pub trailers : List Field
   pub len : ℕ
   pub completes : (later : List ℕ) → Completes d (unread ++ later) (body_of [] trailers) (drop len unread ++ later)
+  pub rest : unread' ≡ drop len unread
   pub same : value' ≡ value
 
 -- no piece was there: of a body that runs until the end of the connection, nothing is left unread

@@ -1,10 +1,12 @@
 //! A reply as a state, without input: its bytes come, and once it is whole it is given.
 //!
 //! It stands on `heads` and `content`, and on a history of the bytes that came, which only contracts see.
-//! It promises of a reply that is given that the bytes that came begin with it.
+//! It promises of a reply that is given that the bytes that came begin with it, and, where another request may follow on the
+//! connection, that they are this reply and nothing behind it.
 ghost use Rattle.std.specs.Prelude.{◌≡◌, ◌≢◌, ◌≤◌, ◌↔◌, ◌++◌, [], length, true, Err, IfOk, IfSome, IsTrue, Ok};
+ghost use Rattle.http1.specs.Client.{IsIdle};
 ghost use Rattle.peer_http.specs.Requests.{Awaits};
-ghost use Rattle.peer_http.specs.Receivings.{IsReadTo, IsStanding, ReadsBody};
+ghost use Rattle.peer_http.specs.Receivings.{IsReadTo, IsStanding, MayAskAgain, ReadsBody};
 ghost use Rattle.peer_http.specs.Replies.{IsReply};
 ghost use Rattle.peer_http.specs.declared.stage.Stage.TheVariants as at;
 ghost use Rattle.peer_http.specs.declared.fault.ReplyFault.TheVariants as told;
@@ -112,8 +114,10 @@ impl Receiving {
         requires { self.old.stage ≡ at.Over }
         ensures came { self.new.came.bytes ≡ self.old.came.bytes }
         ensures most { self.new.most ≡ self.old.most }
+        ensures client { self.new.client ≡ self.old.client }
         ensures status { result.status ≡ status }
         ensures value { result.value.items ≡ self.old.value.items }
+        ensures keeps { IsTrue result.keeps ↔ (IsIdle self.old.client × (self.old.intake ≡ [])) }
     {
         let value = mem::replace(&mut self.value, Vec::new(self.alloc));
         Reply {
@@ -131,7 +135,7 @@ impl Receiving {
         ensures most { self.new.most ≡ self.old.most }
         ensures silent { result ≢ Err told.Silent }
         ensures over { result ≡ Ok true → self.new.stage ≡ at.Over }
-        ensures reads { ReadsBody self.new.came.bytes status self.new.client self.new.value.items result }
+        ensures reads { ReadsBody self.new.came.bytes status self.new.client self.new.intake self.new.value.items result }
     {
         let mut spans = [EMPTY_HEADER_SPAN; FIELDS];
         let taken = take_content(
@@ -160,6 +164,7 @@ impl Receiving {
         ensures most { self.new.most ≡ self.old.most }
         ensures silent { result ≢ Err told.Silent }
         ensures reply { IfOk result (λ given. IfSome given (λ r. ∥ IsStanding self.new.came.bytes r.status r.value.items ∥₁)) }
+        ensures keeps { IfOk result (λ given. IfSome given (λ r. IsTrue r.keeps → MayAskAgain self.new.came.bytes self.new.client r)) }
         ensures within { IfOk result (λ given. IfSome given (λ r. length r.value.items ≤ self.new.most)) }
     {
         let Stage::Content(status) = self.stage else {
@@ -178,6 +183,7 @@ impl Receiving {
         ensures most { self.new.most ≡ self.old.most }
         ensures silent { result ≢ Err told.Silent }
         ensures reply { IfOk result (λ given. IfSome given (λ r. ∥ IsStanding self.new.came.bytes r.status r.value.items ∥₁)) }
+        ensures keeps { IfOk result (λ given. IfSome given (λ r. IsTrue r.keeps → MayAskAgain self.new.came.bytes self.new.client r)) }
         ensures within { IfOk result (λ given. IfSome given (λ r. length r.value.items ≤ self.new.most)) }
     {
         if let Err(fault) = self.push(bytes) {
@@ -212,6 +218,7 @@ impl Receiving {
         ensures came { self.new.came.bytes ≡ self.old.came.bytes }
         ensures most { self.new.most ≡ self.old.most }
         ensures reply { IfOk result (λ r. ∥ IsReply self.old.came.bytes r.status r.value.items ∥₁) }
+        ensures keeps { IfOk result (λ r. IsTrue r.keeps → MayAskAgain self.old.came.bytes self.new.client r) }
         ensures within { IfOk result (λ r. length r.value.items ≤ self.old.most) }
         ensures silent { result ≡ Err told.Silent → self.old.came.bytes ≡ [] }
     {

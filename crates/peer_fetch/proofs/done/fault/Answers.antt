@@ -1,4 +1,4 @@
-use Rattle.std.proofs.Common.{◌≡◌, ◌∙◌, [], inl, Some, ap, subst}
+use Rattle.std.proofs.Common.{◌∙◌, [], inl, Some, ap, subst}
 use Rattle.peer_source.specs.Answers.{Failed}
 use Rattle.peer_source.specs.Outcomes.{answer_of}
 use Rattle.peer_fetch.specs.Values.{AnswersBy}

@@ -1,4 +1,5 @@
-use Rattle.std.proofs.Common.{◌≤◌, length, subst, sym}
+use Rattle.std.proofs.Common.{◌≤◌, IsTrue, length, subst, sym}
+use Rattle.peer_http.specs.Receivings.{MayAskAgain}
 use Rattle.peer_http.specs.Replies.{IsReply}
 use Rattle.peer_fetch.proofs.FetchingLemmas.{answers_at_end}
 use Rattle.peer_fetch.proofs.fetching.Fetching.end.Goals as goal
@@ -11,3 +12,8 @@ returns-in-Ok-clause-found c =
     answers_at_end f.request.items f.sent new.came.bytes f.first r.status r.value.items
     c.requires.whole (subst (λ m. length r.value.items ≤ m) f.most c.in-Ok.ensures.within) c.answer_of.result.value c.answer_of.ensures.value
     (subst (λ t. ∥ IsReply t r.status r.value.items ∥₁) (sym c.in-Ok.ensures.came) c.in-Ok.ensures.reply)
+
+pub returns-in-Ok-clause-keeps : goal.returns-in-Ok-clause-keeps
+returns-in-Ok-clause-keeps c = λ keeps.
+    let r = c.in-Ok.reply in
+    (r, subst (λ t. MayAskAgain t c.end.new.self.client r) (sym c.in-Ok.ensures.came) (c.in-Ok.ensures.keeps (subst IsTrue c.answer_of.ensures.keeps keeps)))

@@ -1,5 +1,5 @@
-use Rattle.std.proofs.Common.{◌≤◌, ◌∙◌, IfSome, length, subst}
-use Rattle.peer_http.specs.Receivings.{IsStanding}
+use Rattle.std.proofs.Common.{◌≤◌, ◌∙◌, IfSome, IsTrue, length, subst}
+use Rattle.peer_http.specs.Receivings.{IsStanding, MayAskAgain}
 use Rattle.peer_fetch.proofs.FetchingLemmas.{answers_standing}
 use Rattle.peer_fetch.proofs.fetching.Fetching.receive.Goals as goal
 
@@ -12,3 +12,10 @@ returns-in-Ok-Some-clause-found c =
     let reply = subst (λ x. IfSome x (λ r. ∥ IsStanding new.came.bytes r.status r.value.items ∥₁)) given.field-0-is given.ensures.reply in
     answers_standing f.request.items f.sent new.came.bytes f.first given.reply.status given.reply.value.items
     c.requires.whole (subst (λ m. length given.reply.value.items ≤ m) (given.ensures.most ∙ f.most) within) f.ended c.answer_of.result.value c.answer_of.ensures.value reply
+
+pub returns-in-Ok-Some-clause-keeps : goal.returns-in-Ok-Some-clause-keeps
+returns-in-Ok-Some-clause-keeps c = λ keeps.
+    let new = c.receive.new.self in
+    let given = c.in-Ok-Some in
+    let asks = subst (λ x. IfSome x (λ r. IsTrue r.keeps → MayAskAgain new.came.bytes new.client r)) given.field-0-is given.ensures.keeps in
+    (given.reply, asks (subst IsTrue c.answer_of.ensures.keeps keeps))
