@@ -77,6 +77,7 @@ def lies(draw, body):
         Reply([ok + b"Content-Length: 1\r\nContent-Length: 2\r\n\r\nxy"], error=BAD),
         Reply([ok + b"Content-Length: -1\r\n\r\nx"], error=BAD),
         Reply([ok + b"Content-Length: 18446744073709551617\r\n\r\nx"], error=BAD),
+        Reply([ok + b"Transfer-Encoding: gzip\r\n\r\nx"], error=BAD, closes=True),
         Reply([ok + b"Transfer-Encoding: gzip, chunked\r\n\r\n1\r\nx\r\n0\r\n\r\n"], error=BAD),
         Reply([ok + b"Transfer-Encoding: chunked\r\n\r\nzz\r\nx\r\n0\r\n\r\n"], error=BAD),
         Reply([ok + b"Transfer-Encoding: chunked\r\n\r\n2\r\nxyz\r\n0\r\n\r\n"], error=BAD),

@@ -12,8 +12,8 @@ use Rattle.http1.specs.Client.{IsIdle}
 use Rattle.http1.specs.Decoder.{Completes, decoder_for, with_front}
 use Rattle.http1.proofs.OneParse.{body_from_completes}
 use Rattle.peer_http.specs.Requests.{LIMITS}
-use Rattle.peer_http.specs.Replies.{Interims, IsReply, IsReplyBefore, ReadsOn, TakesEnd, TakesFinal, TakesNothing, TakesPiece}
-use Rattle.peer_http.specs.Receivings.{FindsHead, IsInContent, IsReadTo, IsStanding, IsStandingBefore, MayAskAgain, Proceeds, TakesContent}
+use Rattle.peer_http.specs.Replies.{Interims, IsReply, IsReplyBefore, IsReplyKept, ReadsOn, TakesEnd, TakesFinal, TakesNothing, TakesPiece}
+use Rattle.peer_http.specs.Receivings.{EndsOpen, FindsHead, IsInContent, IsReadTo, IsStanding, IsStandingBefore, MayAskAgain, Proceeds, TakesContent}
 use Rattle.peer_http.specs.declared.stage.Stage.{Stage}
 use Rattle.peer_http.specs.declared.stage.Stage.TheVariants as stage
 use Rattle.peer_http.specs.declared.reply.Reply.{Reply}
@@ -40,45 +40,53 @@ begins came c unread unread' status is t = (
   decoder_for LIMITS t.framing,
   t.body,
   λ later body rest done. (
-    record {
-      start = unread ++ later;
-      interims = interims_append came unread later is;
-      response = record { head = t.head; body = body };
-      rest = rest;
-      reads = record {
-        framing = t.framing;
-        after_head = unread' ++ later;
-        head = accepts_append unread t.head t.framing unread' later t.accepts;
-        body = body_from_completes LIMITS t.framing (unread' ++ later) body rest done;
-      };
-      final = t.final;
-      code = t.code;
-      body = refl;
-    },
-    refl,
+    (
+      record {
+        start = unread ++ later;
+        interims = interims_append came unread later is;
+        response = record { head = t.head; body = body };
+        rest = rest;
+        reads = record {
+          framing = t.framing;
+          after_head = unread' ++ later;
+          head = accepts_append unread t.head t.framing unread' later t.accepts;
+          body = body_from_completes LIMITS t.framing (unread' ++ later) body rest done;
+        };
+        final = t.final;
+        code = t.code;
+        uncoded = t.uncoded;
+        body = refl;
+      },
+      refl,
+    ),
+    t.alive,
   ),
 )
 
+-- what holds for one reason holds for what gives that
+weaken : {K K' : Type 0} {text : List ℕ} {status : ℕ} {value rest : List ℕ} → IsReplyKept K text status value rest → (K' → K) → IsReplyKept K' text status value rest
+weaken k f = (k.0, λ h. k.1 (f h))
+
 -- a piece
-pub goes : (came : List ℕ) (status : ℕ) (d : Decoder) (c : Client) (unread unread' value value' : List ℕ) → Proceeds came status value d unread → TakesPiece d c unread unread' value value' → IsInContent came status c unread' value'
-goes came status d c unread unread' value value' p t = (
+pub goes : (came : List ℕ) (status : ℕ) (alive : Bool) (d : Decoder) (c : Client) (unread unread' value value' : List ℕ) → Proceeds (alive ≡ true) came status value d unread → TakesPiece alive d c unread unread' value value' → IsInContent came status c unread' value'
+goes came status alive d c unread unread' value value' p t = (
   t.new,
   t.reading,
   λ later body rest done.
       let back = t.continues.back later body rest (subst (λ u. Completes t.new (u ++ later) body rest) t.rest done) in
-      subst (λ v. IsReplyBefore (came ++ later) status v rest) (sym (append_assoc value t.piece body.bytes) ∙ ap (λ v. v ++ body.bytes) (sym t.grown))
-      (p later (with_front t.piece body) rest back),
+      subst (λ v. IsReplyKept (c.keep_alive ≡ true) (came ++ later) status v rest) (sym (append_assoc value t.piece body.bytes) ∙ ap (λ v. v ++ body.bytes) (sym t.grown))
+      (weaken (p later (with_front t.piece body) rest back) (λ h. sym t.still ∙ h)),
 )
 
 -- the end
-pub ends : (came : List ℕ) (status : ℕ) (d : Decoder) (unread unread' value value' : List ℕ) → Proceeds came status value d unread → TakesEnd d unread unread' value value' → IsStandingBefore came status value' unread'
-ends came status d unread unread' value value' p t later =
-    subst₂ (λ v u. IsReplyBefore (came ++ later) status v (u ++ later)) (append-nil value ∙ sym t.same) (sym t.rest)
-    (p later (body_of [] t.trailers) (drop t.len unread ++ later) (t.completes later))
+pub ends : (came : List ℕ) (status : ℕ) (alive : Bool) (d : Decoder) (c : Client) (unread unread' value value' : List ℕ) → Proceeds (alive ≡ true) came status value d unread → TakesEnd alive d c unread unread' value value' → IsStandingBefore (IsIdle c) came status value' unread'
+ends came status alive d c unread unread' value value' p t later =
+    subst₂ (λ v u. IsReplyKept (IsIdle c) (came ++ later) status v (u ++ later)) (append-nil value ∙ sym t.same) (sym t.rest)
+    (weaken (p later (body_of [] t.trailers) (drop t.len unread ++ later) (t.completes later)) t.idle)
 
 -- nothing is left of a body that runs until the end of the connection
-pub drains : (d : Decoder) (c : Client) (unread unread' value value' : List ℕ) → TakesNothing d c unread unread' value value' → c.reading ≡ Reads.Body UntilClose → unread' ≡ []
-drains d c unread unread' value value' t closes = t.drained (same_body (sym t.taken.reading ∙ closes))
+pub drains : (alive : Bool) (d : Decoder) (c : Client) (unread unread' value value' : List ℕ) → TakesNothing alive d c unread unread' value value' → c.reading ≡ Reads.Body UntilClose → unread' ≡ []
+drains alive d c unread unread' value value' t closes = t.drained (same_body (sym t.taken.reading ∙ closes))
 
 -- bytes came
 pub comes : (came bytes : List ℕ) (s : Stage) (c : Client) (unread value : List ℕ) → IsReadTo came s c unread value → IsReadTo (came ++ bytes) s c (unread ++ bytes) value
@@ -87,7 +95,7 @@ comes came bytes (stage.Content status) c unread value (d, is, p) = (
   d,
   is,
   λ later body rest done.
-      subst (λ t. IsReplyBefore t status (value ++ body.bytes) rest) (sym (append_assoc came bytes later))
+      subst (λ t. IsReplyKept (c.keep_alive ≡ true) t status (value ++ body.bytes) rest) (sym (append_assoc came bytes later))
       (p (bytes ++ later) body rest (subst (λ t. Completes d t body rest) (append_assoc unread bytes later) done)),
 )
 comes came bytes stage.Over c unread value h = tt
@@ -98,20 +106,20 @@ closes came status c unread value (d, is, p) until none =
     let at : d ≡ UntilClose = same_body (sym is ∙ until) in
     let last : Completes d (unread ++ []) (body_of [] []) [] =
     subst₂ (λ x u. Completes x (u ++ []) (body_of [] []) []) (sym at) (sym none) (refl, refl, refl) in
-    subst₂ (λ t v. IsReplyBefore t status v []) (append-nil came) (append-nil value) (p [] (body_of [] []) [] last)
+    subst₂ (λ t v. IsReplyBefore t status v []) (append-nil came) (append-nil value) (p [] (body_of [] []) [] last).0
 
 -- a reply that stands, with nothing unread behind it, is all that came
-pub alone_now : (came : List ℕ) (status : ℕ) (value unread : List ℕ) → IsStandingBefore came status value unread → unread ≡ [] → IsReplyBefore came status value []
-alone_now came status value unread s none = subst₂ (λ t u. IsReplyBefore t status value (u ++ [])) (append-nil came) none (s [])
+pub alone_now : (K : Type 0) (came : List ℕ) (status : ℕ) (value unread : List ℕ) → IsStandingBefore K came status value unread → unread ≡ [] → IsReplyKept K came status value []
+alone_now K came status value unread s none = subst₂ (λ t u. IsReplyKept K t status value (u ++ [])) (append-nil came) none (s [])
 
 -- a reply that is given, behind which nothing is unread, and whose client takes another request
 pub asks_again : (came came' : List ℕ) (c c' : Client) (unread : List ℕ) (status : ℕ) (value : List ℕ) (r : Reply) → came ≡ came' → c' ≡ c
-    → r.status ≡ status → r.value.items ≡ value → IsTrue r.keeps ↔ (IsIdle c × (unread ≡ [])) → ∥ (unread ≡ [] → IsReplyBefore came status value []) ∥₁
+    → r.status ≡ status → r.value.items ≡ value → IsTrue r.keeps ↔ (IsIdle c × (unread ≡ [])) → ∥ (unread ≡ [] → IsReplyKept (IsIdle c) came status value []) ∥₁
     → IsTrue r.keeps → MayAskAgain came' c' r
 asks_again came came' c c' unread status value r grown same code body keeps alone kept = (
   subst IsIdle (sym same) (keeps.0 kept).0,
-  ∥∥₁_map alone (λ h. subst (λ t. IsReplyBefore t r.status r.value.items []) grown
-      (subst₂ (λ s v. IsReplyBefore came s v []) (sym code) (sym body) (h (keeps.0 kept).1))),
+  ∥∥₁_map alone (λ h. subst (λ t. EndsOpen t r.status r.value.items) grown
+      (subst₂ (EndsOpen came) (sym code) (sym body) (let k = h (keeps.0 kept).1 in (k.0, k.1 (keeps.0 kept).0)))),
 )
 
 -- a reply that stands is there
@@ -139,7 +147,7 @@ module _ (came : List ℕ) (s : Stage) (status : ℕ) (c c' : Client) (unread un
   waits_in t = subst (λ x. IsReadTo came x c' unread' value') (sym is) (t.0 came status in_content)
 
   -- all of it came
-  pub whole : TakesContent c c' unread unread' value value' (Ok true) → IsStandingBefore came status value' unread'
+  pub whole : TakesContent c c' unread unread' value value' (Ok true) → IsStandingBefore (IsIdle c') came status value' unread'
   whole t = t came status in_content
 
   -- all of it came with the end of the connection

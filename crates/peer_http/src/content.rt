@@ -55,7 +55,7 @@ pub(crate) fn room_for(alloc: Global, client: &Client, most: usize) -> Result<Ve
 
 /// Whether the body ended with the connection.
 pub(crate) fn ends_here(client: &mut Client) -> bool
-    ensures { EndsHere result client.old }
+    ensures { EndsHere result client.old client.new }
 {
     matches!(client.read_eof(), Ok(Event::End(_)))
 }

@@ -1,9 +1,9 @@
 //! The heads of a reply: those of interim ones, and that of the final one.
-ghost use Rattle.std.specs.Prelude.{◌≤◌};
+ghost use Rattle.std.specs.Prelude.{◌≡◌, ◌≤◌, false};
 ghost use Rattle.http1.specs.Client.{IsReadWithin};
 ghost use Rattle.peer_http.specs.Requests.{Awaits};
 ghost use Rattle.peer_http.specs.Receivings.{FindsHead};
-ghost use Rattle.peer_http.specs.Replies.{FindsNext};
+ghost use Rattle.peer_http.specs.Replies.{FindsNext, IsUncodedAt};
 
 use crate::fault::Fault;
 use crate::intake::Intake;
@@ -28,6 +28,7 @@ pub(crate) enum Found {
 // Whether what was read is a head whose body has a coding beside `chunked`, which was not asked for.
 fn is_coded(input: &[u8], spans: &[HeaderSpan], read: Progress<ResponseSpans>) -> bool
     requires { IsReadWithin input.now spans.now read }
+    ensures { result ≡ false → IsUncodedAt input.now spans.now read.event }
 {
     match read.event {
         Event::Head(head) => { KnownFields::from_spans(input, &spans[..head.headers]).other_coding }

@@ -66,7 +66,7 @@ fn gives_a_body_until_the_close_only_where_that_is_told(rt: HostRuntime) -> Resu
 }
 
 // Texts that give no value, and what each fails with.
-const FAILURES: [(&[u8], FetchFault); 19] = [
+const FAILURES: [(&[u8], FetchFault); 20] = [
     // Another status.
     (
         b"HTTP/1.1 404 Not Found\r\nContent-Length: 4\r\n\r\nnone",
@@ -117,6 +117,10 @@ const FAILURES: [(&[u8], FetchFault); 19] = [
     ),
     (
         b"HTTP/1.1 200 OK\r\nContent-Length: 1\r\nTransfer-Encoding: chunked\r\n\r\n0\r\n\r\n",
+        FetchFault::Malformed,
+    ),
+    (
+        b"HTTP/1.1 200 OK\r\nTransfer-Encoding: gzip\r\n\r\nx",
         FetchFault::Malformed,
     ),
     (

@@ -93,7 +93,7 @@ fn again(alloc: Global, text: &[u8], want: bool) -> Result<bool, AllocError> {
 }
 
 // Replies, and whether their connection may be used again.
-const AGAIN: [(&[u8], bool); 9] = [
+const AGAIN: [(&[u8], bool); 11] = [
     (REPLY, true),
     (b"HTTP/1.1 404 Not Found\r\nContent-Length: 0\r\n\r\n", true),
     (
@@ -106,6 +106,14 @@ const AGAIN: [(&[u8], bool); 9] = [
     ),
     (
         b"HTTP/1.1 200 OK\r\nConnection: close\r\nContent-Length: 5\r\n\r\nvalue",
+        false,
+    ),
+    (
+        b"HTTP/1.1 404 Not Found\r\nConnection: close\r\nContent-Length: 0\r\n\r\n",
+        false,
+    ),
+    (
+        b"HTTP/1.0 404 Not Found\r\nContent-Length: 0\r\n\r\n",
         false,
     ),
     (b"HTTP/1.0 200 OK\r\nContent-Length: 5\r\n\r\nvalue", false),

@@ -12,7 +12,7 @@ loop-head-preserved c =
     let t = found.1 in
     record {
       awaits = found.0;
-      keeps = λ came h. more c.loop-head.intake t.head t.framing c.next_head.new.intake (c.loop-head.invariant.keeps came h) t.accepts t.low;
+      keeps = λ came h. more c.loop-head.intake t.head t.framing c.next_head.new.intake (c.loop-head.invariant.keeps came h) t.accepts t.interim;
     }
 
 pub returns-in-Ok-Final : goal.returns-in-Ok-Final
