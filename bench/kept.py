@@ -4,8 +4,9 @@
     ./build
     python3 bench/kept.py [crates/peer_front/out/peer_front]
 
-Connections are kept for a service that is asked now, also where another one, asked before, leaves as many as are kept; none is
-kept that a service has ended; of two services each value comes from its own, also where one ends its connections now and then;
+Connections are kept for a service that is asked now, also where others, asked before, leave as many as are kept; none is
+kept that a service has ended; of two services each value comes from its own, also where one ends its connections now and then,
+and in its time where the other one hangs;
 what comes on a kept connection without a request is no value; a reply that runs until its connection ends is no value where
 that is reset; and interim replies without end fill no memory.
 
@@ -50,13 +51,6 @@ class Service:
                 pass
 
 
-def keeps(stream):
-    """Answers each request after a while, so that two that come together are under way together."""
-    while stream.recv(10000):
-        time.sleep(0.2)
-        stream.sendall(VALUE)
-
-
 def closes(stream):
     stream.recv(10000)
     stream.sendall(VALUE)
@@ -89,6 +83,11 @@ def resets_within(stream):
     stream.sendall(b"HTTP/1.1 200 OK\r\n\r\nv")
     time.sleep(0.2)
     stream.setsockopt(socket.SOL_SOCKET, socket.SO_LINGER, struct.pack("ii", 1, 0))
+
+
+def hangs(stream):
+    while stream.recv(10000):
+        pass
 
 
 def never_replies(stream):
@@ -125,11 +124,10 @@ def waiting_to_close(port):
 
 
 def connections_to_each_service_are_kept():
-    first, second = Service(keeps), Service(keeps)
-    with Server("--under-way", "2", "a=" + first.url, "b=" + second.url) as server:
-        server.ask_together("a/1", "a/2")
-        replies = [server.ask(f"b/{number}") for number in range(5)]
-        return all(reply.endswith(b"\x0a\x01v") for reply in replies) and (first.connections, second.connections) == (2, 1)
+    first, second, third = (Service(gives(b"v")) for _ in range(3))
+    with Server("--under-way", "2", "a=" + first.url, "b=" + second.url, "c=" + third.url) as server:
+        replies = [server.ask(path) for path in ("a/1", "b/1", "c/1", "c/2", "c/3", "c/4", "c/5")]
+        return all(reply.endswith(b"\x0a\x01v") for reply in replies) and third.connections == 1
 
 
 def none_is_kept_that_was_ended():
@@ -150,6 +148,20 @@ def each_value_is_of_its_own_service():
             replies += server.ask_together(f"a/p{number}", f"b/p{number}")
         right = [reply.endswith(b"\x0a\x01" + value) for reply, value in zip(replies, (b"x", b"y") * 40)]
         return all(right) and first.connections < 10 and second.connections >= 13
+
+
+def a_service_that_hangs_leaves_room_to_others():
+    first, second = Service(hangs), Service(gives(b"y"))
+    with Server("--under-way", "4", "--timeout", "60", "a=" + first.url, "b=" + second.url) as server:
+        clients = [socket.create_connection(server.address) for _ in range(20)]
+        for number, client in enumerate(clients):
+            client.sendall(f"GET /_groupcache/a/{number} HTTP/1.1\r\nHost: h\r\n\r\n".encode())
+        for _ in range(1000):
+            if first.connections == 2:
+                break
+            time.sleep(0.01)
+        replies = [server.ask(f"b/{number}") for number in range(5)]
+        return all(reply.endswith(b"\x0a\x01y") for reply in replies) and first.connections == 2
 
 
 def no_value_is_one_that_nobody_asked_for():
@@ -181,6 +193,7 @@ run_rows(
         connections_to_each_service_are_kept,
         none_is_kept_that_was_ended,
         each_value_is_of_its_own_service,
+        a_service_that_hangs_leaves_room_to_others,
         no_value_is_one_that_nobody_asked_for,
         no_value_is_cut_by_a_reset,
         interim_replies_fill_no_memory,

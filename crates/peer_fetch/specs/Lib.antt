@@ -1,5 +1,6 @@
 pub mod Fetchings
 pub mod Endpoints
+pub mod Shares
 pub mod Threads
 pub mod Turns
 pub mod Values

@@ -2,6 +2,8 @@
 use Rattle.std.specs.Prelude.{◌≡◌, ◌⊎◌, ℕ, List, [], Option, Some, None, Vec}
 use Rattle.std.specs.declared.alloc.Global.{Global}
 use Rattle.peer_origin.specs.Fetches.{Use}
+use Rattle.peer_origin.specs.declared.fault.FetchFault.{FetchFault}
+use Rattle.peer_origin.specs.declared.fault.FetchFault.TheVariants as fault
 use Rattle.peer_source.specs.Answers.{Answer}
 use Rattle.peer_fetch.specs.Fetchings.{GoesOnAnew, IsFoundIn, IsFreeBehind, uses_by}
 use Rattle.peer_fetch.specs.declared.fetching.Fetching.{Fetching}
@@ -21,6 +23,10 @@ MayGoOnAnew f = (f.first ≡ None) × (f.receiving.came.bytes ≡ [])
 -- the same request in the same try, so much of it sent
 abbrev pub IsSameTry : Fetching → Fetching → Type 0
 IsSameTry f f' = (f'.request.items ≡ f.request.items) × (f'.sent ≡ f.sent) × (f'.first ≡ f.first)
+
+-- why no second try is made: memory, or the request itself; or there was one, or bytes came, and the value is lost
+abbrev pub IsRefusedFor : Fetching → FetchFault → Type 0
+IsRefusedFor f why = (why ≡ fault.Memory) ⊎ (why ≡ fault.Malformed) ⊎ ((why ≡ fault.Lost) × ¬ (MayGoOnAnew f))
 
 -- another request may follow on the connection of the fetch
 abbrev pub IsFree : Fetching → Type 0

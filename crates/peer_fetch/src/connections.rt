@@ -26,8 +26,8 @@ pub struct Connections<'a, S: Source> {
     next_due: Option<Duration>,
 }
 
-// The earlier of two times.
-fn earlier(one: Option<Duration>, other: Option<Duration>) -> Option<Duration> {
+/// The earlier of two times.
+pub fn earlier(one: Option<Duration>, other: Option<Duration>) -> Option<Duration> {
     match (one, other) {
         (Some(a), Some(b)) if b < a => Some(b),
         (Some(a), _) => Some(a),
@@ -126,17 +126,14 @@ impl<'a, S: Source> Connections<'a, S> {
         }
     }
 
-    /// The time.
+    /// How late it is, since the thread began, as it was told last.
     pub fn now(&self) -> Duration {
         self.now
     }
 
-    /// How long nothing is to be given up, where values are under way.
-    pub fn time_left(&self) -> Option<Duration> {
-        match self.next_due {
-            Some(due) => Some(due.saturating_sub(self.now)),
-            None => None,
-        }
+    /// When something is to be given up next, where values are under way.
+    pub fn next_due(&self) -> Option<Duration> {
+        self.next_due
     }
 
     /// Notes when a connection is due.

@@ -1,5 +1,5 @@
 //! A job whose value was fetched, or was not, and what that is for a pool.
-ghost use Rattle.std.specs.Prelude.{◌≡◌, ◌≤◌, length, IfErr, IfOk, IfSome};
+ghost use Rattle.std.specs.Prelude.{◌≡◌, ◌≤◌, length, Err, IfErr, IfOk, IfSome};
 ghost use Rattle.std.proofs.Props.{props};
 ghost use Rattle.peer_view.specs.Sinks.{MAX_VALUE};
 ghost use Rattle.peer_source.specs.Answers.{Failed, Found, too_long_text};
@@ -44,6 +44,20 @@ impl Fetched {
         ensures by { result.by ≡ by }
     {
         Fetched { value, by }
+    }
+}
+
+impl<'a, S: Source> Done<'a, S> {
+    /// A job whose value was not fetched from this endpoint.
+    pub(crate) fn failed(endpoint: &'a Endpoint, job: TakenJob<S>, why: FetchFault) -> Done<'a, S>
+        ensures kept { (result.endpoint ≡ endpoint.entry) × (result.job ≡ job) }
+        ensures fault { result.got ≡ Err why }
+    {
+        Done {
+            endpoint,
+            job,
+            got: Err(why),
+        }
     }
 }
 

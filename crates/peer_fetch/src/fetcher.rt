@@ -1,17 +1,22 @@
 //! The values of one thread that are under way, and the connections that are kept for the next ones.
 //!
-//! It stands on the connections of the thread (`Connections`) and on the value of each (`UnderWay`). It promises nothing that
-//! contracts see but what `UnderWay` does: a value is given back done, with its job, once at most. A value is asked for on a kept
-//! connection only where that is to its own endpoint, which is looked at once more there (`Link::begin`).
+//! It stands on the connections of the thread (`Connections`), on the value of each (`UnderWay`), and on how many of them a
+//! service may have (`Shares`): those that it may not yet have wait (`Waiting`), so that one whose values hang does not hold up
+//! the others. It promises nothing that contracts see but what `UnderWay` does: a value is given back done, with its job, once at
+//! most. A value is asked for on a kept connection only where that is to its own endpoint, which is looked at once more there
+//! (`Link::begin`).
 
-use crate::connections::Connections;
+use crate::connections::{Connections, earlier};
 use crate::done::Done;
 use crate::endpoints::Numbered;
+use crate::idle::Idle;
 use crate::link::{Link, Turn};
 use crate::opening::{System, open};
 use crate::room::Room;
-use crate::settings::FetchThreadSettings;
+use crate::settings::{FetchPlan, FetchThreadSettings};
+use crate::shares::Shares;
 use crate::under_way::UnderWay;
+use crate::waiting::Waiting;
 use mio::event::Event;
 use peer_fill::TakenJob;
 use peer_host::Network;
@@ -20,40 +25,56 @@ use peer_source::Source;
 use std::alloc::Global;
 use std::time::Duration;
 
-/// The values that are under way.
+// How many values may wait. Each key that waits is fetched in the end, whatever its clients hold by then.
+const MAX_WAITING: usize = 4096;
+
+/// The values that are under way, and those that wait.
 #[derive(Drop)]
 pub struct Fetcher<'a, S: Source> {
     alloc: Global,
     settings: FetchThreadSettings,
     connections: Connections<'a, S>,
-    // For each endpoint the connections that may be used again, the one used last behind the others.
-    idle: Vec<Vec<usize>>,
-    under_way: usize,
+    idle: Idle,
+    shares: Shares,
+    waiting: Waiting<'a, S>,
     buffer: Vec<u8>,
 }
 
 impl<'a, S: Source> Fetcher<'a, S> {
     /// Nothing is under way.
-    pub fn new(alloc: Global, settings: FetchThreadSettings, room: Room) -> Fetcher<'a, S> {
-        let Room { idle, buffer } = room;
+    pub fn new(alloc: Global, plan: &FetchPlan<'a>, room: Room) -> Fetcher<'a, S> {
+        let settings = plan.settings;
+        let Room {
+            idle,
+            zeros,
+            other_zeros,
+            buffer,
+        } = room;
+        let shares = Shares::new(zeros, other_zeros, plan.endpoints.each, settings.under_way);
         Fetcher {
             alloc,
             settings,
             connections: Connections::new(alloc),
             idle,
-            under_way: 0,
+            shares,
+            waiting: Waiting::new(alloc),
             buffer,
         }
     }
 
-    /// Whether another value may be under way.
+    /// Whether another job may be taken.
     pub fn has_room(&self) -> bool {
-        self.under_way < self.settings.under_way
+        !self.shares.is_full() && self.waiting.count() < MAX_WAITING
     }
 
-    /// Whether no value is under way.
+    /// Whether no value is under way, and none waits.
     pub fn is_empty(&self) -> bool {
-        self.under_way == 0
+        self.shares.total() == 0 && self.waiting.count() == 0
+    }
+
+    /// How many values wait.
+    pub fn waiting_count(&self) -> usize {
+        self.waiting.count()
     }
 
     /// Whether one is to have a turn.
@@ -71,9 +92,13 @@ impl<'a, S: Source> Fetcher<'a, S> {
         self.connections.next_ready()
     }
 
-    /// How long nothing is to be given up, where values are under way.
+    /// How long nothing is to be given up, where values are under way or wait.
     pub fn time_left(&self) -> Option<Duration> {
-        self.connections.time_left()
+        let mut due = self.connections.next_due();
+        for service in 0..self.waiting.lines() {
+            due = earlier(due, self.waiting.due(service));
+        }
+        due.map(|due| due.saturating_sub(self.connections.now()))
     }
 
     /// Notes an event of a connection, which then has its turn.
@@ -104,15 +129,15 @@ impl<'a, S: Source> Fetcher<'a, S> {
             .connections
             .now()
             .saturating_add(self.settings.fetch.connect);
+        self.shares.begin(self.shares.service(under.number()));
         self.connections.add(Link::new(stream, under, next, due));
-        self.under_way = self.under_way.saturating_add(1);
         None
     }
 
     // A connection to the endpoint with this number that may be used again. One that has ended meanwhile is let go.
     fn take_idle(&mut self, number: usize) -> Option<usize> {
         for _ in 0..=self.settings.under_way {
-            let key = self.idle.get_mut(number)?.pop()?;
+            let key = self.idle.pop(number)?;
             let Some(link) = self.connections.get(key) else {
                 continue;
             };
@@ -138,13 +163,14 @@ impl<'a, S: Source> Fetcher<'a, S> {
             Some(link) if link.number == number => link.begin(under),
             _ => return self.connect(system, under, 0),
         }
-        self.under_way = self.under_way.saturating_add(1);
+        self.shares.begin(self.shares.service(number));
         self.connections.note_due(key);
         self.connections.ready(key);
         None
     }
 
-    /// Fetches the value of a job from the endpoint of its group. A job whose value cannot be fetched is given back.
+    /// Fetches the value of a job from the endpoint of its group, or has it wait. A job whose value cannot be fetched is given
+    /// back.
     pub fn begin<H: Network>(
         &mut self,
         system: &System<'_, H>,
@@ -155,53 +181,81 @@ impl<'a, S: Source> Fetcher<'a, S> {
             .connections
             .now()
             .saturating_add(self.settings.fetch.value);
+        let service = self.shares.service(at.number);
         match UnderWay::begin(self.alloc, at, job, due) {
-            Ok(under) => self.start(system, under),
+            Ok(under) if self.shares.has_room(service) => self.start(system, under),
+            Ok(under) => self.waiting.push(service, under),
             Err(done) => Some(done),
         }
     }
 
+    // Whether the first value that waits for a service may be under way now, or is to be given up.
+    fn may_go_on(&self, service: usize) -> bool {
+        match self.waiting.due(service) {
+            Some(due) => due <= self.connections.now() || self.shares.has_room(service),
+            None => false,
+        }
+    }
+
+    /// Takes out a value that waited and may be under way now, or is to be given up.
+    pub fn next_waiting(&mut self) -> Option<UnderWay<'a, S>> {
+        for service in 0..self.waiting.lines() {
+            if self.may_go_on(service) {
+                return self.waiting.pop(service);
+            }
+        }
+        None
+    }
+
+    /// Fetches a value that waited, for which it has as long as one that did not wait: else, where a service has more to do than
+    /// it can, each value would begin too late. One that is to be given up, or cannot be fetched, is given back.
+    pub fn go_on<H: Network>(
+        &mut self,
+        system: &System<'_, H>,
+        under: UnderWay<'a, S>,
+    ) -> Option<Done<'a, S>> {
+        let now = self.connections.now();
+        if under.due() <= now {
+            return Some(under.done(Err(FetchFault::Late)));
+        }
+        let due = now.saturating_add(self.settings.fetch.value);
+        self.start(system, under.put_off(due))
+    }
+
     // Puts a connection behind those to its endpoint that may be used again. Whether there is one, and memory for that.
     fn put_idle(&mut self, key: usize) -> bool {
-        let Some(link) = self.connections.get(key) else {
-            return false;
-        };
-        match self.idle.get_mut(link.number) {
-            Some(idle) => idle.push(key).is_ok(),
+        match self.connections.get(key) {
+            Some(link) => self.idle.put(link.number, key),
             None => false,
         }
     }
 
     // Lets the connection go that was used longest ago, of the endpoint that has most of them.
     fn forget_oldest(&mut self) {
-        let Some(longest) = self.idle.iter_mut().max_by_key(|idle| idle.len()) else {
-            return;
-        };
-        if longest.is_empty() {
-            return;
+        if let Some(key) = self.idle.pop_oldest() {
+            self.connections.forget(key);
         }
-        let key = longest.remove(0);
-        self.connections.forget(key);
     }
 
     // Keeps a connection for another value, in the place of an older one where too many are kept, or lets it go.
-    fn keep(&mut self, key: usize, keeps: bool) {
-        if !keeps || self.settings.fetch.connection_for_each || !self.put_idle(key) {
+    fn release(&mut self, key: usize, reusable: bool) {
+        if !reusable || self.settings.fetch.connection_for_each {
             self.connections.forget(key);
             return;
         }
-        if self.connections.len().saturating_sub(self.under_way) > self.settings.under_way {
+        // Before it is kept itself, so that it is not the one that goes.
+        if self.connections.len().saturating_sub(self.shares.total()) > self.settings.under_way {
             self.forget_oldest();
+        }
+        if !self.put_idle(key) {
+            self.connections.forget(key);
         }
     }
 
     // Takes a connection out that ended while it was kept, also off those that may be used again, since another one gets its key.
     fn lose(&mut self, key: usize) {
-        let Some(link) = self.connections.remove(key) else {
-            return;
-        };
-        if let Some(idle) = self.idle.get_mut(link.number) {
-            idle.retain(|kept| *kept != key);
+        if let Some(link) = self.connections.remove(key) {
+            self.idle.remove(link.number, key);
         }
     }
 
@@ -252,6 +306,7 @@ impl<'a, S: Source> Fetcher<'a, S> {
         let Some(link) = self.connections.get_mut(key) else {
             return None;
         };
+        let service = self.shares.service(link.number);
         let turn = link.turn(&mut self.buffer, now);
         match turn {
             Turn::Waits => None,
@@ -263,17 +318,17 @@ impl<'a, S: Source> Fetcher<'a, S> {
                 self.lose(key);
                 None
             }
-            Turn::Done(done, keeps) => {
-                self.under_way = self.under_way.saturating_sub(1);
-                self.keep(key, keeps);
+            Turn::Done(done, reusable) => {
+                self.shares.end(service);
+                self.release(key, reusable);
                 Some(done)
             }
             Turn::Unconnected(under) => {
-                self.under_way = self.under_way.saturating_sub(1);
+                self.shares.end(service);
                 self.connect_next(system, key, under)
             }
             Turn::Cut(under, failure) => {
-                self.under_way = self.under_way.saturating_sub(1);
+                self.shares.end(service);
                 self.cut(system, key, under, failure)
             }
         }

@@ -119,6 +119,26 @@ pub fn take_jobs<'a, S: Source, L: Ledger, G: Gate, H: Network>(
     took
 }
 
+/// Goes on with those that wait, as far as they may by now.
+pub fn serve_waiting<'a, S: Source, L: Ledger, G: Gate, H: Network>(
+    system: &System<'_, H>,
+    jobs: &Jobs<'_, 'a, S, L, G>,
+    seat: &mut FillSeat<S, L>,
+    fetcher: &mut Fetcher<'a, S>,
+)
+    requires seat { IsFillSeatOf jobs.now.pool.now seat.old }
+    requires answers { Allows (S.answers (source_of jobs.now.pool.now)) jobs.now.plan }
+    ensures { IsLaterSeat jobs.now.pool.now seat.old seat.new }
+{
+    for _ in 0..fetcher.waiting_count() {
+        let Some(under) = fetcher.next_waiting() else {
+            return;
+        };
+        let done = fetcher.go_on(system, under);
+        fill_done(system.rt, jobs, seat, done);
+    }
+}
+
 /// Gives each of those a turn that are to have one by now.
 pub fn serve_ready<'a, S: Source, L: Ledger, G: Gate, H: Network>(
     system: &System<'_, H>,

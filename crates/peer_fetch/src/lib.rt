@@ -13,14 +13,17 @@ mod done;
 mod endpoints;
 mod fetcher;
 mod fetching;
+mod idle;
 mod jobs;
 mod link;
 mod opening;
 mod room;
 mod settings;
+mod shares;
 mod thread;
 mod transfer;
 mod under_way;
+mod waiting;
 
 pub use endpoints::{Endpoints, Numbered};
 pub use fetching::{Answer, Fetching};

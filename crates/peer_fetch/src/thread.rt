@@ -2,14 +2,14 @@
 //!
 //! Who pushes a job wakes it where it sleeps; who pushes no more closes its waker. It looks for jobs until it finds none, and
 //! once more behind saying that it falls asleep. Where it has no room for another value it does not say so, and need not be
-//! woken: it looks for jobs once a value is done. Where that last look filled it, who pushed may have found it asleep and woken
+//! woken: it looks for jobs once one is done or given up. Where that last look filled it, who pushed may have found it asleep and woken
 //! it for a job that it cannot take; then it wakes another thread.
 ghost use Rattle.std.specs.Prelude.{◌≡◌};
 ghost use Rattle.peer_fill.specs.Pools.{source_of, IsFillSeatOf};
 ghost use Rattle.peer_fetch.specs.Threads.{Allows, IsLaterSeat};
 
 use crate::fetcher::Fetcher;
-use crate::jobs::{Jobs, serve_ready, take_jobs};
+use crate::jobs::{Jobs, serve_ready, serve_waiting, take_jobs};
 use crate::opening::System;
 use crate::room::Room;
 use crate::settings::FetchPlan;
@@ -82,7 +82,7 @@ fn prepare_wait<'a, S: Source, L: Ledger, G: Gate, H: Network>(
 }
 
 // Takes jobs, and gives those that are ready their turn. Whether all is done: no more jobs are pushed, there is none, and
-// no value is under way.
+// no value is under way or waits.
 fn work_on<'a, S: Source, L: Ledger, G: Gate, H: Network>(
     system: &System<'_, H>,
     jobs: &Jobs<'_, 'a, S, L, G>,
@@ -97,6 +97,7 @@ fn work_on<'a, S: Source, L: Ledger, G: Gate, H: Network>(
     let stopping = waker.own.is_closed();
     let took = take_jobs(system, jobs, seat, fetcher);
     serve_ready(system, jobs, seat, fetcher);
+    serve_waiting(system, jobs, seat, fetcher);
     stopping && !took && fetcher.is_empty()
 }
 
@@ -120,7 +121,7 @@ impl<'a> FetchThread<'a> {
     }
 
     /// Takes jobs of the pool and fills their flights with what the origins answer, until the waker was closed, there is no
-    /// job, and no value is under way. For a group without an endpoint the source is called.
+    /// job, and no value is under way or waits. For a group without an endpoint the source is called.
     pub fn run<S: Source, L: Ledger, G: Gate, H: Network>(
         self,
         rt: &H,
@@ -138,7 +139,7 @@ impl<'a> FetchThread<'a> {
         let mut thread = Running {
             poll,
             events,
-            fetcher: Fetcher::new(alloc, plan.settings, room),
+            fetcher: Fetcher::new(alloc, &plan, room),
             pause: plan.settings.pause,
         };
         let mut seat = seat;

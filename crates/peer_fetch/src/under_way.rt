@@ -1,10 +1,10 @@
-//! A value under way: a job, the numbered endpoint of its origin, and the fetch.
-ghost use Rattle.std.specs.Prelude.{◌≡◌, ◌+◌, ◌≤◌, ◌↔◌, ◌++◌, [], ◌∷◌, false, length, true, Err, IfErr, IfOk, IfSome, IsTrue, None, Ok, drop};
+//! A value under way, or one that waits to be: a job, the numbered endpoint of its origin, and the fetch.
+ghost use Rattle.std.specs.Prelude.{◌≡◌, ◌+◌, ◌≤◌, ◌↔◌, ◌⊎◌, ◌++◌, [], ◌∷◌, false, length, true, Err, IfErr, IfOk, IfSome, IsTrue, None, Ok, drop};
 ghost use Rattle.peer_view.specs.Sinks.{MAX_VALUE};
 ghost use Rattle.peer_origin.specs.declared.exchange.Failure.TheVariants as fail;
 ghost use Rattle.peer_origin.specs.declared.fault.FetchFault.TheVariants as fault;
 ghost use Rattle.peer_fetch.specs.Fetchings.{request_at, use_by};
-ghost use Rattle.peer_fetch.specs.Values.{uses_of, IsFoundBy, IsFree, IsSameTry, IsSecondTry, MayGoOnAnew};
+ghost use Rattle.peer_fetch.specs.Values.{uses_of, IsFoundBy, IsFree, IsRefusedFor, IsSameTry, IsSecondTry};
 
 use crate::done::{Done, Fetched};
 use crate::endpoints::Numbered;
@@ -36,6 +36,7 @@ impl<'a, S: Source> UnderWay<'a, S> {
         ensures kept { IfOk result (λ u. (u.at ≡ at.entry) × (u.job ≡ job) × (u.due ≡ due)) }
         ensures unused { IfOk result (λ u. uses_of u.fetching ≡ use_by u.fetching.request.items 0 [] false ∷ []) }
         ensures given_back { IfErr result (λ d. (d.endpoint ≡ at.entry.endpoint) × (d.job ≡ job) × IfOk d.got (λ _. ⊥)) }
+        ensures refused { IfErr result (λ d. IfErr d.got (λ why. (why ≡ fault.Memory) ⊎ (why ≡ fault.Malformed))) }
     {
         match request(alloc, &at.endpoint.host, &at.endpoint.prefix, job.key()) {
             Ok(asked) => Ok(UnderWay {
@@ -44,11 +45,7 @@ impl<'a, S: Source> UnderWay<'a, S> {
                 fetching: Fetching::new(alloc, asked),
                 due,
             }),
-            Err(why) => Err(Done {
-                endpoint: at.endpoint,
-                job,
-                got: Err(why),
-            }),
+            Err(why) => Err(Done::failed(at.endpoint, job, why)),
         }
     }
 
@@ -56,7 +53,7 @@ impl<'a, S: Source> UnderWay<'a, S> {
     pub fn again(self, alloc: Global) -> Result<UnderWay<'a, S>, Done<'a, S>>
         ensures kept { IfOk result (λ u. (u.at ≡ self.entry.at) × (u.job ≡ self.entry.job) × (u.due ≡ self.entry.due)) }
         ensures second { IfOk result (λ u. IsSecondTry self.entry.fetching u.fetching) }
-        ensures lost { IfErr result (λ d. IfErr d.got (λ why. why ≡ fault.Lost → ¬ (MayGoOnAnew self.entry.fetching))) }
+        ensures refused { IfErr result (λ d. IfErr d.got (IsRefusedFor self.entry.fetching)) }
         ensures given_back { IfErr result (λ d. (d.endpoint ≡ self.entry.at.endpoint) × (d.job ≡ self.entry.job) × IfOk d.got (λ _. ⊥)) }
     {
         let UnderWay {
@@ -67,13 +64,7 @@ impl<'a, S: Source> UnderWay<'a, S> {
         } = self;
         let asked = match request(alloc, &at.endpoint.host, &at.endpoint.prefix, job.key()) {
             Ok(asked) => asked,
-            Err(why) => {
-                return Err(Done {
-                    endpoint: at.endpoint,
-                    job,
-                    got: Err(why),
-                });
-            }
+            Err(why) => return Err(Done::failed(at.endpoint, job, why)),
         };
         if fetching.again(alloc, asked) {
             return Ok(UnderWay {
@@ -83,11 +74,26 @@ impl<'a, S: Source> UnderWay<'a, S> {
                 due,
             });
         }
-        Err(Done {
-            endpoint: at.endpoint,
+        Err(Done::failed(at.endpoint, job, FetchFault::Lost))
+    }
+
+    /// The same, given up at another time.
+    pub fn put_off(self, due: Duration) -> UnderWay<'a, S>
+        ensures kept { (result.at ≡ self.entry.at) × (result.job ≡ self.entry.job) × (result.fetching ≡ self.entry.fetching) }
+        ensures due { result.due ≡ due }
+    {
+        let UnderWay {
+            at,
             job,
-            got: Err(FetchFault::Lost),
-        })
+            fetching,
+            ..
+        } = self;
+        UnderWay {
+            at,
+            job,
+            fetching,
+            due,
+        }
     }
 
     /// The endpoint of its origin.

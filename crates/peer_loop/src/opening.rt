@@ -116,9 +116,7 @@ fn parts_without_threads<'a>(
             mailboxes: Mailboxes {
                 each: Vec::new(alloc),
             },
-            wakers: PollWakers {
-                each: Vec::new(alloc),
-            },
+            wakers: PollWakers::new(Vec::new(alloc)),
             occupancy,
         },
         listening,

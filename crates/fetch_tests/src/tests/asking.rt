@@ -8,7 +8,7 @@ use peer_source::{Fill, Outcome, Source};
 use std::alloc::Global;
 use std::sync::Wait;
 use std::sync::ledger::Ledger;
-use test_support::ask_for;
+use test_support::{ask_for, ask_in};
 
 /// Keys that are asked for one after the other, and what each gives: a value or the text of an error.
 pub type Texts<'k> = &'k [(&'k [u8], &'k [u8])];
@@ -16,7 +16,9 @@ pub type Texts<'k> = &'k [(&'k [u8], &'k [u8])];
 /// What a client asks for.
 #[derive(Clone, Copy)]
 pub struct Plan<'k> {
-    /// These first.
+    /// So many keys of the group `hung` first, all at once, to none of which a reply comes.
+    pub hung: u32,
+    /// Then these.
     pub texts: Texts<'k>,
     /// So many numbers, each once the one before it is answered.
     pub in_turn: u32,
@@ -28,6 +30,7 @@ impl Plan<'_> {
     /// How many keys it asks for.
     pub fn asks(&self) -> u64 {
         (self.texts.len() as u64)
+            .saturating_add(u64::from(self.hung))
             .saturating_add(u64::from(self.in_turn))
             .saturating_add(u64::from(self.together))
     }
@@ -85,6 +88,23 @@ impl<'p, S: Source, L: Ledger, R: Wait> Client<'p, S, L, R> {
         let claim = ask_for(self.rt, self.alloc, self.pool, seat, key);
         let _ = self.waker.wake_asleep();
         claim
+    }
+
+    // Asks for so many keys of the group `hung`, and waits for none.
+    fn ask_hung(&self, seat: &mut ConnSeat<S, L>, count: u32)
+        requires { IsConnSeatOf self.now.pool.now seat.old }
+        ensures { IsConnSeatOf self.now.pool.now seat.new }
+    {
+        let Some(group) = self.pool.names().group(b"hung") else {
+            return;
+        };
+        for number in 0..count {
+            let mut key = *b"late000000";
+            key[4..].copy_from_slice(&digits(number));
+            let claim = ask_in(self.rt, self.alloc, self.pool, seat, group, &key);
+            drop(claim);
+            let _ = self.waker.wake_asleep();
+        }
     }
 
     // Whether the claim is answered with this text.
@@ -154,6 +174,7 @@ impl<'p, S: Source, L: Ledger, R: Wait> Client<'p, S, L, R> {
         requires { IsConnSeatOf self.now.pool.now seat.old }
         ensures { IsConnSeatOf self.now.pool.now seat.new }
     {
+        self.ask_hung(seat, plan.hung);
         let wrong_text = self.ask_texts(seat, plan.texts);
         let in_turn = self.ask_in_turn(seat, plan.in_turn);
         let together = self.ask_together(seat, plan.together);

@@ -2,7 +2,7 @@
 
 use super::asking::{Plan, Texts};
 use super::lookup::{LOOPBACK, TWO_ADDRESSES};
-use super::running::{Seen, Setting, patient, see_over};
+use super::running::{Groups, Seen, Setting, patient, see_over};
 use peer_fetch::FetchThreadSettings;
 use peer_fill::Report;
 use peer_origin::FetchSettings;
@@ -16,6 +16,18 @@ use std::test::Fail;
 use std::thread::Threads;
 use std::time::{Clock, Duration};
 use test_support::all_called;
+
+// A group of one service.
+const ALONE: Groups<'static> = &[(b"echo", LOOPBACK)];
+
+// The same, whose name has two addresses.
+const AT_TWO_ADDRESSES: Groups<'static> = &[(b"echo", TWO_ADDRESSES)];
+
+// Two groups of one service.
+const OF_ONE_SERVICE: Groups<'static> = &[(b"echo", LOOPBACK), (b"other", LOOPBACK)];
+
+// Groups of two services.
+const BESIDE_HUNG: Groups<'static> = &[(b"echo", LOOPBACK), (b"hung", TWO_ADDRESSES)];
 
 // What an origin is to see: how many requests, and of how many that were open at once at least and at most.
 #[derive(Clone, Copy)]
@@ -85,8 +97,14 @@ const LATE: Texts<'static> = &[(b"late", b"origin timed out"), (b"plain", b"plai
 // A value that comes later than an address is given up.
 const SLOW: Texts<'static> = &[(b"slow", b"slow"), (b"plain", b"plain")];
 
-// `closing` says that its connection is closed, which stays open; on a kept connection `stale` would be asked for twice.
-const CLOSING: Texts<'static> = &[(b"closing", b"closing"), (b"stale", b"stale")];
+// `closing` and `missing-closing` say that their connections are closed, which stay open; on a kept connection `stale` would be
+// asked for twice.
+const CLOSING: Texts<'static> = &[
+    (b"closing", b"closing"),
+    (b"stale", b"stale"),
+    (b"missing-closing", b"no such key"),
+    (b"stale-too", b"stale-too"),
+];
 
 // Values from an origin whose first address refuses.
 const PLAIN: Texts<'static> = &[(b"plain", b"plain"), (b"chunked", b"chunked")];
@@ -106,9 +124,10 @@ const NO_FAILURE: FailureCounts = FailureCounts {
 // A client that asks for these texts.
 fn of_texts(texts: Texts<'_>, settings: FetchThreadSettings) -> Setting<'_> {
     Setting {
-        host: LOOPBACK,
+        groups: ALONE,
         hold: 0,
         plan: Plan {
+            hung: 0,
             texts,
             in_turn: 0,
             together: 0,
@@ -121,14 +140,45 @@ fn of_texts(texts: Texts<'_>, settings: FetchThreadSettings) -> Setting<'_> {
 // many requests are open.
 fn of_numbers(in_turn: u32, together: u32, hold: usize) -> Setting<'static> {
     Setting {
-        host: LOOPBACK,
+        groups: ALONE,
         hold,
         plan: Plan {
+            hung: 0,
             texts: &[],
             in_turn,
             together,
         },
         settings: patient(),
+    }
+}
+
+// A client that asks for so many keys of a service that hangs, and then for these texts of another one, where four values may
+// be under way.
+fn of_hung(hung: u32, texts: Texts<'_>, settings: FetchThreadSettings) -> Setting<'_> {
+    let setting = of_texts(texts, settings);
+    Setting {
+        groups: BESIDE_HUNG,
+        plan: Plan {
+            hung,
+            ..setting.plan
+        },
+        settings: FetchThreadSettings {
+            under_way: 4,
+            ..settings
+        },
+        ..setting
+    }
+}
+
+// A thread that gives no value up while its origin runs.
+fn unhurried() -> FetchThreadSettings {
+    let patient = patient();
+    FetchThreadSettings {
+        fetch: FetchSettings {
+            value: Duration::from_secs(3600),
+            ..patient.fetch
+        },
+        ..patient
     }
 }
 
@@ -230,19 +280,32 @@ fn each_client_is_answered_as_it_is_to_be(rt: HostRuntime) -> Result<(), Fail> {
         (
             "no connection is kept that its origin is to close",
             of_texts(CLOSING, patient()),
-            Load::in_turn(2),
+            Load::in_turn(4),
         ),
         (
             "the second address is tried where the first refuses",
             Setting {
-                host: TWO_ADDRESSES,
+                groups: AT_TWO_ADDRESSES,
                 ..of_texts(PLAIN, patient())
             },
             Load::in_turn(2),
         ),
         (
+            "a service that hangs does not hold up another one",
+            of_hung(40, PLAIN, unhurried()),
+            None,
+        ),
+        (
             "two hundred values are under way",
             of_numbers(0, 300, 200),
+            Load::together(300, 200),
+        ),
+        (
+            "two groups of one service have all that may be under way",
+            Setting {
+                groups: OF_ONE_SERVICE,
+                ..of_numbers(0, 300, 200)
+            },
             Load::together(300, 200),
         ),
         (
@@ -260,9 +323,9 @@ fn each_client_is_answered_as_it_is_to_be(rt: HostRuntime) -> Result<(), Fail> {
 fn failures_of<H: Net<Listener = TcpListener, Stream = TcpStream> + Threads + Wait + Clock + Sync>(
     rt: &H,
     alloc: Global,
-    texts: Texts<'_>,
+    setting: Setting<'_>,
 ) -> Option<FailureCounts> {
-    match see(rt, alloc, of_texts(texts, patient())) {
+    match see(rt, alloc, setting) {
         Some((seen, _)) => Some(seen.failures),
         None => None,
     }
@@ -270,7 +333,7 @@ fn failures_of<H: Net<Listener = TcpListener, Stream = TcpStream> + Threads + Wa
 
 #[test]
 fn each_value_that_is_not_fetched_is_counted_by_why(rt: HostRuntime) {
-    let counted = failures_of(&rt, rt.alloc(), ROWS);
+    let counted = failures_of(&rt, rt.alloc(), of_texts(ROWS, patient()));
     assert!(rt;
         counted
             == Some(FailureCounts {
@@ -282,7 +345,7 @@ fn each_value_that_is_not_fetched_is_counted_by_why(rt: HostRuntime) {
                 ..NO_FAILURE
             })
     );
-    let of_an_end = failures_of(&rt, rt.alloc(), ENDING);
+    let of_an_end = failures_of(&rt, rt.alloc(), of_texts(ENDING, patient()));
     assert!(rt;
         of_an_end
             == Some(FailureCounts {
@@ -290,4 +353,7 @@ fn each_value_that_is_not_fetched_is_counted_by_why(rt: HostRuntime) {
                 ..NO_FAILURE
             })
     );
+    // Those that wait are given up in their time too, but for the few that had room meanwhile.
+    let of_hung = failures_of(&rt, rt.alloc(), of_hung(40, &LATE[..1], hasty()));
+    assert!(rt; of_hung.is_some_and(|counts| counts.late >= 30));
 }

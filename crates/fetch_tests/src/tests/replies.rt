@@ -52,6 +52,10 @@ const KEPT: Table = &[
         b"HTTP/1.1 200 OK\r\nconnection: close\r\ncontent-length: 7\r\n\r\nclosing",
     ),
     (
+        b"missing-closing",
+        b"HTTP/1.1 404 Not Found\r\nconnection: close\r\ncontent-length: 0\r\n\r\n",
+    ),
+    (
         b"early",
         b"HTTP/1.1 103 Early Hints\r\n\r\nHTTP/1.1 200 OK\r\ncontent-length: 5\r\n\r\nearly",
     ),
@@ -88,13 +92,13 @@ pub fn reply_to(alloc: Global, key: &[u8], is_first: bool) -> Result<Reply, Allo
     if let Some(text) = text_for(KEPT, key) {
         return Ok(Reply::Keep(text.to_vec(alloc)?));
     }
-    if key == b"stale".as_slice() && !is_first {
+    if key.starts_with(b"stale") && !is_first {
         return Ok(Reply::Close(Vec::new(alloc)));
     }
     if key == b"slow".as_slice() {
         return Ok(Reply::KeepLate(echo(alloc, key)?));
     }
-    if key == b"late".as_slice() {
+    if key.starts_with(b"late") {
         return Ok(Reply::Never);
     }
     if key == b"end".as_slice() {

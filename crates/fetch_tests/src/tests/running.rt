@@ -21,10 +21,10 @@ use std::thread;
 use std::time::Duration;
 use test_support::{close_pool, open_pool, push_seat};
 
-/// What is run: an origin at a host, which holds its replies back until so many requests were open, and a client's plan.
+/// What is run: the groups of an origin, which holds its replies back until so many requests were open, and a client's plan.
 #[derive(Clone, Copy)]
 pub struct Setting<'k> {
-    pub host: &'k str,
+    pub groups: Groups<'k>,
     pub hold: usize,
     pub plan: Plan<'k>,
     pub settings: FetchThreadSettings,
@@ -177,13 +177,18 @@ pub struct Prepared {
     pub origins: Vec<Origin>,
 }
 
-/// A listener on a free port of the loopback address, which this host is to have.
-pub fn prepare<H: Network>(rt: &H, alloc: Global, host: &str) -> Option<Prepared> {
+/// Groups, and the host of each.
+pub type Groups<'k> = &'k [(&'k [u8], &'k str)];
+
+/// A listener on a free port of the loopback address, which the hosts of these groups have.
+pub fn prepare<H: Network>(rt: &H, alloc: Global, groups: Groups<'_>) -> Option<Prepared> {
     let listener = TcpListener::bind(rt, "127.0.0.1:0").ok()?;
     let mut origins = Vec::new(alloc);
-    let endpoint = endpoint_of(alloc, &listener, host, "")?;
-    let name = b"echo".to_vec(alloc).ok()?;
-    origins.push(Origin::new(alloc, name, endpoint)).ok()?;
+    for (group, host) in groups {
+        let endpoint = endpoint_of(alloc, &listener, host, "")?;
+        let name = group.to_vec(alloc).ok()?;
+        origins.push(Origin::new(alloc, name, endpoint)).ok()?;
+    }
     Some(Prepared { listener, origins })
 }
 
@@ -205,7 +210,7 @@ fn see_at<L: Ledger + Send + Sync, H: Host>(
     let (parts, waker) = FetchParts::new(rt, alloc, endpoints.len())?;
     let mut each = Vec::new(alloc);
     each.push(waker).ok()?;
-    let wakers = PollWakers { each };
+    let wakers = PollWakers::new(each);
     let plan = FetchPlan {
         endpoints: Endpoints {
             first: 0,
@@ -233,7 +238,7 @@ pub fn see_over<L: Ledger + Send + Sync, H: Host>(
     requires name { blank.name ≡ L.name }
     requires parts { (blank.parts ≡ L.parts) × (blank.parts ≡ 16) }
 {
-    let Prepared { listener, origins } = prepare(rt, alloc, setting.host)?;
+    let Prepared { listener, origins } = prepare(rt, alloc, setting.groups)?;
     let told = Told::new();
     let beside = Beside {
         listener,

@@ -146,7 +146,7 @@ fn serve_prepared<
         + Clock
         + Sync,
 >(rt: &'x H, outside: &'x Outside) -> Option<bool> {
-    let Prepared { listener, origins } = prepare(rt, rt.alloc(), LOOPBACK)?;
+    let Prepared { listener, origins } = prepare(rt, rt.alloc(), &[(b"echo", LOOPBACK)])?;
     let source = OriginSource::new(rt, outside.counters.failures(), origins, patient().fetch);
     let endpoints = source.endpoints(rt.alloc()).ok()?;
     let fetched = Counters::new();

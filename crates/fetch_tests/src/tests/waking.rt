@@ -86,7 +86,7 @@ impl Two {
         let mut each = Vec::new(alloc);
         each.push(one).ok()?;
         each.push(other).ok()?;
-        let wakers = PollWakers { each };
+        let wakers = PollWakers::new(each);
         Some(Two {
             first,
             second,

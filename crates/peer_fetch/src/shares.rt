@@ -1,0 +1,117 @@
+//! How many values are under way, of each service and in all, and whether another one may be.
+//!
+//! It stands on vectors. It promises when there is room: a service that is not alone may have as many of its values under way as
+//! are free besides, so that one whose values all hang leaves half of the room to the others, and a second one a quarter.
+ghost use Rattle.std.specs.Prelude.{◌≡◌, ◌≢◌, ◌↔◌, ◌+◌, ◌-◌, ◌^◌, ◌<◌, ◌≤◌, ℕ, IfSome, IsTrue, Some, slice_get};
+ghost use Rattle.peer_fetch.specs.Shares.{HasRoom};
+
+use peer_origin::Endpoint;
+
+/// How many values are under way. A service is a host, by the number of the first endpoint there.
+#[derive(Drop)]
+pub struct Shares {
+    // The service of each endpoint.
+    services: Vec<usize>,
+    // How many values of each service are under way.
+    each: Vec<usize>,
+    several: bool,
+    total: usize,
+    most: usize,
+}
+
+// Writes the service of each endpoint in the place of a number.
+fn number_services(services: &mut [usize], endpoints: &[Endpoint]) {
+    for at in 0..services.len() {
+        let Some(endpoint) = endpoints.get(at) else {
+            return;
+        };
+        let host = endpoint.host.as_slice();
+        let first = endpoints
+            .iter()
+            .position(|other| other.host.as_slice() == host);
+        services[at] = first.unwrap_or(at);
+    }
+}
+
+impl Shares {
+    /// None is under way of the services of these endpoints, and so many may be. There are two zeros for each endpoint.
+    pub fn new(
+        zeros: Vec<usize>,
+        other_zeros: Vec<usize>,
+        endpoints: &[Endpoint],
+        most: usize,
+    ) -> Shares
+        ensures most { result.most ≡ most }
+        ensures none { result.total ≡ 0 }
+        ensures each { result.each ≡ zeros }
+    {
+        let mut services = other_zeros;
+        number_services(&mut services, endpoints);
+        let several = services.iter().any(|service| *service != 0);
+        Shares {
+            services,
+            each: zeros,
+            several,
+            total: 0,
+            most,
+        }
+    }
+
+    /// The service of an endpoint.
+    pub fn service(&self, number: usize) -> usize {
+        match self.services.get(number) {
+            Some(service) => *service,
+            None => number,
+        }
+    }
+
+    /// How many are under way in all.
+    pub fn total(&self) -> usize
+        ensures { result ≡ self.now.total }
+    {
+        self.total
+    }
+
+    /// Whether no other one may be under way, of any service.
+    pub fn is_full(&self) -> bool
+        ensures { IsTrue result ↔ (self.now.most ≤ self.now.total) }
+    {
+        self.total >= self.most
+    }
+
+    /// Whether another one of this service may be under way.
+    pub fn has_room(&self, service: usize) -> bool
+        ensures { IsTrue result ↔ HasRoom self.now.several self.now.each.items self.now.total self.now.most service }
+    {
+        let free = self.most.saturating_sub(self.total);
+        match self.each.get(service) {
+            Some(own) if self.several => *own < free,
+            _ => free > 0,
+        }
+    }
+
+    /// One more of this service is under way.
+    pub fn begin(&mut self, service: usize)
+        ensures total { self.old.total < 2 ^ 64 - 1 → self.new.total ≡ self.old.total + 1 }
+        ensures own { IfSome (slice_get self.old.each.items service)
+            (λ own. own < 2 ^ 64 - 1 → slice_get self.new.each.items service ≡ Some (own + 1)) }
+        ensures others { (n : ℕ) → n ≢ service → slice_get self.new.each.items n ≡ slice_get self.old.each.items n }
+    {
+        self.total = self.total.saturating_add(1);
+        if let Some(own) = self.each.get_mut(service) {
+            *own = own.saturating_add(1);
+        }
+    }
+
+    /// One of this service is under way no longer.
+    pub fn end(&mut self, service: usize)
+        ensures total { self.new.total ≡ self.old.total - 1 }
+        ensures own { IfSome (slice_get self.old.each.items service) (λ own. slice_get self.new.each.items service ≡ Some (own - 1)) }
+        ensures others { (n : ℕ) → n ≢ service → slice_get self.new.each.items n ≡ slice_get self.old.each.items n }
+    {
+        self.total = self.total.saturating_sub(1);
+        if let Some(own) = self.each.get_mut(service) {
+            *own = own.saturating_sub(1);
+        }
+    }
+}
