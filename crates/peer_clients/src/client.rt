@@ -2,7 +2,8 @@
 //!
 //! It stands on the connection as a state (`Exchange`), on the seat of its loop, and on what the system reports of the stream.
 //! It promises that the seat stays one of the pool, with its parts, and that the connection stays one of the pool's source.
-ghost use Rattle.std.specs.Prelude.{◌≡◌, Some};
+ghost use Rattle.std.specs.Prelude.{◌≡◌, true, IsTrue, Some};
+ghost use Rattle.peer_exchange.specs.ExchangeStates.{takes_bytes};
 ghost use Rattle.peer_clients.specs.Parts.{KeepsParts};
 
 use crate::activity::Activity;
@@ -28,7 +29,7 @@ use std::sync::Wait;
 use std::sync::ledger::Ledger;
 use std::time::Duration;
 
-/// A client.
+/// A stream and its connection, and when something came or went last.
 #[derive(Drop)]
 pub struct Client<'a, S: Source, F: Facts<S>> {
     stream: TcpStream,
@@ -93,7 +94,9 @@ impl<'a, S: Source, F: Facts<S>> Client<'a, S, F> {
     }
 
     // Whether bytes are read.
-    fn reads(&self) -> bool {
+    fn reads(&self) -> bool
+        ensures { IsTrue result → takes_bytes self.now.exchange.state ≡ true }
+    {
         self.readiness.readable && self.exchange.takes_bytes() && self.exchange.room() > 0
     }
 
@@ -105,7 +108,7 @@ impl<'a, S: Source, F: Facts<S>> Client<'a, S, F> {
     // Reads once, where bytes are read.
     fn receive(&mut self, buffer: &mut [u8], now: Duration) {
         let room = min(self.exchange.room(), buffer.len());
-        if !self.reads() || !self.exchange.takes_bytes() {
+        if !self.reads() {
             return;
         }
         match self.stream.read(&mut buffer[..room]) {
@@ -275,7 +278,7 @@ impl<'a, S: Source, F: Facts<S>> Client<'a, S, F> {
     }
 
     /// Has it write once more, where output waits: the system reports room only once much of it is free. Whether there is output.
-    pub fn tries_to_write(&mut self) -> bool {
+    pub fn retry_write(&mut self) -> bool {
         let waits = !self.lingers && !self.exchange.output().is_empty();
         self.readiness.writable |= waits;
         waits

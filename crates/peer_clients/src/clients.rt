@@ -1,19 +1,17 @@
 //! The clients of a loop: which are to have a turn, which wait for a fill, and which for room in the queue of jobs.
 //!
 //! It stands on `Client`, a stream and its connection, and on the lists by slot (`WaitLists`). It promises nothing that
-//! contracts see: a client is put on each list once at most, and to list one takes no memory, which is had as it is
-//! added. A key that a client left behind gives the next one under it a turn too many.
+//! contracts see: a client waits on each list once at most, and to list one takes no memory, which is had as it is added. A
+//! key stays among those that are to have a turn where its client had one for another reason, or left: it is passed over.
 
 use crate::client::Client;
 use crate::facts::Facts;
-use crate::limits::MOST_FOR_ROOM;
 use crate::wait_lists::WaitLists;
 use mio::event::Event;
 use mio::{Registry, Token};
 use peer_source::Source;
 use slab::Slab;
 use std::alloc::{AllocError, Global};
-use std::cmp::min;
 use std::collections::VecDeque;
 
 /// The clients, each under its key.
@@ -23,7 +21,7 @@ pub struct Clients<'a, S: Source, F: Facts<S>> {
     pub each: Slab<Client<'a, S, F>>,
     /// Those that are to have a turn.
     pub ready: VecDeque<usize>,
-    // Those that wait for room in the queue of jobs.
+    // Those that wait for room in the queue of jobs, the one that waits longest first.
     for_room: VecDeque<usize>,
     // Those that wait for a fill.
     waiting: WaitLists,
@@ -46,7 +44,8 @@ impl<'a, S: Source, F: Facts<S>> Clients<'a, S, F> {
         let key = self.each.vacant_key();
         self.waiting.reserve(key)?;
         let more = self.each.len().saturating_add(1);
-        self.ready.reserve(more)?;
+        // One more for each that had its turn, and is listed anew.
+        self.ready.reserve(more.saturating_mul(2))?;
         self.for_room.reserve(more)
     }
 
@@ -57,10 +56,14 @@ impl<'a, S: Source, F: Facts<S>> Clients<'a, S, F> {
         has_room && client.register(registry, token).is_ok() && self.each.insert(client).is_ok()
     }
 
-    /// Takes a client out, and off the list of those that wait for a fill.
+    /// Takes a client out, and off the lists of those that wait.
     pub fn remove(&mut self, key: usize) -> Option<Client<'a, S, F>> {
         self.unlist(key);
-        self.each.try_remove(key)
+        let client = self.each.try_remove(key)?;
+        if client.is_for_room {
+            self.for_room.retain(|waits| *waits != key);
+        }
+        Some(client)
     }
 
     /// Puts a client behind those that are to have a turn.
@@ -117,9 +120,9 @@ impl<'a, S: Source, F: Facts<S>> Clients<'a, S, F> {
         }
     }
 
-    /// Whether one waits for room in the queue of jobs.
-    pub fn has_for_room(&self) -> bool {
-        !self.for_room.is_empty()
+    /// How many wait for room in the queue of jobs.
+    pub fn for_room_count(&self) -> usize {
+        self.for_room.len()
     }
 
     /// Lists a client as one that waits for room in the queue of jobs.
@@ -132,16 +135,20 @@ impl<'a, S: Source, F: Facts<S>> Clients<'a, S, F> {
         }
     }
 
-    /// Has the first of those their turn that waited for room: more than get it would ask in vain.
-    pub fn room_came(&mut self) {
-        for _ in 0..min(self.for_room.len(), MOST_FOR_ROOM) {
-            let Some(key) = self.for_room.pop_front() else {
-                return;
-            };
-            if let Some(client) = self.each.get_mut(key) {
-                client.is_for_room = false;
-            }
-            self.make_ready(key);
+    /// Takes the client off its list that has waited longest for room in the queue of jobs.
+    pub fn next_for_room(&mut self) -> Option<usize> {
+        let key = self.for_room.pop_front()?;
+        if let Some(client) = self.each.get_mut(key) {
+            client.is_for_room = false;
+        }
+        Some(key)
+    }
+
+    /// Whether a client is to have a turn.
+    pub fn is_ready(&self, key: usize) -> bool {
+        match self.each.get(key) {
+            Some(client) => client.is_ready,
+            None => false,
         }
     }
 }

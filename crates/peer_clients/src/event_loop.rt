@@ -4,7 +4,6 @@
 //! that the seats stay those of the pool, with their parts.
 
 use crate::facts::Facts;
-use crate::limits::LOOKS;
 use crate::seat::LoopSeat;
 use crate::site::LoopSite;
 use crate::turns::Turns;
@@ -30,8 +29,8 @@ pub struct Waits {
 #[derive(Drop)]
 pub struct EventLoop<'a, S: Source, F: Facts<S>> {
     turns: Turns<'a, S, F>,
-    // When it last looked for clients that are overdue, as it was when it last published how many bytes the caches have.
-    weighed: Duration,
+    // When clients that are overdue were last looked for, as it was when the bytes of the caches were last published.
+    caches_published: Duration,
 }
 
 impl<'a, S: Source, F: Facts<S>> EventLoop<'a, S, F> {
@@ -42,7 +41,7 @@ impl<'a, S: Source, F: Facts<S>> EventLoop<'a, S, F> {
     pub fn new(alloc: Global, shared: LoopSite<'a>) -> EventLoop<'a, S, F> {
         EventLoop {
             turns: Turns::new(alloc, shared),
-            weighed: Duration::ZERO,
+            caches_published: Duration::ZERO,
         }
     }
 
@@ -59,8 +58,8 @@ impl<'a, S: Source, F: Facts<S>> EventLoop<'a, S, F> {
 
     // Publishes how many bytes the caches have, where a tick is over, or the loop has no clients.
     fn publish_caches<L: Ledger, H: Wait>(&mut self, rt: &H, seat: &LoopSeat<'a, S, L, F>) {
-        if self.weighed != self.turns.swept || self.turns.clients.each.is_empty() {
-            self.weighed = self.turns.swept;
+        if self.caches_published != self.turns.swept || self.turns.clients.each.is_empty() {
+            self.caches_published = self.turns.swept;
             self.turns
                 .shared
                 .site
@@ -117,7 +116,7 @@ impl<'a, S: Source, F: Facts<S>> EventLoop<'a, S, F> {
         ensures parts { KeepsParts seat.old.seats seat.new.seats }
     {
         let looks = if self.turns.clients.has_listed() {
-            LOOKS
+            seat.filling.looks()
         } else {
             1
         };

@@ -4,7 +4,7 @@ ghost use Rattle.peer_fill.specs.Pools.{IsFillSeatOf};
 ghost use Rattle.peer_clients.specs.Parts.{filling_parts};
 
 use crate::fill_gate::FillGate;
-use crate::limits::JOBS_OF_TURN;
+use crate::limits::{JOBS_OF_TURN, LOOKS};
 use peer_fill::{FillSeat, Pool};
 use peer_poll::PollWakers;
 use peer_source::Source;
@@ -33,6 +33,15 @@ impl<'a> Filling<'a> {
             gate,
             told: 0,
             has_more: false,
+        }
+    }
+
+    /// How often the loop looks whether a fill came before it sleeps.
+    pub fn looks(&self) -> u32 {
+        if self.wakers.each.is_empty() {
+            LOOKS
+        } else {
+            1
         }
     }
 

@@ -13,16 +13,13 @@ pub const MAX_EVENTS: usize = 256;
 /// How many streams wait for one loop. The thread that accepts waits where there are more.
 pub const MAX_ARRIVED: usize = 1024;
 
-/// How often a loop looks whether it was told of a fill before it sleeps.
+/// How often a loop looks whether it was told of a fill before it sleeps, some 3 microseconds: that of a worker often comes within
+/// them. One that is fetched does not, and the loop looks once.
 pub const LOOKS: u32 = 64;
 
 /// How many bytes a client may hold that are not counted among what all of them hold: those of its replies and of the values
 /// of its tickets.
 pub const MAX_UNCOUNTED: usize = 65_536;
-
-/// How many clients that waited for room in the queue of jobs have their turn at once, which has 256 places for all loops: more
-/// would ask in vain.
-pub const MOST_FOR_ROOM: usize = 64;
 
 /// How many jobs a loop fills before its clients have their turn again.
 pub const JOBS_OF_TURN: usize = 64;

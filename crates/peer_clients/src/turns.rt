@@ -90,17 +90,35 @@ impl<'a, S: Source, F: Facts<S>> Turns<'a, S, F> {
         }
     }
 
-    /// Has those their turn that waited for room, where no job is left by now: also since another client's ask pushed it.
+    // Gives those their turn that waited for room, in the order in which they came, until a job is left once more: the others
+    // would ask in vain.
+    fn serve_for_room<L: Ledger, H: Wait>(&mut self, rt: &H, seat: &mut LoopSeat<'a, S, L, F>)
+        ensures pool { seat.new.pool.now ≡ seat.old.pool.now }
+        ensures parts { KeepsParts seat.old.seats seat.new.seats }
+    {
+        for _ in 0..self.clients.for_room_count() {
+            if seat.has_left() {
+                return;
+            }
+            let Some(key) = self.clients.next_for_room() else {
+                return;
+            };
+            self.serve(rt, seat, key);
+        }
+    }
+
+    /// Pushes the job that is left, if another client's ask has not. Where none is left, those have their turn that waited for
+    /// room.
     pub fn push_left<L: Ledger, H: Wait>(&mut self, rt: &H, seat: &mut LoopSeat<'a, S, L, F>)
         ensures pool { seat.new.pool.now ≡ seat.old.pool.now }
         ensures parts { KeepsParts seat.old.seats seat.new.seats }
     {
-        if !self.clients.has_for_room() && !seat.has_left() {
+        if self.clients.for_room_count() == 0 && !seat.has_left() {
             return;
         }
         self.shared.mailbox.want_room();
         if seat.put_left(rt) {
-            self.clients.room_came();
+            self.serve_for_room(rt, seat);
         }
     }
 
@@ -135,7 +153,17 @@ impl<'a, S: Source, F: Facts<S>> Turns<'a, S, F> {
         }
     }
 
-    // Gives each of those their turn that are to have one by now.
+    // Gives a client its turn, and lists it by what it waits for behind that.
+    fn serve<L: Ledger, H: Wait>(&mut self, rt: &H, seat: &mut LoopSeat<'a, S, L, F>, key: usize)
+        ensures pool { seat.new.pool.now ≡ seat.old.pool.now }
+        ensures parts { KeepsParts seat.old.seats seat.new.seats }
+    {
+        if let Some(state) = self.turn(rt, seat, key) {
+            self.settle(key, state);
+        }
+    }
+
+    // Gives each of those their turn that are to have one by now, and have not had it since they were listed.
     fn serve_ready<L: Ledger, H: Wait>(&mut self, rt: &H, seat: &mut LoopSeat<'a, S, L, F>)
         ensures pool { seat.new.pool.now ≡ seat.old.pool.now }
         ensures parts { KeepsParts seat.old.seats seat.new.seats }
@@ -144,8 +172,8 @@ impl<'a, S: Source, F: Facts<S>> Turns<'a, S, F> {
             let Some(key) = self.clients.ready.pop_front() else {
                 return;
             };
-            if let Some(state) = self.turn(rt, seat, key) {
-                self.settle(key, state);
+            if self.clients.is_ready(key) {
+                self.serve(rt, seat, key);
             }
         }
     }
@@ -172,7 +200,7 @@ impl<'a, S: Source, F: Facts<S>> Turns<'a, S, F> {
         if client.is_overdue(self.now, site.limits, full) {
             return true;
         }
-        if client.tries_to_write() {
+        if client.retry_write() {
             self.clients.make_ready(key);
         }
         false

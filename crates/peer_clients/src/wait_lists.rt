@@ -76,7 +76,7 @@ impl WaitLists {
         Some(key)
     }
 
-    // Whom the client before this one, on the list of the slot, has behind it: that is `next` from now on.
+    // Has the one before this client, on the list of the slot, point to `next`.
     fn unlink(&mut self, slot: usize, key: usize, next: Option<usize>) {
         let mut at = match self.first.get(slot) {
             Some(first) => *first,
