@@ -33,16 +33,21 @@ impl End {
         self.told.load(SeqCst)
     }
 
-    /// Waits so long, or until it is told.
+    /// Waits so long, or until it is told. Where there is no clock it may wait for less, and waits all the same.
     pub fn wait<H: Wait + Clock>(&self, rt: &H, time: Duration) {
         let begun = Instant::now(rt).ok();
         for _ in rt.forever() {
-            let passed = begun.and_then(|begun| begun.elapsed(rt).ok());
-            let left = time.saturating_sub(passed.unwrap_or(time));
-            if left == Duration::ZERO || self.is_told() {
+            if self.is_told() {
                 return;
             }
-            self.parker.park_timeout(rt, left);
+            let Some(passed) = begun.and_then(|begun| begun.elapsed(rt).ok()) else {
+                self.parker.park_timeout(rt, time);
+                return;
+            };
+            if passed >= time {
+                return;
+            }
+            self.parker.park_timeout(rt, time.saturating_sub(passed));
         }
         unreachable!()
     }
