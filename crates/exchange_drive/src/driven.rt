@@ -77,6 +77,11 @@ impl<'a, L: Ledger> Driven<'a, L> {
         self.exchange.held()
     }
 
+    /// The number of the flight whose fill the first ticket waits for.
+    pub fn awaits(&self) -> Option<u64> {
+        self.exchange.awaits()
+    }
+
     /// Some of the bytes come, or the client's end where none is left. What is left.
     pub fn feed<'t>(&mut self, rest: &'t [u8], most: usize) -> &'t [u8] {
         if rest.is_empty() {
@@ -92,9 +97,14 @@ impl<'a, L: Ledger> Driven<'a, L> {
         }
     }
 
-    /// What can be asked is asked, and all jobs are filled.
-    pub fn ask<H: Wait>(&mut self, rt: &H, alloc: Global) {
+    /// What can be asked is asked.
+    pub fn ask_held<H: Wait>(&mut self, rt: &H) {
         let _ = self.exchange.ask_held(rt, self.pool, &mut self.conn);
+    }
+
+    /// The same, and all jobs are filled.
+    pub fn ask<H: Wait>(&mut self, rt: &H, alloc: Global) {
+        self.ask_held(rt);
         self.pool.work_some(rt, alloc, &mut self.fill, 256, &NoGate);
         self.pool.put_left(rt, &mut self.conn);
     }
@@ -169,7 +179,7 @@ impl<'a, L: Ledger> Driven<'a, L> {
         let coming = dice.roll(steps.input.saturating_add(1));
         let rest = self.feed(rest, coming);
         if dice.roll(4) > 0 {
-            let _ = self.exchange.ask_held(rt, self.pool, &mut self.conn);
+            self.ask_held(rt);
         }
         self.take_jobs(rt, dice.roll(5))?;
         let filled = dice.roll(5);

@@ -123,6 +123,21 @@ fn holds_one<L: Ledger, H: Wait>(
     Ok(first == 1_000_000 && 1_000_000 < behind && behind < 1_000_200)
 }
 
+// The first ticket of a pool, and so its first flight, is waited for from the ask until its job is filled.
+fn awaits_its_fill<L: Ledger, H: Wait>(
+    driven: &mut Driven<'_, L>,
+    rt: &H,
+    alloc: Global,
+) -> Result<bool, AllocError> {
+    let _ = driven.feed(ASK_500, ASK_500.len());
+    let before = driven.awaits();
+    driven.ask_held(rt);
+    let asked = driven.awaits();
+    driven.ask(rt, alloc);
+    let filled = driven.awaits();
+    Ok([before, asked, filled] == [None, Some(0), None])
+}
+
 // The client's end at every place of two requests.
 fn sends_cut<L: Ledger, H: Wait>(
     driven: &mut Driven<'_, L>,
@@ -155,6 +170,7 @@ pub enum Texts {
     Long,
     More,
     One,
+    Awaited,
     Moved,
 }
 
@@ -181,6 +197,7 @@ fn are_sent_over<H: Threads + Wait + Sync, L: Ledger + Send + Sync>(
         Texts::Long => sends_each_way(&mut driven, rt, alloc, long(alloc)),
         Texts::More => holds_more(&mut driven, rt, alloc),
         Texts::One => holds_one(&mut driven, rt, alloc),
+        Texts::Awaited => awaits_its_fill(&mut driven, rt, alloc),
         Texts::Moved => sends_moved(driven, rt, alloc),
     }
 }
@@ -202,6 +219,7 @@ fn an_exchange_sends_the_replies_to_each_text(rt: HostRuntime) {
         ("long values", Texts::Long),
         ("more behind short replies", Texts::More),
         ("one value for a client that reads nothing", Texts::One),
+        ("a fill that is waited for", Texts::Awaited),
     ] {
         assert!(rt; are_sent(&rt, rt.alloc(), texts) == Ok(true), "{what}");
     }
