@@ -22,8 +22,8 @@ QUOTED = re.compile(r"`([^`]+)`")
 PATH = re.compile(r"[\w.-]+(?:/[\w.*-]+)+/?|[\w-]+\.(?:rt|py|md|svg|txt|antt|edit)")
 NAME = re.compile(r"(?:\w+(?:::|\.))*(?:[a-z]+(?:_\w+)+|[A-Z]+[a-z]\w*|[A-Z]+_\w+)")
 IN_FILE = re.compile(r"((?:`[^`]+`(?:, | and ))*`[^`]+`) in `([^`]+)`")
-# Names of HTTP, of groupcache, of Go, and of what a text makes up.
-OTHERS = re.compile(r"/|out/|values/|net/http|lru/lru\.go|fill/1048576|BasePath|Date")
+# Names of HTTP, of groupcache, of Go, of proxies, and of what a text makes up.
+OTHERS = re.compile(r"/|out/|values/|net/http|lru/lru\.go|fill/1048576|BasePath|Date|Stats\.|ssl_")
 # The names of this page are those of the toolchain.
 OF_TOOLCHAIN = "TRAPS.md"
 
