@@ -1,5 +1,5 @@
 //! The table of the open flights (`Group` of `singleflight.go`).
-ghost use Rattle.std.specs.Prelude.{◌≡◌, ◌≢◌, ℕ, ◌+◌, ◌^◌, ◌≤◌, ◌<◌, Some, IfOk, IfSome, OnErr, IsErr, IsErrOf};
+ghost use Rattle.std.specs.Prelude.{◌≡◌, ◌≢◌, ℕ, ◌+◌, ◌^◌, ◌≤◌, ◌<◌, Some, IfOk, IfSome, None, OnErr, IsErr, IsErrOf};
 ghost use Rattle.std.specs.Option.{ForSome};
 ghost use Rattle.std.specs.HashMap.{get};
 ghost use Rattle.peer_flight.specs.SingleFlight.{Place, place_eq};
@@ -52,7 +52,7 @@ pub struct Table<S: Source> {
 const MAX_FLIGHTS: u64 = 1 << 62;
 
 impl<S: Source> Table<S> {
-    ghost use Rattle.peer_flight.specs.SingleFlight.{HasOpen, IsSame, Lands, no_flights, place_of};
+    ghost use Rattle.peer_flight.specs.SingleFlight.{HasOpen, IsSame, Lands, Leads, no_flights, place_of};
     ghost use Rattle.peer_flight.specs.Tables.{Gives, IsWorn, Stands, flight_at, state_of};
 
     /// A table without flights. The allocator is for its growths.
@@ -80,19 +80,37 @@ impl<S: Source> Table<S> {
         ensures room { IsWorn (state_of self.old) (place_of group.number key.now) → IsErr result }
     {
         let place = Place::of(group, key)?;
-        if let Some(flight) = self.flights.get(&place) {
-            let share = flight.share()?;
+        if let Some(share) = self.share_at(&place)? {
             return Ok(Ask::Joined(share));
         }
+        let (flight, right) = self.lead(alloc, place)?;
+        Ok(Ask::Led(flight, right))
+    }
+
+    // Leads a flight of a place that has none.
+    fn lead(
+        &mut self,
+        alloc: Global,
+        place: Place,
+    ) -> Result<(Flight<S>, FillRight<S>), AskFault>
+        ensures leads { flight_at self.old place ≡ None
+            → IfOk result (λ led. Leads (state_of self.old) (state_of self.new) place led.0.number) }
+        ensures of { IfOk result (λ led. (led.0.place ≡ place) × (led.1 ≡ led.0)) }
+        ensures stands { IfOk result (λ led. flight_at self.new place ≡ Some led.0) }
+        ensures others { (q : Place) → q ≢ place → flight_at self.new q ≡ flight_at self.old q }
+        ensures refused { OnErr result (IsSame (state_of self.old) (state_of self.new)) }
+        ensures worn { IsErrOf result AskFault.Worn → self.old.next ≡ 2 ^ 62 }
+        ensures room { self.old.next ≡ 2 ^ 62 → IsErr result }
+    {
         if self.next >= MAX_FLIGHTS {
             return Err(AskFault::Worn);
         }
-        let (flight, right, share) = Table::lead(alloc, self.next, &place)?;
+        let (flight, right, share) = Table::flight_of(alloc, self.next, &place)?;
         let Ok(_none) = self.flights.insert(place, share) else {
             return Err(AskFault::Memory);
         };
         self.next += 1;
-        Ok(Ask::Led(flight, right))
+        Ok((flight, right))
     }
 
     /// A share of the open flight of the group and the key, where there is one. It leads none.
@@ -101,7 +119,14 @@ impl<S: Source> Table<S> {
         ensures place { IfOk result (λ found. IfSome found (λ flight. flight.place ≡ place_of group.number key.now)) }
     {
         let place = Place::of(group, key)?;
-        let Some(flight) = self.flights.get(&place) else {
+        self.share_at(&place)
+    }
+
+    // A share of the open flight of a place, where there is one.
+    fn share_at(&self, place: &Place) -> Result<Option<Flight<S>>, AllocError>
+        ensures { IfOk result (λ found. found ≡ flight_at self.now place.now) }
+    {
+        let Some(flight) = self.flights.get(place) else {
             return Ok(None);
         };
         let share = flight.share()?;
@@ -109,7 +134,7 @@ impl<S: Source> Table<S> {
     }
 
     // A new flight of the place, with its right and a share for the table.
-    fn lead(
+    fn flight_of(
         alloc: Global,
         number: u64,
         place: &Place,
