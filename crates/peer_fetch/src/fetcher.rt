@@ -13,7 +13,7 @@ use crate::idle::Idle;
 use crate::link::{Link, Turn};
 use crate::opening::{System, open};
 use crate::room::Room;
-use crate::settings::{FetchPlan, FetchThreadSettings};
+use crate::settings::FetchThreadSettings;
 use crate::shares::Shares;
 use crate::under_way::UnderWay;
 use crate::waiting::Waiting;
@@ -42,15 +42,12 @@ pub struct Fetcher<'a, S: Source> {
 
 impl<'a, S: Source> Fetcher<'a, S> {
     /// Nothing is under way.
-    pub fn new(alloc: Global, plan: &FetchPlan<'a>, room: Room) -> Fetcher<'a, S> {
-        let settings = plan.settings;
+    pub fn new(alloc: Global, settings: FetchThreadSettings, room: Room) -> Fetcher<'a, S> {
         let Room {
             idle,
-            zeros,
-            other_zeros,
+            shares,
             buffer,
         } = room;
-        let shares = Shares::new(zeros, other_zeros, plan.endpoints.each, settings.under_way);
         Fetcher {
             alloc,
             settings,

@@ -3,6 +3,8 @@
 //! It stands on vectors, and promises nothing that contracts see.
 
 use crate::idle::Idle;
+use crate::settings::FetchPlan;
+use crate::shares::Shares;
 use std::alloc::{AllocError, Global};
 
 // How many bytes a read may give.
@@ -12,20 +14,17 @@ const ROOM: usize = 65_536;
 #[derive(Drop)]
 pub struct Room {
     pub idle: Idle,
-    /// A zero for each origin.
-    pub zeros: Vec<usize>,
-    /// The same once more.
-    pub other_zeros: Vec<usize>,
+    pub shares: Shares,
     pub buffer: Vec<u8>,
 }
 
 impl Room {
-    /// Room for so many origins.
-    pub fn new(alloc: Global, origins: usize) -> Result<Room, AllocError> {
+    /// Room for what this plan has fetched.
+    pub fn new(alloc: Global, plan: &FetchPlan<'_>) -> Result<Room, AllocError> {
+        let endpoints = plan.endpoints.each;
         Ok(Room {
-            idle: Idle::new(alloc, origins)?,
-            zeros: vec![in alloc; 0; origins]?,
-            other_zeros: vec![in alloc; 0; origins]?,
+            idle: Idle::new(alloc, endpoints.len())?,
+            shares: Shares::new(alloc, endpoints, plan.settings.under_way)?,
             buffer: vec![in alloc; 0; ROOM]?,
         })
     }

@@ -2,10 +2,11 @@
 //!
 //! It stands on vectors. It promises when there is room: a service that is not alone may have as many of its values under way as
 //! are free besides, so that one whose values all hang leaves half of the room to the others, and a second one a quarter.
-ghost use Rattle.std.specs.Prelude.{◌≡◌, ◌≢◌, ◌↔◌, ◌+◌, ◌-◌, ◌^◌, ◌<◌, ◌≤◌, ℕ, IfSome, IsTrue, Some, slice_get};
-ghost use Rattle.peer_fetch.specs.Shares.{HasRoom};
+ghost use Rattle.std.specs.Prelude.{◌≡◌, ◌≢◌, ◌↔◌, ◌+◌, ◌-◌, ◌^◌, ◌<◌, ◌≤◌, ℕ, IfOk, IfSome, IsTrue, Some, length, replicate, slice_get};
+ghost use Rattle.peer_fetch.specs.Shares.{HasRoom, IsOfSame};
 
 use peer_origin::Endpoint;
+use std::alloc::{AllocError, Global};
 
 /// How many values are under way. A service is a host, by the number of the first endpoint there.
 #[derive(Drop)]
@@ -34,27 +35,27 @@ fn number_services(services: &mut [usize], endpoints: &[Endpoint]) {
 }
 
 impl Shares {
-    /// None is under way of the services of these endpoints, and so many may be. There are two zeros for each endpoint.
+    /// None is under way of the services of these endpoints, and so many may be.
     pub fn new(
-        zeros: Vec<usize>,
-        other_zeros: Vec<usize>,
+        alloc: Global,
         endpoints: &[Endpoint],
         most: usize,
-    ) -> Shares
-        ensures most { result.most ≡ most }
-        ensures none { result.total ≡ 0 }
-        ensures each { result.each ≡ zeros }
+    ) -> Result<Shares, AllocError>
+        ensures most { IfOk result (λ shares. shares.most ≡ most) }
+        ensures none { IfOk result (λ shares. shares.total ≡ 0) }
+        ensures each { IfOk result (λ shares. shares.each.items ≡ replicate (length endpoints.now) 0) }
     {
-        let mut services = other_zeros;
+        let each = vec![in alloc; 0; endpoints.len()]?;
+        let mut services = vec![in alloc; 0; endpoints.len()]?;
         number_services(&mut services, endpoints);
         let several = services.iter().any(|service| *service != 0);
-        Shares {
+        Ok(Shares {
             services,
-            each: zeros,
+            each,
             several,
             total: 0,
             most,
-        }
+        })
     }
 
     /// The service of an endpoint.
@@ -92,6 +93,7 @@ impl Shares {
 
     /// One more of this service is under way.
     pub fn begin(&mut self, service: usize)
+        ensures same { IsOfSame self.old self.new }
         ensures total { self.old.total < 2 ^ 64 - 1 → self.new.total ≡ self.old.total + 1 }
         ensures own { IfSome (slice_get self.old.each.items service)
             (λ own. own < 2 ^ 64 - 1 → slice_get self.new.each.items service ≡ Some (own + 1)) }
@@ -105,6 +107,7 @@ impl Shares {
 
     /// One of this service is under way no longer.
     pub fn end(&mut self, service: usize)
+        ensures same { IsOfSame self.old self.new }
         ensures total { self.new.total ≡ self.old.total - 1 }
         ensures own { IfSome (slice_get self.old.each.items service) (λ own. slice_get self.new.each.items service ≡ Some (own - 1)) }
         ensures others { (n : ℕ) → n ≢ service → slice_get self.new.each.items n ≡ slice_get self.old.each.items n }

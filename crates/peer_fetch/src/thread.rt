@@ -102,12 +102,12 @@ fn work_on<'a, S: Source, L: Ledger, G: Gate, H: Network>(
 }
 
 impl FetchParts {
-    /// What a thread needs that fetches from so many origins, and what wakes it. None where memory or the system refuses it.
-    pub fn new<H: Net>(rt: &H, alloc: Global, origins: usize) -> Option<(FetchParts, PollWaker)> {
+    /// What a thread needs that fetches by this plan, and what wakes it. None where memory or the system refuses it.
+    pub fn new<H: Net>(rt: &H, alloc: Global, plan: &FetchPlan<'_>) -> Option<(FetchParts, PollWaker)> {
         let poll = Poll::new(rt).ok()?;
         let waker = PollWaker::new(&poll)?;
         let events = Events::with_capacity(alloc, MAX_EVENTS).ok()?;
-        let room = Room::new(alloc, origins).ok()?;
+        let room = Room::new(alloc, plan).ok()?;
         Some((FetchParts { poll, events, room }, waker))
     }
 }
@@ -139,7 +139,7 @@ impl<'a> FetchThread<'a> {
         let mut thread = Running {
             poll,
             events,
-            fetcher: Fetcher::new(alloc, &plan, room),
+            fetcher: Fetcher::new(alloc, plan.settings, room),
             pause: plan.settings.pause,
         };
         let mut seat = seat;

@@ -60,9 +60,11 @@ fn open_fetchers<H: Net>(
     fetchers: &mut Vec<FetchParts>,
     wakers: &mut PollWakers,
 ) -> Option<()> {
-    let (count, origins) = orders.fetchers();
+    let Some((count, plan)) = orders.fetchers() else {
+        return Some(());
+    };
     for _ in 0..count {
-        let (parts, waker) = FetchParts::new(rt, alloc, origins)?;
+        let (parts, waker) = FetchParts::new(rt, alloc, &plan)?;
         wakers.each.push(waker).ok()?;
         fetchers.push(parts).ok()?;
     }

@@ -41,11 +41,11 @@ pub struct Orders<'a> {
 }
 
 impl<'a> Orders<'a> {
-    /// How many threads fetch, and from how many origins.
-    pub fn fetchers(&self) -> (usize, usize) {
+    /// How many threads fetch, and by which plan. None where threads call the source.
+    pub fn fetchers(&self) -> Option<(usize, FetchPlan<'a>)> {
         match (self.plan, self.settings.fillers) {
-            (Some(plan), Fillers::Threads(count)) => (count, plan.endpoints.each.len()),
-            _ => (0, 0),
+            (Some(plan), Fillers::Threads(count)) => Some((count, plan)),
+            _ => None,
         }
     }
 }

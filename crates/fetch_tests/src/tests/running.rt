@@ -207,10 +207,6 @@ fn see_at<L: Ledger + Send + Sync, H: Host>(
     let counters = Counters::new();
     let source = OriginSource::new(rt, counters.failures(), origins, settings.fetch);
     let endpoints = source.endpoints(alloc).ok()?;
-    let (parts, waker) = FetchParts::new(rt, alloc, endpoints.len())?;
-    let mut each = Vec::new(alloc);
-    each.push(waker).ok()?;
-    let wakers = PollWakers::new(each);
     let plan = FetchPlan {
         endpoints: Endpoints {
             first: 0,
@@ -219,6 +215,10 @@ fn see_at<L: Ledger + Send + Sync, H: Host>(
         settings,
         failures: counters.failures(),
     };
+    let (parts, waker) = FetchParts::new(rt, alloc, &plan)?;
+    let mut each = Vec::new(alloc);
+    each.push(waker).ok()?;
+    let wakers = PollWakers::new(each);
     let running = (FetchThread::new(alloc, parts, plan), wakers);
     let opened = open_pool::<OriginSource<'_, H>, L>(alloc, source, 0, 1, 1, blank);
     let Some(opened) = opened else {
