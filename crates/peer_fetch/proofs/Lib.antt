@@ -1,2 +1,3 @@
 mod FetchingLemmas
 mod ThreadLemmas
+pub mod WaitingLemmas

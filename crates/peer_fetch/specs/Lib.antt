@@ -4,3 +4,4 @@ pub mod Shares
 pub mod Threads
 pub mod Turns
 pub mod Values
+pub mod Waitings

@@ -36,11 +36,7 @@ fn number_services(services: &mut [usize], endpoints: &[Endpoint]) {
 
 impl Shares {
     /// None is under way of the services of these endpoints, and so many may be.
-    pub fn new(
-        alloc: Global,
-        endpoints: &[Endpoint],
-        most: usize,
-    ) -> Result<Shares, AllocError>
+    pub fn new(alloc: Global, endpoints: &[Endpoint], most: usize) -> Result<Shares, AllocError>
         ensures most { IfOk result (λ shares. shares.most ≡ most) }
         ensures none { IfOk result (λ shares. shares.total ≡ 0) }
         ensures each { IfOk result (λ shares. shares.each.items ≡ replicate (length endpoints.now) 0) }

@@ -103,7 +103,11 @@ fn work_on<'a, S: Source, L: Ledger, G: Gate, H: Network>(
 
 impl FetchParts {
     /// What a thread needs that fetches by this plan, and what wakes it. None where memory or the system refuses it.
-    pub fn new<H: Net>(rt: &H, alloc: Global, plan: &FetchPlan<'_>) -> Option<(FetchParts, PollWaker)> {
+    pub fn new<H: Net>(
+        rt: &H,
+        alloc: Global,
+        plan: &FetchPlan<'_>,
+    ) -> Option<(FetchParts, PollWaker)> {
         let poll = Poll::new(rt).ok()?;
         let waker = PollWaker::new(&poll)?;
         let events = Events::with_capacity(alloc, MAX_EVENTS).ok()?;

@@ -1,7 +1,9 @@
 //! The values that wait until another one of their service may be under way.
 //!
-//! It stands on the value of each (`UnderWay`). It promises nothing that contracts see: those of a service come out in the order
-//! in which they came in.
+//! It stands on the value of each (`UnderWay`). It promises that those of a service come out in the order in which they came in.
+ghost use Rattle.std.specs.Prelude.{◌≡◌, ◌≢◌, ℕ, [], ◌∷◌, ◌++◌, IfErr, IfSome, MatchOption, OnOk};
+ghost use Rattle.peer_origin.specs.declared.fault.FetchFault.TheVariants as fault;
+ghost use Rattle.peer_fetch.specs.Waitings.{line_of};
 
 use crate::done::Done;
 use crate::under_way::UnderWay;
@@ -47,7 +49,9 @@ impl<'a, S: Source> Waiting<'a, S> {
     }
 
     // Has lines for services with numbers below this.
-    fn reserve_lines(&mut self, lines: usize) -> Result<(), AllocError> {
+    fn reserve_lines(&mut self, lines: usize) -> Result<(), AllocError>
+        ensures { (n : ℕ) → line_of self.new n ≡ line_of self.old n }
+    {
         for _ in self.lines.len()..lines {
             self.lines.push(VecDeque::new(self.alloc))?;
         }
@@ -55,7 +59,11 @@ impl<'a, S: Source> Waiting<'a, S> {
     }
 
     // Puts a value behind those that wait for its service. Where memory is refused it is given back.
-    fn put(&mut self, service: usize, under: UnderWay<'a, S>) -> Result<(), UnderWay<'a, S>> {
+    fn put(&mut self, service: usize, under: UnderWay<'a, S>) -> Result<(), UnderWay<'a, S>>
+        ensures put { OnOk result (line_of self.new service ≡ line_of self.old service ++ under.entry ∷ []) }
+        ensures others { (n : ℕ) → n ≢ service → line_of self.new n ≡ line_of self.old n }
+        ensures back { IfErr result (λ back. back ≡ under.entry) }
+    {
         if self.reserve_lines(service.saturating_add(1)).is_err() {
             return Err(under);
         }
@@ -71,7 +79,11 @@ impl<'a, S: Source> Waiting<'a, S> {
     }
 
     /// Has a value wait behind the others of its service. Where memory is refused it is done.
-    pub fn push(&mut self, service: usize, under: UnderWay<'a, S>) -> Option<Done<'a, S>> {
+    pub fn push(&mut self, service: usize, under: UnderWay<'a, S>) -> Option<Done<'a, S>>
+        ensures last { MatchOption result (line_of self.new service ≡ line_of self.old service ++ under.entry ∷ [])
+            (λ d. (d.job ≡ under.entry.job) × IfErr d.got (λ why. why ≡ fault.Memory)) }
+        ensures others { (n : ℕ) → n ≢ service → line_of self.new n ≡ line_of self.old n }
+    {
         match self.put(service, under) {
             Ok(()) => None,
             Err(under) => Some(under.done(Err(FetchFault::Memory))),
@@ -79,7 +91,10 @@ impl<'a, S: Source> Waiting<'a, S> {
     }
 
     /// Takes out the first that waits for this service.
-    pub fn pop(&mut self, service: usize) -> Option<UnderWay<'a, S>> {
+    pub fn pop(&mut self, service: usize) -> Option<UnderWay<'a, S>>
+        ensures first { IfSome result (λ under. line_of self.old service ≡ under ∷ line_of self.new service) }
+        ensures others { (n : ℕ) → n ≢ service → line_of self.new n ≡ line_of self.old n }
+    {
         let under = self.lines.get_mut(service)?.pop_front()?;
         self.count = self.count.saturating_sub(1);
         Some(under)
