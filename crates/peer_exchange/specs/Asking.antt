@@ -75,10 +75,10 @@ module _ {S : Type 0} where
     pub len : deque_len new.waiting ≡ deque_len old.waiting + 1
     pub counted : CountsAsks (asks_in_body (wish_by ticket).body) asks asks'
 
-  -- a ticket came to wait, or there is none to ask, or it was given up
+  -- a ticket came to wait of an exchange that was not full, or there is none to ask, or it was given up
   abbrev pub AsksOne : {J : Type 0} → ExchangeState S → ExchangeState S → AskCounts → AskCounts → Option J → Result Bool GivenUp → Type 0
   AsksOne old new asks asks' left (Ok true) = AddsTicket old new asks asks'
-      × (is_given_up new.intake.stage ≡ is_given_up old.intake.stage) × (new.waits_for_job ≡ false)
+      × (is_given_up new.intake.stage ≡ is_given_up old.intake.stage) × (new.waits_for_job ≡ false) × (is_full old ≡ false)
   AsksOne old new asks asks' left (Ok false) = (new.waiting.items ≡ old.waiting.items) × CountsAsks 0 asks asks'
       × (is_given_up new.intake.stage ≡ is_given_up old.intake.stage) × IsJudgedThrough new left
   AsksOne old new asks asks' left (Err why) = CountsAsks 0 asks asks' × IsGivenUpFor new.intake.stage why

@@ -1,4 +1,4 @@
-use Rattle.std.proofs.Common.{◌≡◌, ◌∙◌, ◌+◌, true, [], ◌∷◌, ◌++◌, refl, sym, subst, ap, inl, inr}
+use Rattle.std.proofs.Common.{rules, tests, ◌≡◌, ◌∙◌, ◌+◌, true, [], ◌∷◌, ◌++◌, refl, sym, subst, ap, inl, inr}
 use Rattle.peer_head.specs.Blocks.{IsUnfinished}
 use Rattle.peer_exchange.specs.Asking.{closed_by}
 use Rattle.peer_exchange.specs.Intakes.{JudgesOn, is_given_up, is_judging, is_open}
@@ -23,6 +23,7 @@ returns-in-Ticket-clause-asks g c =
       },
       c.enqueue.ensures.enqueues.goes_on,
       c.enqueue.ensures.enqueues.waits_for_job ∙ c.requires.now,
+      search (rules, tests),
     )
 
 pub returns-in-Need-clause-keeps : goal.returns-in-Need-clause-keeps
