@@ -5,7 +5,7 @@ use std::sync::Wait;
 
 /// What is called as a job is taken, counted and filled.
 pub trait Gate: Sync {
-    /// Whoever fills has the flight's right. The cache is looked into next, and the source is called where that has no value, or
+    /// Whoever fills has the flight's right. The cache is looked into next. Only where that has no value the source is called, or
     /// the job is handed out for that.
     fn before_call<R: Wait>(&self, rt: &R, group: GroupId, key: &[u8]);
 

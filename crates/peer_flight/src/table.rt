@@ -88,11 +88,7 @@ impl<S: Source> Table<S> {
     }
 
     // Leads a flight of a place that has none.
-    fn lead(
-        &mut self,
-        alloc: Global,
-        place: Place,
-    ) -> Result<(Flight<S>, FillRight<S>), AskFault>
+    fn lead(&mut self, alloc: Global, place: Place) -> Result<(Flight<S>, FillRight<S>), AskFault>
         ensures leads { flight_at self.old place ≡ None
             → IfOk result (λ led. Leads (state_of self.old) (state_of self.new) place led.0.number) }
         ensures of { IfOk result (λ led. (led.0.place ≡ place) × (led.1 ≡ led.0)) }

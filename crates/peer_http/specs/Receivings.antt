@@ -15,8 +15,7 @@ use Rattle.peer_http.specs.declared.reply.Reply.{Reply}
 use Rattle.peer_http.specs.declared.stage.Stage.{Stage}
 use Rattle.peer_http.specs.declared.stage.Stage.TheVariants as stage
 
--- whatever makes a whole body of what is unread makes a whole reply of what came, behind which another request may follow, if this
--- holds
+-- whatever makes a whole body of what is unread makes a whole reply of what came, which keeps the connection where K holds
 abbrev pub Proceeds : Type 0 → List ℕ → ℕ → List ℕ → Decoder → List ℕ → Type 0
 Proceeds K came status value d unread =
     (later : List ℕ) (body : Body) (rest : List ℕ) → Completes d (unread ++ later) body rest
@@ -37,16 +36,16 @@ IsReadTo came stage.Over c unread value = Unit {0}
 abbrev pub IsStanding : List ℕ → ℕ → List ℕ → Type 0
 IsStanding came status value = (later : List ℕ) → IsReply (came ++ later) status value
 
--- the same, this is unread behind it, and another request may follow, if this holds
+-- the same, this is unread behind the reply, and where K holds it keeps the connection
 abbrev pub IsStandingBefore : Type 0 → List ℕ → ℕ → List ℕ → List ℕ → Type 0
 IsStandingBefore K came status value unread = (later : List ℕ) → IsReplyKept K (came ++ later) status value (unread ++ later)
 
--- all that came is this reply, behind which another request may follow
+-- all that came is this reply, which keeps the connection
 abbrev pub EndsOpen : List ℕ → ℕ → List ℕ → Type 0
 EndsOpen came status value =
     (r : IsReplyBefore came status value []) × Persists r.0.response.head r.0.reads.framing
 
--- another request may follow: the client takes one, all that came is this reply, and its head does not say otherwise
+-- another request may follow: the client takes one, and all that came is this reply, which keeps the connection
 abbrev pub MayAskAgain : List ℕ → Client → Reply → Type 0
 MayAskAgain came c r = IsIdle c × ∥ EndsOpen came r.status r.value.items ∥₁
 

@@ -30,7 +30,7 @@ use Rattle.peer_http.specs.declared.fault.ReplyFault.TheVariants as fault
 use Rattle.peer_http.specs.declared.content.Taken.{Taken}
 use Rattle.peer_http.specs.declared.content.Taken.TheVariants as take
 
--- a response that another one follows: not 101, behind which is another protocol (RFC 9110, 15.2)
+-- a response that another one follows: not 101, behind which is another protocol (RFC 9110, 15.2 and 15.2.2)
 abbrev pub IsInterim : ResponseHead → Type 0
 IsInterim head = (status_code head < 200) × (status_code head ≢ 101)
 
@@ -38,7 +38,7 @@ IsInterim head = (status_code head < 200) × (status_code head ≢ 101)
 abbrev pub IsUncoded : ResponseHead → Type 0
 IsUncoded head = (known_of head.fields).other_coding ≡ false
 
--- another request may follow behind a response with this head and this framing (RFC 9112, 9.3)
+-- this head and this framing keep the connection (RFC 9112, 9.3)
 abbrev pub Persists : ResponseHead → Framing → Type 0
 Persists head framing = (keeps_alive head.minor (known_of head.fields) ≡ true) × (is_until_close framing ≡ false)
 
@@ -64,7 +64,7 @@ pub record IsReply (text : List ℕ) (status : ℕ) (value : List ℕ) : Type 0 
 abbrev pub IsReplyBefore : List ℕ → ℕ → List ℕ → List ℕ → Type 0
 IsReplyBefore text status value rest = (r : IsReply text status value) × (r.rest ≡ rest)
 
--- the same, and behind this reply another request may follow, if this holds
+-- the text begins with this reply, behind which this stands, and where K holds its head and its framing keep the connection
 abbrev pub IsReplyKept : Type 0 → List ℕ → ℕ → List ℕ → List ℕ → Type 0
 IsReplyKept K text status value rest =
     (r : IsReplyBefore text status value rest) × (K → Persists r.0.response.head r.0.reads.framing)
