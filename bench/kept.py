@@ -6,7 +6,7 @@
 
 Connections are kept for a service that is asked now, also where others, asked before, leave as many as are kept; none is
 kept that a service has ended; of two services each value comes from its own, also where one ends its connections now and then,
-and in its time where the other one hangs;
+and in its time where the other one hangs, as a table's do beside a service that hangs;
 what comes on a kept connection without a request is no value; a reply that runs until its connection ends is no value where
 that is reset; and interim replies without end fill no memory.
 
@@ -15,6 +15,7 @@ Its last line is `rows N failures 0`; where a row fails, so does the program.
 import socket
 import struct
 import sys
+import tempfile
 import threading
 import time
 from concurrent.futures import ThreadPoolExecutor
@@ -123,6 +124,20 @@ def waiting_to_close(port):
     return sum(field[2].endswith(":%04X" % port) and field[3] == "08" for field in fields)
 
 
+def answers_beside(server, hung, path, value):
+    """Whether a path has this value five times while 20 clients wait for keys of the group `a`, whose service hangs and has a half
+    of the four values that may be under way."""
+    clients = [socket.create_connection(server.address) for _ in range(20)]
+    for number, client in enumerate(clients):
+        client.sendall(f"GET /_groupcache/a/{number} HTTP/1.1\r\nHost: h\r\n\r\n".encode())
+    for _ in range(1000):
+        if hung.connections == 2:
+            break
+        time.sleep(0.01)
+    replies = [server.ask(path) for _ in range(5)]
+    return all(reply.endswith(b"\x0a\x01" + value) for reply in replies) and hung.connections == 2
+
+
 def connections_to_each_service_are_kept():
     first, second, third = (Service(gives(b"v")) for _ in range(3))
     with Server("--under-way", "2", "a=" + first.url, "b=" + second.url, "c=" + third.url) as server:
@@ -153,15 +168,16 @@ def each_value_is_of_its_own_service():
 def a_service_that_hangs_leaves_room_to_others():
     first, second = Service(hangs), Service(gives(b"y"))
     with Server("--under-way", "4", "--timeout", "60", "a=" + first.url, "b=" + second.url) as server:
-        clients = [socket.create_connection(server.address) for _ in range(20)]
-        for number, client in enumerate(clients):
-            client.sendall(f"GET /_groupcache/a/{number} HTTP/1.1\r\nHost: h\r\n\r\n".encode())
-        for _ in range(1000):
-            if first.connections == 2:
-                break
-            time.sleep(0.01)
-        replies = [server.ask(f"b/{number}") for number in range(5)]
-        return all(reply.endswith(b"\x0a\x01y") for reply in replies) and first.connections == 2
+        return answers_beside(server, first, "b/k", b"y")
+
+
+def a_service_that_hangs_leaves_room_to_a_table():
+    service = Service(hangs)
+    with tempfile.NamedTemporaryFile() as table:
+        table.write(b"t\tk\tv\n")
+        table.flush()
+        with Server("--under-way", "4", "--timeout", "60", "--table", table.name, "a=" + service.url) as server:
+            return answers_beside(server, service, "t/k", b"v")
 
 
 def no_value_is_one_that_nobody_asked_for():
@@ -194,6 +210,7 @@ run_rows(
         none_is_kept_that_was_ended,
         each_value_is_of_its_own_service,
         a_service_that_hangs_leaves_room_to_others,
+        a_service_that_hangs_leaves_room_to_a_table,
         no_value_is_one_that_nobody_asked_for,
         no_value_is_cut_by_a_reset,
         interim_replies_fill_no_memory,

@@ -3,7 +3,7 @@ use Rattle.std.specs.Prelude.{◌≡◌, ◌<◌, ◌+◌, ℕ, Bool, true, List
 use Rattle.peer_fetch.specs.declared.shares.Shares.{Shares}
 
 -- with so many values of each service under way, so many in all and so many at most: fewer are under way in all than may be, and,
--- where there are several services, fewer of this one than are free
+-- where a service is not alone, fewer of this one than are free
 abbrev pub HasRoom : Bool → List ℕ → ℕ → ℕ → ℕ → Type 0
 HasRoom several each total most service =
     (total < most) × (several ≡ true → IfSome (slice_get each service) (λ own. own + total < most))

@@ -1,5 +1,5 @@
 //! Which groups are fetched for, and where.
-ghost use Rattle.std.specs.Prelude.{◌≡◌, ◌+◌, IfNone, IfSome, Some, slice_get};
+ghost use Rattle.std.specs.Prelude.{◌≡◌, ◌↔◌, ◌+◌, ◌≤◌, IfNone, IfSome, IsTrue, Some, length, slice_get};
 ghost use Rattle.peer_fetch.specs.Endpoints.{HasEndpoint};
 
 use peer_origin::Endpoint;
@@ -12,6 +12,8 @@ pub struct Endpoints<'a> {
     pub first: usize,
     /// The endpoint of each group, from the first on.
     pub each: &'a [Endpoint],
+    /// How many groups the source has, those without an endpoint too.
+    pub groups: usize,
 }
 
 /// The endpoint of a group, and its number among the endpoints.
@@ -22,6 +24,13 @@ pub struct Numbered<'a> {
 }
 
 impl<'a> Endpoints<'a> {
+    /// Whether there is one for each group of the source.
+    pub fn cover_all(&self) -> bool
+        ensures { IsTrue result ↔ (self.now.groups ≤ length self.now.each.now) }
+    {
+        self.each.len() >= self.groups
+    }
+
     /// The endpoint of a group, where it has one.
     pub fn of(&self, group: GroupId) -> Option<Numbered<'a>>
         ensures number { IfSome result (λ numbered. self.now.first + numbered.number ≡ group.number) }

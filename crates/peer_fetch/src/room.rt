@@ -21,10 +21,9 @@ pub struct Room {
 impl Room {
     /// Room for what this plan has fetched.
     pub fn new(alloc: Global, plan: &FetchPlan<'_>) -> Result<Room, AllocError> {
-        let endpoints = plan.endpoints.each;
         Ok(Room {
-            idle: Idle::new(alloc, endpoints.len())?,
-            shares: Shares::new(alloc, endpoints, plan.settings.under_way)?,
+            idle: Idle::new(alloc, plan.endpoints.each.len())?,
+            shares: Shares::new(alloc, &plan.endpoints, plan.settings.under_way)?,
             buffer: vec![in alloc; 0; ROOM]?,
         })
     }

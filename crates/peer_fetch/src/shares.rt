@@ -1,10 +1,12 @@
 //! How many values are under way, of each service and in all, and whether another one may be.
 //!
 //! It stands on vectors. It promises when there is room: a service that is not alone may have as many of its values under way as
-//! are free besides, so that one whose values all hang leaves half of the room to the others, and a second one a quarter.
-ghost use Rattle.std.specs.Prelude.{◌≡◌, ◌≢◌, ◌↔◌, ◌+◌, ◌-◌, ◌^◌, ◌<◌, ◌≤◌, ℕ, IfOk, IfSome, IsTrue, Some, length, replicate, slice_get};
+//! are free besides, so that one whose values all hang leaves half of the room to the others, and a second one a quarter. A
+//! service is alone where it has all groups of the source: a thread that has no room takes no job of another group either.
+ghost use Rattle.std.specs.Prelude.{◌≡◌, ◌≢◌, ◌↔◌, ◌+◌, ◌-◌, ◌^◌, ◌<◌, ◌≤◌, ℕ, IfOk, IfSome, IsTrue, Some, length, replicate, slice_get, true};
 ghost use Rattle.peer_fetch.specs.Shares.{HasRoom, IsOfSame};
 
+use crate::endpoints::Endpoints;
 use peer_origin::Endpoint;
 use std::alloc::{AllocError, Global};
 
@@ -15,6 +17,7 @@ pub struct Shares {
     services: Vec<usize>,
     // How many values of each service are under way.
     each: Vec<usize>,
+    // Whether a service is not alone.
     several: bool,
     total: usize,
     most: usize,
@@ -36,15 +39,17 @@ fn number_services(services: &mut [usize], endpoints: &[Endpoint]) {
 
 impl Shares {
     /// None is under way of the services of these endpoints, and so many may be.
-    pub fn new(alloc: Global, endpoints: &[Endpoint], most: usize) -> Result<Shares, AllocError>
+    pub fn new(alloc: Global, endpoints: &Endpoints<'_>, most: usize) -> Result<Shares, AllocError>
         ensures most { IfOk result (λ shares. shares.most ≡ most) }
         ensures none { IfOk result (λ shares. shares.total ≡ 0) }
-        ensures each { IfOk result (λ shares. shares.each.items ≡ replicate (length endpoints.now) 0) }
+        ensures each { IfOk result (λ shares. shares.each.items ≡ replicate (length endpoints.now.each.now) 0) }
+        ensures beside { length endpoints.now.each.now < endpoints.now.groups → IfOk result (λ shares. shares.several ≡ true) }
     {
-        let each = vec![in alloc; 0; endpoints.len()]?;
-        let mut services = vec![in alloc; 0; endpoints.len()]?;
-        number_services(&mut services, endpoints);
-        let several = services.iter().any(|service| *service != 0);
+        let count = endpoints.each.len();
+        let each = vec![in alloc; 0; count]?;
+        let mut services = vec![in alloc; 0; count]?;
+        number_services(&mut services, endpoints.each);
+        let several = !endpoints.cover_all() || services.iter().any(|service| *service != 0);
         Ok(Shares {
             services,
             each,

@@ -1,5 +1,5 @@
 //! What threads of their own fetch: the groups of services.
-ghost use Rattle.std.specs.Prelude.{◌≡◌, IfSome, length, map};
+ghost use Rattle.std.specs.Prelude.{◌≡◌, ◌+◌, IfSome, length, map};
 ghost use Rattle.peer_fetch.specs.Threads.{AllowsOrigins};
 ghost use Rattle.peer_origin.specs.Endpoints.{asked_at};
 ghost use Rattle.peer_groups.specs.Besides.{AnswersOrigins};
@@ -12,11 +12,12 @@ use peer_source::Source;
 use peer_stats::FailureSlots;
 use std::alloc::Global;
 
-/// The groups of services: from which number on they are, and where each is asked for.
+/// The groups of services: from which number on they are, where each is asked for, and among how many groups they stand.
 #[derive(Drop)]
 pub struct Fetched {
     first: usize,
     each: Vec<Endpoint>,
+    groups: usize,
 }
 
 impl Fetched {
@@ -29,6 +30,7 @@ impl Fetched {
     ) -> FetchPlan<'a>
         ensures first { result.endpoints.first ≡ self.now.first }
         ensures each { result.endpoints.each.now ≡ self.now.each.items }
+        ensures groups { result.endpoints.groups ≡ self.now.groups }
         ensures fetch { result.settings.fetch ≡ fetch }
         ensures under_way { result.settings.under_way ≡ under_way }
     {
@@ -36,6 +38,7 @@ impl Fetched {
             endpoints: Endpoints {
                 first: self.first,
                 each: self.each.as_slice(),
+                groups: self.groups,
             },
             settings: FetchThreadSettings {
                 fetch,
@@ -55,6 +58,8 @@ pub fn fetched_of<'a, A: Source, B: Source, H: Network + Sync>(
     ensures first { IfSome result (λ fetched. fetched.first ≡ A.count source.now.first.first) }
     ensures each { IfSome result (λ fetched. map asked_at fetched.each.items
         ≡ map (λ o. asked_at o.endpoint) source.now.first.second.origins.items) }
+    ensures groups { IfSome result (λ fetched. fetched.groups
+        ≡ A.count source.now.first.first + length source.now.first.second.origins.items + B.count source.now.second) }
     ensures allows { IfSome result (λ fetched. AllowsOrigins (AnswersOrigins (A.count source.now.first.first)
         (length source.now.first.second.origins.items) (A.answers source.now.first.first) (B.answers source.now.second))
         fetched.first fetched.each.items) }
@@ -64,5 +69,10 @@ pub fn fetched_of<'a, A: Source, B: Source, H: Network + Sync>(
     let Ok(each) = services.second().endpoints(alloc) else {
         return None;
     };
-    Some(Fetched { first, each })
+    let groups = source.group_count();
+    Some(Fetched {
+        first,
+        each,
+        groups,
+    })
 }

@@ -211,6 +211,7 @@ fn see_at<L: Ledger + Send + Sync, H: Host>(
         endpoints: Endpoints {
             first: 0,
             each: endpoints.as_slice(),
+            groups: endpoints.len(),
         },
         settings,
         failures: counters.failures(),

@@ -154,6 +154,7 @@ fn serve_prepared<
         endpoints: Endpoints {
             first: 0,
             each: endpoints.as_slice(),
+            groups: endpoints.len(),
         },
         settings: patient(),
         failures: fetched.failures(),
