@@ -9,12 +9,12 @@ use super::origin::{Told, serve};
 use peer_fetch::{Endpoints, FetchParts, FetchPlan, FetchThread, FetchThreadSettings};
 use peer_fill::{ConnSeat, FillSeat, NoGate, Pool, Report, Seats, pop_seat};
 use peer_host::{Host, Network};
-use peer_origin::{FetchSettings, Origin, OriginSource};
+use peer_origin::{Endpoint, FetchSettings, Origin, OriginSource};
 use peer_poll::{PollWaker, PollWakers};
 use peer_source::Source;
-use peer_stats::{Counters, FailureCounts};
+use peer_stats::{Counters, FailureCounts, FailureSlots};
 use std::alloc::Global;
-use std::net::TcpListener;
+use std::net::{Net, TcpListener};
 use std::sync::atomic::Ordering::SeqCst;
 use std::sync::ledger::{Blank, Ledger};
 use std::thread;
@@ -192,6 +192,38 @@ pub fn prepare<H: Network>(rt: &H, alloc: Global, groups: Groups<'_>) -> Option<
     Some(Prepared { listener, origins })
 }
 
+// What a thread fetches by, from these endpoints.
+fn plan_of<'a>(
+    endpoints: &'a [Endpoint],
+    settings: FetchThreadSettings,
+    failures: &'a FailureSlots,
+) -> FetchPlan<'a>
+    ensures first { result.endpoints.first ≡ 0 }
+    ensures each { result.endpoints.each.now ≡ endpoints.now }
+{
+    FetchPlan {
+        endpoints: Endpoints {
+            first: 0,
+            each: endpoints,
+            groups: endpoints.len(),
+        },
+        settings,
+        failures,
+    }
+}
+
+// What a thread needs that fetches by this plan, and what wakes it.
+fn parts_of<H: Net>(
+    rt: &H,
+    alloc: Global,
+    plan: &FetchPlan<'_>,
+) -> Option<(FetchParts, PollWakers)> {
+    let (parts, waker) = FetchParts::new(rt, alloc, plan)?;
+    let mut each = Vec::new(alloc);
+    each.push(waker).ok()?;
+    Some((parts, PollWakers::new(each)))
+}
+
 // What is seen of a setting at the endpoints of these origins, and what was counted of values that were not fetched.
 fn see_at<L: Ledger + Send + Sync, H: Host>(
     rt: &H,
@@ -207,19 +239,12 @@ fn see_at<L: Ledger + Send + Sync, H: Host>(
     let counters = Counters::new();
     let source = OriginSource::new(rt, counters.failures(), origins, settings.fetch);
     let endpoints = source.endpoints(alloc).ok()?;
-    let plan = FetchPlan {
-        endpoints: Endpoints {
-            first: 0,
-            each: endpoints.as_slice(),
-            groups: endpoints.len(),
-        },
-        settings,
-        failures: counters.failures(),
-    };
-    let (parts, waker) = FetchParts::new(rt, alloc, &plan)?;
-    let mut each = Vec::new(alloc);
-    each.push(waker).ok()?;
-    let wakers = PollWakers::new(each);
+    let (parts, wakers) = parts_of(
+        rt,
+        alloc,
+        &plan_of(endpoints.as_slice(), settings, counters.failures()),
+    )?;
+    let plan = plan_of(endpoints.as_slice(), settings, counters.failures());
     let running = (FetchThread::new(alloc, parts, plan), wakers);
     let opened = open_pool::<OriginSource<'_, H>, L>(alloc, source, 0, 1, 1, blank);
     let Some(opened) = opened else {
