@@ -1,3 +1,1 @@
-mod FetchingLemmas
 mod ThreadLemmas
-pub mod WaitingLemmas

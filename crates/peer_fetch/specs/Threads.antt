@@ -9,7 +9,7 @@ use Rattle.peer_fill.specs.declared.pool.Pool.{Pool}
 use Rattle.peer_fill.specs.declared.seats.FillSeat.{FillSeat}
 use Rattle.peer_origin.specs.Origins.{IsOriginAnswer}
 use Rattle.peer_origin.specs.declared.endpoint.Endpoint.{Endpoint}
-use Rattle.peer_fetch.specs.Endpoints.{HasEndpoint}
+use Rattle.peer_value.specs.Endpoints.{HasEndpoint}
 use Rattle.peer_fetch.specs.declared.settings.FetchPlan.{FetchPlan}
 
 -- of groups that have an endpoint the source may answer whatever an origin may

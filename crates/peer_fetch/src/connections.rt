@@ -1,10 +1,12 @@
-//! The connections of one thread: which of them are to have a turn, and when something is to be given up next.
+//! The connections of one thread: which of them are to have a turn, which are kept, and when something is to be given up next.
 //!
-//! It stands on `Link`, a connection and its value. It promises nothing that contracts see: a connection is on the list of
-//! those that are to have a turn once at most, and the time that is told never is too late.
+//! It stands on `Link`, a connection and its value, and on the keys of those that are kept (`Idle`). It promises nothing that
+//! contracts see: a connection is on the list of those that are to have a turn once at most, none that is gone is on a list of
+//! those that are kept, and the time that is told never is too late.
 ghost use Rattle.std.specs.Prelude.{OnOk};
 ghost use Rattle.slab.specs.Slab.{HasRoomFor};
 
+use crate::idle::Idle;
 use crate::link::Link;
 use mio::Token;
 use mio::event::Event;
@@ -18,6 +20,8 @@ use std::time::Duration;
 #[derive(Drop)]
 pub struct Connections<'a, S: Source> {
     links: Slab<Link<'a, S>>,
+    // Those that may be used again.
+    idle: Idle,
     // Those that are to have a turn, each once.
     ready: VecDeque<usize>,
     // The time since the thread began, as it was when it last waited.
@@ -37,9 +41,10 @@ pub fn earlier(one: Option<Duration>, other: Option<Duration>) -> Option<Duratio
 
 impl<'a, S: Source> Connections<'a, S> {
     /// There is none.
-    pub fn new(alloc: Global) -> Connections<'a, S> {
+    pub fn new(alloc: Global, idle: Idle) -> Connections<'a, S> {
         Connections {
             links: Slab::new(alloc),
+            idle,
             ready: VecDeque::new(alloc),
             now: Duration::ZERO,
             next_due: None,
@@ -83,14 +88,58 @@ impl<'a, S: Source> Connections<'a, S> {
         self.links.insert_reserved(link);
     }
 
-    /// Takes a connection out.
-    pub fn remove(&mut self, key: usize) -> Option<Link<'a, S>> {
-        self.links.try_remove(key)
+    /// Lets a connection go. Says whether it was used before.
+    pub fn forget(&mut self, key: usize) -> bool {
+        match self.links.try_remove(key) {
+            Some(link) => link.was_kept,
+            None => false,
+        }
     }
 
-    /// Lets a connection go.
-    pub fn forget(&mut self, key: usize) {
-        let _ = self.links.try_remove(key);
+    /// Lets a connection go that was not reached. Says which address is to be tried next.
+    pub fn forget_unreached(&mut self, key: usize) -> Option<usize> {
+        let link = self.links.try_remove(key)?;
+        Some(link.next_address)
+    }
+
+    /// Takes a connection to the endpoint with this number off those that may be used again. One that has ended meanwhile is let go.
+    pub fn take_idle(&mut self, number: usize) -> Option<usize> {
+        for _ in 0..=self.links.len() {
+            let key = self.idle.pop(number)?;
+            let Some(link) = self.links.get(key) else {
+                continue;
+            };
+            if link.is_idle() {
+                return Some(key);
+            }
+            let _ = self.forget(key);
+        }
+        None
+    }
+
+    /// Keeps a connection behind those to its endpoint that may be used again. Where memory is refused it is let go.
+    pub fn keep(&mut self, key: usize) {
+        let is_kept = match self.links.get(key) {
+            Some(link) => self.idle.put(link.number, key),
+            None => false,
+        };
+        if !is_kept {
+            let _ = self.forget(key);
+        }
+    }
+
+    /// Lets the connection go that was used longest ago, of the endpoint that has most of them.
+    pub fn forget_oldest(&mut self) {
+        if let Some(key) = self.idle.pop_oldest() {
+            let _ = self.forget(key);
+        }
+    }
+
+    /// Takes a connection out that ended while it was kept, also off those that may be used again, since another one gets its key.
+    pub fn lose(&mut self, key: usize) {
+        if let Some(link) = self.links.try_remove(key) {
+            self.idle.remove(link.number, key);
+        }
     }
 
     /// Whether one is to have a turn.

@@ -7,21 +7,16 @@
 //! (`Link::begin`).
 
 use crate::connections::{Connections, earlier};
-use crate::done::Done;
-use crate::endpoints::Numbered;
-use crate::idle::Idle;
 use crate::link::{Link, Turn};
 use crate::opening::{System, open};
 use crate::room::Room;
 use crate::settings::FetchThreadSettings;
-use crate::shares::Shares;
-use crate::under_way::UnderWay;
-use crate::waiting::Waiting;
 use mio::event::Event;
 use peer_fill::TakenJob;
 use peer_host::Network;
 use peer_origin::{Failure, FetchFault};
 use peer_source::Source;
+use peer_value::{Done, Numbered, Shares, UnderWay, Waiting};
 use std::alloc::Global;
 use std::time::Duration;
 
@@ -34,7 +29,6 @@ pub struct Fetcher<'a, S: Source> {
     alloc: Global,
     settings: FetchThreadSettings,
     connections: Connections<'a, S>,
-    idle: Idle,
     shares: Shares,
     waiting: Waiting<'a, S>,
     buffer: Vec<u8>,
@@ -51,8 +45,7 @@ impl<'a, S: Source> Fetcher<'a, S> {
         Fetcher {
             alloc,
             settings,
-            connections: Connections::new(alloc),
-            idle,
+            connections: Connections::new(alloc, idle),
             shares,
             waiting: Waiting::new(alloc),
             buffer,
@@ -131,21 +124,6 @@ impl<'a, S: Source> Fetcher<'a, S> {
         None
     }
 
-    // A connection to the endpoint with this number that may be used again. One that has ended meanwhile is let go.
-    fn take_idle(&mut self, number: usize) -> Option<usize> {
-        for _ in 0..=self.settings.under_way {
-            let key = self.idle.pop(number)?;
-            let Some(link) = self.connections.get(key) else {
-                continue;
-            };
-            if link.is_idle() {
-                return Some(key);
-            }
-            self.connections.forget(key);
-        }
-        None
-    }
-
     // Asks for a value on a connection that is kept for its endpoint, or a new one.
     fn start<H: Network>(
         &mut self,
@@ -153,7 +131,7 @@ impl<'a, S: Source> Fetcher<'a, S> {
         under: UnderWay<'a, S>,
     ) -> Option<Done<'a, S>> {
         let number = under.number();
-        let Some(key) = self.take_idle(number) else {
+        let Some(key) = self.connections.take_idle(number) else {
             return self.connect(system, under, 0);
         };
         match self.connections.get_mut(key) {
@@ -219,41 +197,17 @@ impl<'a, S: Source> Fetcher<'a, S> {
         self.start(system, under.put_off(due))
     }
 
-    // Puts a connection behind those to its endpoint that may be used again. Whether there is one, and memory for that.
-    fn put_idle(&mut self, key: usize) -> bool {
-        match self.connections.get(key) {
-            Some(link) => self.idle.put(link.number, key),
-            None => false,
-        }
-    }
-
-    // Lets the connection go that was used longest ago, of the endpoint that has most of them.
-    fn forget_oldest(&mut self) {
-        if let Some(key) = self.idle.pop_oldest() {
-            self.connections.forget(key);
-        }
-    }
-
     // Keeps a connection for another value, in the place of an older one where too many are kept, or lets it go.
     fn release(&mut self, key: usize, reusable: bool) {
         if !reusable || self.settings.fetch.connection_for_each {
-            self.connections.forget(key);
+            let _ = self.connections.forget(key);
             return;
         }
         // Before it is kept itself, so that it is not the one that goes.
         if self.connections.len().saturating_sub(self.shares.total()) > self.settings.under_way {
-            self.forget_oldest();
+            self.connections.forget_oldest();
         }
-        if !self.put_idle(key) {
-            self.connections.forget(key);
-        }
-    }
-
-    // Takes a connection out that ended while it was kept, also off those that may be used again, since another one gets its key.
-    fn lose(&mut self, key: usize) {
-        if let Some(link) = self.connections.remove(key) {
-            self.idle.remove(link.number, key);
-        }
+        self.connections.keep(key);
     }
 
     // Tries the next address of the endpoint of a value.
@@ -263,8 +217,8 @@ impl<'a, S: Source> Fetcher<'a, S> {
         key: usize,
         under: UnderWay<'a, S>,
     ) -> Option<Done<'a, S>> {
-        match self.connections.remove(key) {
-            Some(link) => self.connect(system, under, link.next_address),
+        match self.connections.forget_unreached(key) {
+            Some(next) => self.connect(system, under, next),
             None => Some(under.done(Err(FetchFault::Unreached))),
         }
     }
@@ -289,11 +243,11 @@ impl<'a, S: Source> Fetcher<'a, S> {
         under: UnderWay<'a, S>,
         failure: Failure,
     ) -> Option<Done<'a, S>> {
-        let ended = self.connections.remove(key);
-        match (failure, ended) {
-            (Failure::Fetch(fault), _) => Some(under.done(Err(fault))),
-            (Failure::Silent, Some(link)) if link.was_kept => self.ask_again(system, under),
-            (Failure::Silent, _) => Some(under.done(Err(FetchFault::Lost))),
+        let was_kept = self.connections.forget(key);
+        match failure {
+            Failure::Fetch(fault) => Some(under.done(Err(fault))),
+            Failure::Silent if was_kept => self.ask_again(system, under),
+            Failure::Silent => Some(under.done(Err(FetchFault::Lost))),
         }
     }
 
@@ -312,7 +266,7 @@ impl<'a, S: Source> Fetcher<'a, S> {
                 None
             }
             Turn::Gone => {
-                self.lose(key);
+                self.connections.lose(key);
                 None
             }
             Turn::Done(done, reusable) => {

@@ -8,13 +8,13 @@ ghost use Rattle.peer_fill.specs.Pools.{source_of, IsFillSeatOf};
 ghost use Rattle.peer_origin.specs.Origins.{IsOriginAnswer};
 ghost use Rattle.peer_fetch.specs.Threads.{Allows, IsLaterSeat};
 
-use crate::done::{Done, outcome_of};
 use crate::fetcher::Fetcher;
 use crate::opening::System;
 use crate::settings::FetchPlan;
 use peer_fill::{FillSeat, Gate, Pool, TakenJob};
 use peer_host::Network;
 use peer_source::{Outcome, Source};
+use peer_value::Done;
 use std::alloc::Global;
 use std::sync::Wait;
 use std::sync::ledger::Ledger;
@@ -65,11 +65,11 @@ fn fill_done<'a, S: Source, L: Ledger, G: Gate, H: Wait>(
     let Some(done) = done else {
         return;
     };
-    let Done { job, got, .. } = done;
-    if let Err(fault) = &got {
+    if let Some(fault) = done.fault() {
         jobs.plan.failures.count(fault.kind());
     }
-    fill(rt, jobs, seat, job, outcome_of(jobs.alloc, got));
+    let (job, outcome) = done.settle(jobs.alloc);
+    fill(rt, jobs, seat, job, outcome);
 }
 
 // Takes a job, and begins to fetch its value where its group has an endpoint. Whether there was one.

@@ -5,16 +5,15 @@
 ghost use Rattle.std.specs.Prelude.{◌≡◌, IfSome, Some};
 ghost use Rattle.std.proofs.Props.{props};
 ghost use Rattle.peer_fetch.specs.Turns.{IsTurnOf};
+ghost use Rattle.peer_value.specs.UnderWays.{number_of};
 
-use crate::done::Done;
-use crate::fetching::Answer;
 use crate::transfer::{Halt, receive, send};
-use crate::under_way::UnderWay;
 use mio::event::Event;
 use mio::net::TcpStream;
 use peer_origin::{Failure, FetchFault};
 use peer_poll::{Readiness, would_block};
 use peer_source::Source;
+use peer_value::{Answer, Done, UnderWay};
 use std::io::ErrorKind;
 use std::time::Duration;
 
@@ -51,7 +50,7 @@ pub struct Link<'a, S: Source> {
     pub was_kept: bool,
     /// Whether it is on the list of those that are to have a turn.
     pub is_ready: bool,
-    ghost own: { IfSome under (λ u. u.at.number ≡ number) } by { Prim.hlevel props },
+    ghost own: { IfSome under (λ u. number_of u ≡ number) } by { Prim.hlevel props },
 }
 
 // How far a stream is that began to connect.
@@ -116,7 +115,7 @@ impl<'a, S: Source> Link<'a, S> {
 
     // Puts the value that is under way.
     fn put(&mut self, under: UnderWay<'a, S>)
-        requires { under.at.number ≡ self.old.number }
+        requires { number_of under ≡ self.old.number }
         ensures under { self.new.under ≡ Some under.entry }
         ensures number { self.new.number ≡ self.old.number }
     {
@@ -125,7 +124,7 @@ impl<'a, S: Source> Link<'a, S> {
 
     /// Asks for another value of its endpoint.
     pub fn begin(&mut self, under: UnderWay<'a, S>)
-        requires { under.at.number ≡ self.old.number }
+        requires { number_of under ≡ self.old.number }
         ensures under { self.new.under ≡ Some under.entry }
         ensures number { self.new.number ≡ self.old.number }
     {
@@ -147,7 +146,7 @@ impl<'a, S: Source> Link<'a, S> {
 
     // Sends and receives for a value.
     fn exchange(&mut self, under: UnderWay<'a, S>, buffer: &mut [u8]) -> Turn<'a, S>
-        requires { under.at.number ≡ self.old.number }
+        requires { number_of under ≡ self.old.number }
         ensures value { IsTurnOf under.entry self.new.under result }
         ensures number { self.new.number ≡ self.old.number }
     {

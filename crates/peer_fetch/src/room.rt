@@ -4,7 +4,7 @@
 
 use crate::idle::Idle;
 use crate::settings::FetchPlan;
-use crate::shares::Shares;
+use peer_value::Shares;
 use std::alloc::{AllocError, Global};
 
 // How many bytes a read may give.

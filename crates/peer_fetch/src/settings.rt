@@ -1,8 +1,8 @@
 //! What can be set of a fetch thread, and what it fetches.
 
-use crate::endpoints::Endpoints;
 use peer_origin::FetchSettings;
 use peer_stats::FailureSlots;
+use peer_value::Endpoints;
 use std::time::Duration;
 
 /// What can be set of a fetch thread.

@@ -147,20 +147,14 @@ impl<'a> FetchThread<'a> {
             pause: plan.settings.pause,
         };
         let mut seat = seat;
-        let begun = Instant::now(rt).ok();
         let jobs = Jobs {
             alloc,
             pool,
             gate,
             plan,
         };
-        for _ in rt.forever() {
-            if thread.turn(rt, &jobs, &mut seat, waker) {
-                return seat;
-            }
-            thread.tell_time(rt, begun);
-        }
-        unreachable!()
+        thread.run(rt, &jobs, &mut seat, waker);
+        seat
     }
 }
 
@@ -209,5 +203,27 @@ impl<'a, S: Source> Running<'a, S> {
         let time = prepare_wait(&system, jobs, seat, &mut self.fetcher, waker);
         self.wait(rt, time, waker);
         false
+    }
+
+    // Gives itself turns until all is done.
+    fn run<L: Ledger, G: Gate, H: Network>(
+        &mut self,
+        rt: &H,
+        jobs: &Jobs<'_, 'a, S, L, G>,
+        seat: &mut FillSeat<S, L>,
+        waker: OwnWaker<'_>,
+    )
+        requires seat { IsFillSeatOf jobs.now.pool.now seat.old }
+        requires answers { Allows (S.answers (source_of jobs.now.pool.now)) jobs.now.plan }
+        ensures { IsLaterSeat jobs.now.pool.now seat.old seat.new }
+    {
+        let begun = Instant::now(rt).ok();
+        for _ in rt.forever() {
+            if self.turn(rt, jobs, seat, waker) {
+                return;
+            }
+            self.tell_time(rt, begun);
+        }
+        unreachable!()
     }
 }

@@ -1,15 +1,12 @@
 //! How the request for a value is sent over a stream that never waits, and its reply received.
-ghost use Rattle.std.specs.Prelude.{◌≤◌, length, IfOk, IfSome, IsTrue};
-ghost use Rattle.peer_view.specs.Sinks.{MAX_VALUE};
-ghost use Rattle.peer_fetch.specs.Turns.{HasSameJob};
-ghost use Rattle.peer_fetch.specs.Values.{IsFoundBy, IsFree};
+ghost use Rattle.std.specs.Prelude.{◌≤◌, length, IfOk, IfSome};
+ghost use Rattle.peer_value.specs.UnderWays.{HasSameJob, IsAnswerTo, IsAsked};
 
-use crate::fetching::Answer;
-use crate::under_way::UnderWay;
 use mio::net::TcpStream;
 use peer_origin::Failure;
 use peer_poll::{Readiness, was_interrupted, would_block};
 use peer_source::Source;
+use peer_value::{Answer, UnderWay};
 use std::io;
 use std::io::{Read, Write};
 
@@ -68,11 +65,9 @@ fn read(
 
 // Takes in what was read, no byte being the end of the connection. None where there is no answer yet.
 fn take_in<S: Source>(under: &mut UnderWay<'_, S>, bytes: &[u8]) -> Result<Option<Answer>, Failure>
-    requires { length under.old.fetching.request.items ≤ under.old.fetching.sent }
+    requires { IsAsked under.old }
     ensures kept { HasSameJob under.old under.new }
-    ensures keeps { IfOk result (λ came. IfSome came (λ a. IsTrue a.keeps → IsFree under.new.fetching)) }
-    ensures within { IfOk result (λ came. IfSome came (λ a. IfOk a.value (λ v. length v.items ≤ MAX_VALUE))) }
-    ensures found { IfOk result (λ came. IfSome came (λ a. IfOk a.value (IsFoundBy under.new.fetching))) }
+    ensures answer { IfOk result (λ came. IfSome came (IsAnswerTo under.new)) }
 {
     if bytes.is_empty() {
         let answer = under.end()?;
@@ -89,9 +84,7 @@ pub fn receive<S: Source>(
     readiness: &mut Readiness,
 ) -> Result<Answer, Halt>
     ensures kept { HasSameJob under.old under.new }
-    ensures keeps { IfOk result (λ a. IsTrue a.keeps → IsFree under.new.fetching) }
-    ensures within { IfOk result (λ a. IfOk a.value (λ v. length v.items ≤ MAX_VALUE)) }
-    ensures found { IfOk result (λ a. IfOk a.value (IsFoundBy under.new.fetching)) }
+    ensures answer { IfOk result (IsAnswerTo under.new) }
 {
     for _ in 0..ROUNDS {
         if !readiness.readable || !under.is_sent() {

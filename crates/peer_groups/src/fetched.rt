@@ -5,11 +5,12 @@ ghost use Rattle.peer_origin.specs.Endpoints.{asked_at};
 ghost use Rattle.peer_groups.specs.Besides.{AnswersOrigins};
 
 use crate::beside::Beside;
-use peer_fetch::{Endpoints, FetchPlan, FetchThreadSettings};
+use peer_fetch::{FetchPlan, FetchThreadSettings};
 use peer_host::Network;
 use peer_origin::{Endpoint, FetchSettings, OriginSource};
 use peer_source::Source;
 use peer_stats::FailureSlots;
+use peer_value::Endpoints;
 use std::alloc::Global;
 
 /// The groups of services: from which number on they are, where each is asked for, and among how many groups they stand.

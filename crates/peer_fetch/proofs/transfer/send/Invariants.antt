@@ -1,4 +1,4 @@
-use Rattle.peer_fetch.specs.Turns.{HasSameJob}
+use Rattle.peer_value.specs.UnderWays.{HasSameJob}
 use Rattle.peer_fetch.proofs.transfer.send.Given as goal
 
 abbrev pub invariant-loop : goal.invariant-loop

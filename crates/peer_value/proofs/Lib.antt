@@ -1,0 +1,3 @@
+mod FetchingLemmas
+mod ShareLemmas
+mod WaitingLemmas

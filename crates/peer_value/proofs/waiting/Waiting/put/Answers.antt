@@ -1,0 +1,25 @@
+use Rattle.std.proofs.Common.{rules, [], ◌∷◌, ◌++◌, ap, ◌∙◌}
+use Rattle.std.specs.VecDeque.{deque_items}
+use Rattle.std.proofs.lemmas.Option.{slice_get_read}
+use Rattle.peer_value.specs.Waitings.{line_of}
+use Rattle.peer_value.proofs.WaitingLemmas.{other_line, pushed_line}
+use Rattle.peer_value.proofs.waiting.Waiting.put.Goals as goal
+
+pub returns-then-is_err-2-clause-others : goal.returns-then-is_err-2-clause-others
+returns-then-is_err-2-clause-others g c n differ =
+    other_line deque_items c.reserve_lines.new.self.lines.items c.args.service n c.reserve.new.self differ ∙ c.reserve_lines.ensures n
+
+pub returns-clause-put : goal.returns-clause-put
+returns-clause-put g c =
+    let lines = c.reserve_lines.new.self.lines in
+    let line = c.in-Some.line.now in
+    let service = c.args.service in
+    let before = line_of c.args.self.now service in
+    let there = slice_get_read lines.items lines.len service line (search rules) (search rules) c.in-Some.ensures.value in
+    let last = c.push_back_reserved.ensures.items ∙ ap (λ xs. xs ++ c.args.under ∷ []) c.reserve.ensures.items in
+    pushed_line deque_items lines.items service line c.push_back_reserved.new.self c.args.under before there (c.reserve_lines.ensures service) last
+
+pub returns-clause-others : goal.returns-clause-others
+returns-clause-others g c n differ =
+    other_line deque_items c.reserve_lines.new.self.lines.items c.args.service n c.push_back_reserved.new.self differ
+    ∙ c.reserve_lines.ensures n

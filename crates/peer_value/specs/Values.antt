@@ -1,0 +1,52 @@
+-- What a value is that a fetch found, and what answer it is.
+use Rattle.std.specs.Prelude.{◌≡◌, ◌⊎◌, ◌≤◌, ℕ, List, [], length, Option, Some, None, Vec, IfOk, IsTrue}
+use Rattle.std.specs.declared.alloc.Global.{Global}
+use Rattle.peer_origin.specs.Fetches.{Use}
+use Rattle.peer_origin.specs.declared.fault.FetchFault.{FetchFault}
+use Rattle.peer_origin.specs.declared.fault.FetchFault.TheVariants as fault
+use Rattle.peer_source.specs.Answers.{Answer}
+use Rattle.peer_view.specs.Sinks.{MAX_VALUE}
+use Rattle.peer_value.specs.Fetchings.{GoesOnAnew, IsFoundIn, IsFreeBehind, uses_by}
+use Rattle.peer_value.specs.declared.fetching.Answer as fetched
+use Rattle.peer_value.specs.declared.fetching.Fetching.{Fetching}
+
+-- the whole request was sent
+abbrev pub IsSent : Fetching → Type 0
+IsSent f = length f.request.items ≤ f.sent
+
+-- the uses of all connections of a fetch, the last one first
+abbrev pub uses_of : Fetching → List Use
+uses_of f = uses_by f.request.items f.sent f.receiving.came.bytes f.ended f.first
+
+-- the same request once more, behind the one use of a connection on which nothing came
+abbrev pub IsSecondTry : Fetching → Fetching → Type 0
+IsSecondTry f f' = (f'.request.items ≡ f.request.items) × GoesOnAnew f.request.items (uses_of f) (uses_of f')
+
+-- a second try may be: this is the first one, and nothing came
+abbrev pub MayGoOnAnew : Fetching → Type 0
+MayGoOnAnew f = (f.first ≡ None) × (f.receiving.came.bytes ≡ [])
+
+-- the same request in the same try, so much of it sent
+abbrev pub IsSameTry : Fetching → Fetching → Type 0
+IsSameTry f f' = (f'.request.items ≡ f.request.items) × (f'.sent ≡ f.sent) × (f'.first ≡ f.first)
+
+-- why no second try is made: memory, or the request itself; or there was one, or bytes came, and the value is lost
+abbrev pub IsRefusedFor : Fetching → FetchFault → Type 0
+IsRefusedFor f why = (why ≡ fault.Memory) ⊎ (why ≡ fault.Malformed) ⊎ ((why ≡ fault.Lost) × ¬ (MayGoOnAnew f))
+
+-- another request may follow on the connection of the fetch
+abbrev pub IsFree : Fetching → Type 0
+IsFree f = IsFreeBehind f.receiving.came.bytes f.receiving.client
+
+-- the value was found on the connections of this very fetch, and is within the limit of a value
+abbrev pub IsValueOf : Fetching → Vec ℕ Global → Type 0
+IsValueOf f value = (length value.items ≤ MAX_VALUE) × ∥ IsFoundIn f.request.items f.sent f.receiving.came.bytes f.ended f.first value ∥₁
+
+-- the answer of a fetch: its value is one that the fetch found, and another request may follow where the answer says so
+pub record IsAnswerOf (f : Fetching) (a : fetched.Answer) : Type 0 where
+  pub keeps : IsTrue a.keeps → IsFree f
+  pub value : IfOk a.value (IsValueOf f)
+
+-- this is the answer, or there is none, where memory was refused
+abbrev pub AnswersBy : Answer → Option Answer → Type 0
+AnswersBy a answer = (answer ≡ Some a) ⊎ (answer ≡ None)

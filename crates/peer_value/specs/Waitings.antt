@@ -1,0 +1,15 @@
+-- The values that wait until another one of their service may be under way.
+use Rattle.std.specs.Prelude.{ℕ, List, [], option_map, unwrap_or, slice_get}
+use Rattle.std.specs.VecDeque.{deque_items}
+use Rattle.peer_source.specs.declared.source.Source as Source
+use Rattle.peer_value.specs.declared.under_way.UnderWay.{UnderWay}
+use Rattle.peer_value.specs.declared.waiting.Waiting.{Waiting}
+
+-- what the line with this number holds, and nothing where there is none
+abbrev pub line_in : {D X : Type 0} → (D → List X) → List D → ℕ → List X
+line_in items lines n = unwrap_or (option_map items (slice_get lines n)) []
+
+module _ {S : Type 0} {g : Source.Ghosts S} where
+  -- those that wait for a service, each behind those that came before it
+  abbrev pub line_of : Waiting S g → ℕ → List (UnderWay S g)
+  line_of w service = line_in deque_items w.lines.items service

@@ -1,0 +1,195 @@
+//! A value under way, or one that waits to be: a job, the numbered endpoint of its origin, and the fetch.
+ghost use Rattle.std.specs.Prelude.{◌≡◌, ◌+◌, ◌≤◌, ◌↔◌, ◌⊎◌, ◌++◌, [], ◌∷◌, false, length, true, IfErr, IfOk, IfSome, IsTrue, Some, drop};
+ghost use Rattle.peer_origin.specs.declared.exchange.Failure.TheVariants as fail;
+ghost use Rattle.peer_origin.specs.declared.fault.FetchFault.TheVariants as fault;
+ghost use Rattle.peer_value.specs.Fetchings.{request_at, use_by};
+ghost use Rattle.peer_value.specs.Values.{uses_of, IsFree, IsRefusedFor, IsSameTry, IsSecondTry, IsValueOf};
+
+use crate::done::Done;
+use crate::endpoints::Numbered;
+use crate::fetching::{Answer, Fetching};
+use peer_fill::TakenJob;
+use peer_origin::{Endpoint, Failure, FetchFault, request};
+use peer_source::Source;
+use std::alloc::Global;
+use std::time::Duration;
+
+/// A value under way. Its request is the one for the key of its job.
+#[derive(Drop)]
+pub struct UnderWay<'a, S: Source> {
+    at: Numbered<'a>,
+    job: TakenJob<S>,
+    fetching: Fetching,
+    due: Duration,
+    ghost asks: { fetching.request.items ≡ request_at at.endpoint.now job.place.key },
+}
+
+impl<'a, S: Source> UnderWay<'a, S> {
+    ghost use Rattle.peer_value.specs.UnderWays.{HasSameJob, IsAnswerTo, IsAsked, IsDoneOf, LeavesFree, due_of, number_of};
+
+    /// The fetch of a job's value begins. It is given up when it is due.
+    pub fn begin(
+        alloc: Global,
+        at: Numbered<'a>,
+        job: TakenJob<S>,
+        due: Duration,
+    ) -> Result<UnderWay<'a, S>, Done<'a, S>>
+        ensures kept { IfOk result (λ u. (u.at ≡ at.entry) × (u.job ≡ job) × (u.due ≡ due)) }
+        ensures unused { IfOk result (λ u. uses_of u.fetching ≡ use_by u.fetching.request.items 0 [] false ∷ []) }
+        ensures given_back { IfErr result (λ d. (d.endpoint ≡ at.entry.endpoint) × (d.job ≡ job) × IfOk d.got (λ _. ⊥)) }
+        ensures refused { IfErr result (λ d. IfErr d.got (λ why. (why ≡ fault.Memory) ⊎ (why ≡ fault.Malformed))) }
+    {
+        match request(alloc, &at.endpoint.host, &at.endpoint.prefix, job.key()) {
+            Ok(asked) => Ok(UnderWay {
+                at,
+                job,
+                fetching: Fetching::new(alloc, asked),
+                due,
+            }),
+            Err(why) => Err(Done::failed(at.endpoint, job, why)),
+        }
+    }
+
+    /// The fetch begins anew, on a new connection, where this may be.
+    pub fn again(self, alloc: Global) -> Result<UnderWay<'a, S>, Done<'a, S>>
+        ensures kept { IfOk result (λ u. (u.at ≡ self.entry.at) × (u.job ≡ self.entry.job) × (u.due ≡ self.entry.due)) }
+        ensures second { IfOk result (λ u. IsSecondTry self.entry.fetching u.fetching) }
+        ensures refused { IfErr result (λ d. IfErr d.got (IsRefusedFor self.entry.fetching)) }
+        ensures given_back { IfErr result (λ d. (d.endpoint ≡ self.entry.at.endpoint) × (d.job ≡ self.entry.job) × IfOk d.got (λ _. ⊥)) }
+    {
+        let UnderWay {
+            at,
+            job,
+            mut fetching,
+            due,
+        } = self;
+        let asked = match request(alloc, &at.endpoint.host, &at.endpoint.prefix, job.key()) {
+            Ok(asked) => asked,
+            Err(why) => return Err(Done::failed(at.endpoint, job, why)),
+        };
+        if fetching.again(alloc, asked) {
+            return Ok(UnderWay {
+                at,
+                job,
+                fetching,
+                due,
+            });
+        }
+        Err(Done::failed(at.endpoint, job, FetchFault::Lost))
+    }
+
+    /// The same, given up at another time.
+    pub fn put_off(self, due: Duration) -> UnderWay<'a, S>
+        ensures kept { (result.at ≡ self.entry.at) × (result.job ≡ self.entry.job) × (result.fetching ≡ self.entry.fetching) }
+        ensures due { result.due ≡ due }
+    {
+        let UnderWay {
+            at,
+            job,
+            fetching,
+            ..
+        } = self;
+        UnderWay {
+            at,
+            job,
+            fetching,
+            due,
+        }
+    }
+
+    /// The endpoint of its origin.
+    pub fn endpoint(&self) -> &'a Endpoint
+        ensures { result ≡ self.now.at.endpoint }
+    {
+        self.at.endpoint
+    }
+
+    /// The number of that endpoint.
+    pub fn number(&self) -> usize
+        ensures { result ≡ number_of self.now }
+    {
+        self.at.number
+    }
+
+    /// When it is given up.
+    pub fn due(&self) -> Duration
+        ensures { result ≡ due_of self.now }
+    {
+        self.due
+    }
+
+    /// What is to be sent.
+    pub fn unsent(&self) -> &[u8]
+        ensures bytes { result.now ≡ drop self.now.fetching.sent self.now.fetching.request.items }
+        ensures left { length result.now + self.now.fetching.sent ≡ length self.now.fetching.request.items }
+    {
+        self.fetching.unsent()
+    }
+
+    /// So many bytes were sent.
+    pub fn sent(&mut self, n: usize)
+        requires { self.old.fetching.sent + n ≤ length self.old.fetching.request.items }
+        ensures kept { HasSameJob self.old self.new }
+        ensures sent { self.new.fetching.sent ≡ self.old.fetching.sent + n }
+        ensures request { self.new.fetching.request.items ≡ self.old.fetching.request.items }
+        ensures came { self.new.fetching.receiving.came.bytes ≡ self.old.fetching.receiving.came.bytes }
+        ensures ended { self.new.fetching.ended ≡ self.old.fetching.ended }
+        ensures first { self.new.fetching.first ≡ self.old.fetching.first }
+    {
+        self.fetching.sent(n);
+    }
+
+    /// Whether the whole request was sent.
+    pub fn is_sent(&self) -> bool
+        ensures { IsTrue result ↔ IsAsked self.now }
+    {
+        self.fetching.is_sent()
+    }
+
+    /// Bytes come. Gives the answer, once the reply is whole.
+    pub fn receive(&mut self, bytes: &[u8]) -> Result<Option<Answer>, Failure>
+        requires { IsAsked self.old }
+        ensures kept { HasSameJob self.old self.new }
+        ensures same { IsSameTry self.old.fetching self.new.fetching }
+        ensures came { self.new.fetching.receiving.came.bytes ≡ self.old.fetching.receiving.came.bytes ++ bytes.now }
+        ensures ended { self.new.fetching.ended ≡ self.old.fetching.ended }
+        ensures answer { IfOk result (λ given. IfSome given (IsAnswerTo self.new)) }
+    {
+        self.fetching.receive(bytes)
+    }
+
+    /// The connection ended. Gives the answer, where the reply runs until then.
+    pub fn end(&mut self) -> Result<Answer, Failure>
+        requires { IsAsked self.old }
+        ensures kept { HasSameJob self.old self.new }
+        ensures same { IsSameTry self.old.fetching self.new.fetching }
+        ensures came { self.new.fetching.receiving.came.bytes ≡ self.old.fetching.receiving.came.bytes }
+        ensures ended { self.new.fetching.ended ≡ true }
+        ensures answer { IfOk result (IsAnswerTo self.new) }
+    {
+        self.fetching.end()
+    }
+
+    /// Why there is no value, where the connection failed.
+    pub fn cut(&self) -> Failure
+        ensures { result ≡ fail.Silent ↔ (self.now.fetching.receiving.came.bytes ≡ []) }
+    {
+        self.fetching.cut()
+    }
+
+    /// The job, with what was fetched for it.
+    pub fn done(self, got: Result<Vec<u8>, FetchFault>) -> Done<'a, S>
+        requires { IfOk got (IsValueOf self.fetching) }
+        ensures kept { IsDoneOf self.entry result }
+        ensures got { (result.got ≡ got) × (result.by ≡ Some self.entry.fetching) }
+        ensures free { IsFree self.entry.fetching → LeavesFree result }
+    {
+        let UnderWay {
+            at,
+            job,
+            fetching,
+            ..
+        } = self;
+        Done::fetched(at.endpoint, job, got, fetching)
+    }
+}

@@ -1,0 +1,109 @@
+//! The values that wait until another one of their service may be under way.
+//!
+//! It stands on the value of each (`UnderWay`). It promises that those of a service come out in the order in which they came in.
+ghost use Rattle.std.specs.Prelude.{◌≡◌, ◌≢◌, ◌≤◌, ℕ, [], ◌∷◌, ◌++◌, IfErr, IfSome, MatchOption, OnOk, option_map, slice_get};
+ghost use Rattle.peer_origin.specs.declared.fault.FetchFault.TheVariants as fault;
+ghost use Rattle.peer_value.specs.UnderWays.{due_of};
+ghost use Rattle.peer_value.specs.Waitings.{line_of};
+
+use crate::done::Done;
+use crate::under_way::UnderWay;
+use peer_origin::FetchFault;
+use peer_source::Source;
+use std::alloc::{AllocError, Global};
+use std::collections::VecDeque;
+use std::time::Duration;
+
+/// The values that wait.
+#[derive(Drop)]
+pub struct Waiting<'a, S: Source> {
+    alloc: Global,
+    // Of each service, by its number, those that wait, the one that waits longest first.
+    lines: Vec<VecDeque<UnderWay<'a, S>>>,
+    count: usize,
+}
+
+impl<'a, S: Source> Waiting<'a, S> {
+    /// None waits.
+    pub fn new(alloc: Global) -> Waiting<'a, S>
+        ensures { (n : ℕ) → line_of result n ≡ [] }
+    {
+        Waiting {
+            alloc,
+            lines: Vec::new(alloc),
+            count: 0,
+        }
+    }
+
+    /// How many wait.
+    pub fn count(&self) -> usize {
+        self.count
+    }
+
+    /// The number above those of all services for which one may wait.
+    pub fn lines(&self) -> usize
+        ensures { (n : ℕ) → result ≤ n → line_of self.now n ≡ [] }
+    {
+        self.lines.len()
+    }
+
+    /// When the first that waits for this service is to be given up.
+    pub fn due(&self, service: usize) -> Option<Duration>
+        ensures { result ≡ option_map due_of (slice_get (line_of self.now service) 0) }
+    {
+        let first = self.lines.get(service)?.front()?;
+        Some(first.due())
+    }
+
+    // Has lines for services with numbers below this.
+    fn reserve_lines(&mut self, lines: usize) -> Result<(), AllocError>
+        ensures { (n : ℕ) → line_of self.new n ≡ line_of self.old n }
+    {
+        for _ in self.lines.len()..lines {
+            self.lines.push(VecDeque::new(self.alloc))?;
+        }
+        Ok(())
+    }
+
+    // Puts a value behind those that wait for its service. Where memory is refused it is given back.
+    fn put(&mut self, service: usize, under: UnderWay<'a, S>) -> Result<(), UnderWay<'a, S>>
+        ensures put { OnOk result (line_of self.new service ≡ line_of self.old service ++ under.entry ∷ []) }
+        ensures others { (n : ℕ) → n ≢ service → line_of self.new n ≡ line_of self.old n }
+        ensures back { IfErr result (λ back. back ≡ under.entry) }
+    {
+        if self.reserve_lines(service.saturating_add(1)).is_err() {
+            return Err(under);
+        }
+        let Some(line) = self.lines.get_mut(service) else {
+            return Err(under);
+        };
+        if line.reserve(1).is_err() {
+            return Err(under);
+        }
+        line.push_back_reserved(under);
+        self.count = self.count.saturating_add(1);
+        Ok(())
+    }
+
+    /// Has a value wait behind the others of its service. Where memory is refused it is done.
+    pub fn push(&mut self, service: usize, under: UnderWay<'a, S>) -> Option<Done<'a, S>>
+        ensures last { MatchOption result (line_of self.new service ≡ line_of self.old service ++ under.entry ∷ [])
+            (λ d. (d.job ≡ under.entry.job) × IfErr d.got (λ why. why ≡ fault.Memory)) }
+        ensures others { (n : ℕ) → n ≢ service → line_of self.new n ≡ line_of self.old n }
+    {
+        match self.put(service, under) {
+            Ok(()) => None,
+            Err(under) => Some(under.done(Err(FetchFault::Memory))),
+        }
+    }
+
+    /// Takes out the first that waits for this service.
+    pub fn pop(&mut self, service: usize) -> Option<UnderWay<'a, S>>
+        ensures first { IfSome result (λ under. line_of self.old service ≡ under ∷ line_of self.new service) }
+        ensures others { (n : ℕ) → n ≢ service → line_of self.new n ≡ line_of self.old n }
+    {
+        let under = self.lines.get_mut(service)?.pop_front()?;
+        self.count = self.count.saturating_sub(1);
+        Some(under)
+    }
+}
