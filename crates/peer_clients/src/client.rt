@@ -2,23 +2,25 @@
 //!
 //! It stands on the connection as a state (`Exchange`), on the seat of its loop, and on what the system reports of the stream.
 //! It promises that the seat stays one of the pool, with its parts, and that the connection stays one of the pool's source.
-ghost use Rattle.std.specs.Prelude.{◌≡◌, true, IsTrue, Some};
+ghost use Rattle.std.specs.Prelude.{◌≡◌, ◌↔◌, true, IsTrue, Some};
+ghost use Rattle.peer_activity.specs.Activities.{IsOverdue};
 ghost use Rattle.peer_exchange.specs.ExchangeStates.{takes_bytes};
 ghost use Rattle.peer_clients.specs.Parts.{KeepsParts};
+ghost use Rattle.peer_clients.specs.Standings.{standing_of};
 
-use crate::activity::Activity;
 use crate::client_state::ClientState;
 use crate::facts::Facts;
 use crate::limits::{ASKS_OF_ROUND, MAX_UNCOUNTED, ROUNDS_OF_TURN};
-use crate::occupancy::Occupancy;
 use crate::seat::{LoopSeat, Progress};
 use crate::skip::skip;
 use mio::event::Event;
 use mio::net::TcpStream;
 use mio::{Interest, Registry, Token};
+use peer_activity::{Activity, Standing};
 use peer_exchange::Exchange;
 use peer_limits::Limits;
 use peer_poll::{Readiness, was_interrupted, would_block};
+use peer_site::Occupancy;
 use peer_source::Source;
 use std::cmp::min;
 use std::io;
@@ -284,20 +286,30 @@ impl<'a, S: Source, F: Facts<S>> Client<'a, S, F> {
         waits
     }
 
-    /// Whether it is to be let go: it is silent, takes nothing, or is slow where no more connections can be had. What was just
-    /// reported of it, and the value or the room that came for it, are for its next turn.
-    pub fn is_overdue(&self, now: Duration, limits: &Limits, full: bool) -> bool {
-        if self.lingers {
-            return self.activity.has_lingered(now, limits);
-        }
-        if !self.exchange.output().is_empty() {
-            return self.activity.takes_nothing(limits);
-        }
+    // What it does at the moment.
+    fn standing(&self) -> Standing
+        ensures { result ≡ standing_of self.now.lingers self.now.is_ready self.now.exchange.state }
+    {
         let rest = self.exchange.rest();
-        if rest.fill || rest.job {
-            return false;
+        if self.lingers {
+            Standing::Lingers
+        } else if rest.output {
+            Standing::HasOutput
+        } else if rest.fill || rest.job {
+            Standing::Waits
+        } else if self.is_ready {
+            Standing::IsReady
+        } else {
+            Standing::Idle
         }
-        let silent = !self.is_ready && self.activity.is_silent(now, limits, full);
-        silent || full && self.activity.is_slow(now, limits)
+    }
+
+    /// Whether it is to be let go. `full` says that no more connections can be had. What was just reported of it, and the value or
+    /// the room that came for it, are for its next turn.
+    pub fn is_overdue(&self, limits: &Limits, full: bool, now: Duration) -> bool
+        ensures { IsTrue result ↔ IsOverdue limits.now full now self.now.activity
+            (standing_of self.now.lingers self.now.is_ready self.now.exchange.state) }
+    {
+        self.activity.is_overdue(limits, full, now, self.standing())
     }
 }

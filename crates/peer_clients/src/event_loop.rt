@@ -5,11 +5,11 @@
 
 use crate::facts::Facts;
 use crate::seat::LoopSeat;
-use crate::site::LoopSite;
 use crate::turns::Turns;
 use mio::{Events, Poll};
 use peer_host::Host;
 use peer_poll::WOKEN;
+use peer_site::LoopSite;
 use peer_source::Source;
 use std::alloc::Global;
 use std::hint::spin_loop;

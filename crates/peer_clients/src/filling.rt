@@ -3,10 +3,10 @@ ghost use Rattle.std.specs.Prelude.{◌≡◌, ◌≤◌, IfSome};
 ghost use Rattle.peer_fill.specs.Pools.{IsFillSeatOf};
 ghost use Rattle.peer_clients.specs.Parts.{filling_parts};
 
-use crate::fill_gate::FillGate;
 use crate::limits::{JOBS_OF_TURN, LOOKS};
 use peer_fill::{FillSeat, Pool};
 use peer_poll::PollWakers;
+use peer_site::FillGate;
 use peer_source::Source;
 use std::alloc::Global;
 use std::sync::Wait;

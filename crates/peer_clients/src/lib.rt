@@ -6,32 +6,21 @@
 //! and how long a call waits, no contract can say.
 #![tactic(auto)]
 
-mod activity;
 mod client;
 mod client_state;
 mod clients;
 mod event_loop;
 mod facts;
-mod fill_gate;
 mod filling;
 mod limits;
 mod loop_seats;
-mod mailbox;
-mod mailboxes;
-mod occupancy;
 mod running;
 mod seat;
-mod site;
 mod skip;
 mod turns;
 mod wait_lists;
 mod work;
 
-pub use fill_gate::FillGate;
 pub use loop_seats::LoopSeats;
-pub use mailbox::Mailbox;
-pub use mailboxes::Mailboxes;
-pub use occupancy::Occupancy;
 pub use running::run_loop;
-pub use site::{LoopSite, Site};
 pub use work::{LoopParts, LoopWork};

@@ -10,9 +10,6 @@ pub const ASKS_OF_ROUND: u32 = 16;
 /// How many events one wait reports.
 pub const MAX_EVENTS: usize = 256;
 
-/// How many streams wait for one loop. The thread that accepts waits where there are more.
-pub const MAX_ARRIVED: usize = 1024;
-
 /// How often a loop looks whether it was told of a fill before it sleeps, some 3 microseconds: that of a worker often comes within
 /// them. One that is fetched does not, and the loop looks once.
 pub const LOOKS: u32 = 64;

@@ -7,11 +7,9 @@ use crate::client::Client;
 use crate::client_state::ClientState;
 use crate::clients::Clients;
 use crate::facts::Facts;
-use crate::limits::MAX_ARRIVED;
-use crate::mailbox::{SLOTS_OF_WORD, WORDS, slot_of};
 use crate::seat::LoopSeat;
-use crate::site::LoopSite;
 use mio::Registry;
+use peer_site::{LoopSite, MAX_ARRIVED, SLOTS_OF_WORD, WORDS, slot_of};
 use peer_source::Source;
 use std::alloc::Global;
 use std::sync::Wait;
@@ -197,7 +195,7 @@ impl<'a, S: Source, F: Facts<S>> Turns<'a, S, F> {
             return false;
         };
         client.count_held(site.occupancy);
-        if client.is_overdue(self.now, site.limits, full) {
+        if client.is_overdue(site.limits, full, self.now) {
             return true;
         }
         if client.retry_write() {

@@ -2,7 +2,7 @@
 //!
 //! The lists are chained through one entry for each client, so that to list a client takes no memory and cannot fail.
 
-use crate::mailbox::SLOTS;
+use peer_site::SLOTS;
 use std::alloc::{AllocError, Global};
 
 // Where a client is listed, and who is listed behind it.

@@ -3,10 +3,9 @@
 use crate::event_loop::Waits;
 use crate::limits::MAX_EVENTS;
 use crate::loop_seats::LoopSeats;
-use crate::mailbox::Mailbox;
-use crate::site::LoopSite;
 use mio::{Events, Poll};
 use peer_head::HEAD_LIMIT;
+use peer_site::{LoopSite, Mailbox};
 use peer_source::Source;
 use std::alloc::Global;
 use std::net::Net;

@@ -1,5 +1,5 @@
 -- What a turn of a connection keeps of the value that is under way, and what it gives back.
-use Rattle.std.specs.Prelude.{Option, IsSomeAnd, IsTrue}
+use Rattle.std.specs.Prelude.{Option, IsSome, IsSomeAnd}
 use Rattle.peer_source.specs.declared.source.Source as Source
 use Rattle.peer_fetch.specs.declared.link.Turn.{Turn}
 use Rattle.peer_fetch.specs.declared.link.Turn.TheVariants as turn
@@ -13,6 +13,6 @@ module _ {S : Type 0} {g : Source.Ghosts S} where
   IsTurnOf u left turn.Waits = IsSomeAnd left (HasSameJob u)
   IsTurnOf u left turn.Busy = IsSomeAnd left (HasSameJob u)
   IsTurnOf u left turn.Gone = ⊥
-  IsTurnOf u left (turn.Done d keeps) = IsDoneOf u d × (IsTrue keeps → LeavesFree d)
+  IsTurnOf u left (turn.Done d reusable) = IsDoneOf u d × (IsSome reusable → LeavesFree d)
   IsTurnOf u left (turn.Unconnected u') = HasSameJob u u'
   IsTurnOf u left (turn.Cut u' failure) = HasSameJob u u'

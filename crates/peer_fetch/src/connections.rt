@@ -7,7 +7,7 @@ ghost use Rattle.std.specs.Prelude.{OnOk};
 ghost use Rattle.slab.specs.Slab.{HasRoomFor};
 
 use crate::idle::Idle;
-use crate::link::Link;
+use crate::link::{Link, Reusable};
 use mio::Token;
 use mio::event::Event;
 use peer_source::Source;
@@ -88,8 +88,13 @@ impl<'a, S: Source> Connections<'a, S> {
         self.links.insert_reserved(link);
     }
 
-    /// Lets a connection go. Says whether it was used before.
-    pub fn forget(&mut self, key: usize) -> bool {
+    /// Lets a connection go.
+    pub fn forget(&mut self, key: usize) {
+        let _ = self.links.try_remove(key);
+    }
+
+    /// Lets a connection go that ended before the value was there. Says whether it was used before.
+    pub fn forget_cut(&mut self, key: usize) -> bool {
         match self.links.try_remove(key) {
             Some(link) => link.was_kept,
             None => false,
@@ -112,26 +117,27 @@ impl<'a, S: Source> Connections<'a, S> {
             if link.is_idle() {
                 return Some(key);
             }
-            let _ = self.forget(key);
+            self.forget(key);
         }
         None
     }
 
-    /// Keeps a connection behind those to its endpoint that may be used again. Where memory is refused it is let go.
-    pub fn keep(&mut self, key: usize) {
+    /// Keeps a connection, on which another request may follow, behind those to its endpoint that may be used again. Where memory is
+    /// refused it is let go.
+    pub fn keep(&mut self, key: usize, _reusable: Reusable) {
         let is_kept = match self.links.get(key) {
             Some(link) => self.idle.put(link.number, key),
             None => false,
         };
         if !is_kept {
-            let _ = self.forget(key);
+            self.forget(key);
         }
     }
 
     /// Lets the connection go that was used longest ago, of the endpoint that has most of them.
     pub fn forget_oldest(&mut self) {
         if let Some(key) = self.idle.pop_oldest() {
-            let _ = self.forget(key);
+            self.forget(key);
         }
     }
 

@@ -7,7 +7,7 @@
 //! (`Link::begin`).
 
 use crate::connections::{Connections, earlier};
-use crate::link::{Link, Turn};
+use crate::link::{Link, Reusable, Turn};
 use crate::opening::{System, open};
 use crate::room::Room;
 use crate::settings::FetchThreadSettings;
@@ -197,17 +197,21 @@ impl<'a, S: Source> Fetcher<'a, S> {
         self.start(system, under.put_off(due))
     }
 
-    // Keeps a connection for another value, in the place of an older one where too many are kept, or lets it go.
-    fn release(&mut self, key: usize, reusable: bool) {
-        if !reusable || self.settings.fetch.connection_for_each {
-            let _ = self.connections.forget(key);
-            return;
-        }
+    // Keeps a connection for another value, in the place of an older one where too many are kept.
+    fn keep(&mut self, key: usize, reusable: Reusable) {
         // Before it is kept itself, so that it is not the one that goes.
         if self.connections.len().saturating_sub(self.shares.total()) > self.settings.under_way {
             self.connections.forget_oldest();
         }
-        self.connections.keep(key);
+        self.connections.keep(key, reusable);
+    }
+
+    // Keeps a connection whose value is done, or lets it go.
+    fn release(&mut self, key: usize, reusable: Option<Reusable>) {
+        match reusable {
+            Some(reusable) if !self.settings.fetch.connection_for_each => self.keep(key, reusable),
+            _ => self.connections.forget(key),
+        }
     }
 
     // Tries the next address of the endpoint of a value.
@@ -243,7 +247,7 @@ impl<'a, S: Source> Fetcher<'a, S> {
         under: UnderWay<'a, S>,
         failure: Failure,
     ) -> Option<Done<'a, S>> {
-        let was_kept = self.connections.forget(key);
+        let was_kept = self.connections.forget_cut(key);
         match failure {
             Failure::Fetch(fault) => Some(under.done(Err(fault))),
             Failure::Silent if was_kept => self.ask_again(system, under),

@@ -2,7 +2,7 @@
 //!
 //! It promises that a value stays on its connection from one turn to the next, or is given back with its own job, and that only a
 //! value of the endpoint with whose number the connection began is asked for on it.
-ghost use Rattle.std.specs.Prelude.{◌≡◌, IfSome, Some};
+ghost use Rattle.std.specs.Prelude.{◌≡◌, IfSome, IsSome, IsTrue, Some};
 ghost use Rattle.std.proofs.Props.{props};
 ghost use Rattle.peer_fetch.specs.Turns.{IsTurnOf};
 ghost use Rattle.peer_value.specs.UnderWays.{number_of};
@@ -17,6 +17,13 @@ use peer_value::{Answer, Done, UnderWay};
 use std::io::ErrorKind;
 use std::time::Duration;
 
+/// That another request may follow on a connection. Its turn alone says so.
+#[derive(Drop)]
+pub struct Reusable {
+    // No other module makes one.
+    private: (),
+}
+
 /// How a connection stands after its turn.
 #[derive(Drop)]
 pub enum Turn<'a, S: Source> {
@@ -26,8 +33,8 @@ pub enum Turn<'a, S: Source> {
     Busy,
     /// No value is under way, and it cannot be used again.
     Gone,
-    /// The value is done, and whether another one may be asked for on the connection.
-    Done(Done<'a, S>, bool),
+    /// The value is done. Another one may be asked for on the connection where that is said.
+    Done(Done<'a, S>, Option<Reusable>),
     /// There is no connection to the address.
     Unconnected(UnderWay<'a, S>),
     /// The connection ended, or failed, before the value was there.
@@ -59,6 +66,17 @@ enum Connecting {
     Connected,
     Waits,
     Failed,
+}
+
+// That another request may follow, where it may.
+fn reusable_if(may_follow: bool) -> Option<Reusable>
+    ensures { IsSome result → IsTrue may_follow }
+{
+    if may_follow {
+        Some(Reusable { private: () })
+    } else {
+        None
+    }
 }
 
 // How far a stream is that began to connect.
@@ -156,7 +174,8 @@ impl<'a, S: Source> Link<'a, S> {
             None => match receive(&mut self.stream, &mut under, buffer, &mut self.readiness) {
                 Ok(answer) => {
                     let Answer { value, keeps } = answer;
-                    return Turn::Done(under.done(value), keeps && !self.readiness.read_closed);
+                    let reusable = reusable_if(keeps && !self.readiness.read_closed);
+                    return Turn::Done(under.done(value), reusable);
                 }
                 Err(halt) => halt,
             },
@@ -207,7 +226,7 @@ impl<'a, S: Source> Link<'a, S> {
             };
         };
         if under.due() <= now {
-            return Turn::Done(under.done(Err(FetchFault::Late)), false);
+            return Turn::Done(under.done(Err(FetchFault::Late)), None);
         }
         match self.connect(now) {
             Connecting::Connected => self.exchange(under, buffer),

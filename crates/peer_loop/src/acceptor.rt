@@ -6,8 +6,8 @@
 use crate::listening::Listening;
 use crate::stop::Stop;
 use mio::net::TcpStream;
-use peer_clients::Site;
 use peer_host::Host;
+use peer_site::Site;
 use std::io::ErrorKind;
 use std::thread;
 

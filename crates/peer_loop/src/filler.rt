@@ -4,11 +4,11 @@ ghost use Rattle.peer_fill.specs.Pools.{source_of, IsFillSeatOf};
 ghost use Rattle.peer_fill.specs.Seats.{fill_parts};
 ghost use Rattle.peer_fetch.specs.Threads.{Allows};
 
-use peer_clients::FillGate;
 use peer_fetch::{FetchParts, FetchPlan, FetchThread};
 use peer_fill::{FillSeat, Pool};
 use peer_host::Network;
 use peer_poll::{OwnWaker, PollWakers};
+use peer_site::FillGate;
 use peer_source::Source;
 use std::alloc::Global;
 use std::sync::ledger::Ledger;

@@ -4,9 +4,10 @@ ghost use Rattle.std.specs.Prelude.{◌≡◌, IfSome};
 use crate::listening::Listening;
 use crate::settings::Orders;
 use crate::work::{FillerParts, ThreadParts};
-use peer_clients::{LoopParts, Mailboxes, Occupancy};
+use peer_clients::LoopParts;
 use peer_fetch::FetchParts;
 use peer_poll::PollWakers;
+use peer_site::{Mailboxes, Occupancy};
 use std::alloc::Global;
 use std::net::{Net, TcpListener};
 

@@ -2,9 +2,10 @@
 
 use crate::filler::Fetcher;
 use crate::fillers::Fillers;
-use peer_clients::{FillGate, LoopParts, Site};
+use peer_clients::LoopParts;
 use peer_fetch::{FetchParts, FetchPlan};
 use peer_fill::{FillSeat, Seats};
+use peer_site::{FillGate, Site};
 use peer_source::Source;
 use std::sync::ledger::Ledger;
 

@@ -1,5 +1,6 @@
 //! A value under way, or one that waits to be: a job, the numbered endpoint of its origin, and the fetch.
-ghost use Rattle.std.specs.Prelude.{◌≡◌, ◌+◌, ◌≤◌, ◌↔◌, ◌⊎◌, ◌++◌, [], ◌∷◌, false, length, true, IfErr, IfOk, IfSome, IsTrue, Some, drop};
+ghost use Rattle.std.specs.Prelude.{◌≡◌, ◌+◌, ◌≤◌, ◌↔◌, ◌⊎◌, ◌++◌, [], ◌∷◌, Some, false, true, drop, length};
+ghost use Rattle.std.specs.Prelude.{IfErr, IfOk, IfSome, IsErr, IsTrue};
 ghost use Rattle.peer_origin.specs.declared.exchange.Failure.TheVariants as fail;
 ghost use Rattle.peer_origin.specs.declared.fault.FetchFault.TheVariants as fault;
 ghost use Rattle.peer_value.specs.Fetchings.{request_at, use_by};
@@ -36,7 +37,7 @@ impl<'a, S: Source> UnderWay<'a, S> {
     ) -> Result<UnderWay<'a, S>, Done<'a, S>>
         ensures kept { IfOk result (λ u. (u.at ≡ at.entry) × (u.job ≡ job) × (u.due ≡ due)) }
         ensures unused { IfOk result (λ u. uses_of u.fetching ≡ use_by u.fetching.request.items 0 [] false ∷ []) }
-        ensures given_back { IfErr result (λ d. (d.endpoint ≡ at.entry.endpoint) × (d.job ≡ job) × IfOk d.got (λ _. ⊥)) }
+        ensures given_back { IfErr result (λ d. (d.endpoint ≡ at.entry.endpoint) × (d.job ≡ job) × IsErr d.got) }
         ensures refused { IfErr result (λ d. IfErr d.got (λ why. (why ≡ fault.Memory) ⊎ (why ≡ fault.Malformed))) }
     {
         match request(alloc, &at.endpoint.host, &at.endpoint.prefix, job.key()) {
@@ -52,10 +53,10 @@ impl<'a, S: Source> UnderWay<'a, S> {
 
     /// The fetch begins anew, on a new connection, where this may be.
     pub fn again(self, alloc: Global) -> Result<UnderWay<'a, S>, Done<'a, S>>
-        ensures kept { IfOk result (λ u. (u.at ≡ self.entry.at) × (u.job ≡ self.entry.job) × (u.due ≡ self.entry.due)) }
+        ensures kept { IfOk result (HasSameJob self.entry) }
         ensures second { IfOk result (λ u. IsSecondTry self.entry.fetching u.fetching) }
         ensures refused { IfErr result (λ d. IfErr d.got (IsRefusedFor self.entry.fetching)) }
-        ensures given_back { IfErr result (λ d. (d.endpoint ≡ self.entry.at.endpoint) × (d.job ≡ self.entry.job) × IfOk d.got (λ _. ⊥)) }
+        ensures given_back { IfErr result (λ d. IsDoneOf self.entry d × IsErr d.got) }
     {
         let UnderWay {
             at,

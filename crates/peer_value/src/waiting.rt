@@ -1,7 +1,7 @@
 //! The values that wait until another one of their service may be under way.
 //!
 //! It stands on the value of each (`UnderWay`). It promises that those of a service come out in the order in which they came in.
-ghost use Rattle.std.specs.Prelude.{◌≡◌, ◌≢◌, ◌≤◌, ℕ, [], ◌∷◌, ◌++◌, IfErr, IfSome, MatchOption, OnOk, option_map, slice_get};
+ghost use Rattle.std.specs.Prelude.{◌≡◌, ◌≢◌, ◌≤◌, ℕ, [], ◌∷◌, ◌++◌, IfErr, IfNone, IfSome, MatchOption, OnOk, option_map, slice_get};
 ghost use Rattle.peer_origin.specs.declared.fault.FetchFault.TheVariants as fault;
 ghost use Rattle.peer_value.specs.UnderWays.{due_of};
 ghost use Rattle.peer_value.specs.Waitings.{line_of};
@@ -100,6 +100,7 @@ impl<'a, S: Source> Waiting<'a, S> {
     /// Takes out the first that waits for this service.
     pub fn pop(&mut self, service: usize) -> Option<UnderWay<'a, S>>
         ensures first { IfSome result (λ under. line_of self.old service ≡ under ∷ line_of self.new service) }
+        ensures none { IfNone result (line_of self.old service ≡ []) }
         ensures others { (n : ℕ) → n ≢ service → line_of self.new n ≡ line_of self.old n }
     {
         let under = self.lines.get_mut(service)?.pop_front()?;

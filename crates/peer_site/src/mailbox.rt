@@ -16,7 +16,6 @@
 //! the place of the look, the taking of a job in the place of the fill). Streams and the end are told by a wake-up each
 //! time. A loop that fills jobs itself tells itself in the same way, awake. All orders are SeqCst.
 
-use crate::limits::MAX_ARRIVED;
 use crossbeam_queue::ArrayQueue;
 use mio::Poll;
 use mio::net::TcpStream;
@@ -25,6 +24,9 @@ use std::alloc::Global;
 use std::sync::Wait;
 use std::sync::atomic::Ordering::SeqCst;
 use std::sync::atomic::{AtomicBool, AtomicU64};
+
+/// How many streams wait for one loop. The thread that accepts waits where there are more.
+pub const MAX_ARRIVED: usize = 1024;
 
 /// How many slots a word has.
 pub const SLOTS_OF_WORD: usize = 64;
