@@ -1,2 +1,3 @@
+pub mod Fetchers
 pub mod Threads
 pub mod Turns

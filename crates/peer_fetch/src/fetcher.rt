@@ -35,6 +35,9 @@ pub struct Fetcher<'a, S: Source> {
 }
 
 impl<'a, S: Source> Fetcher<'a, S> {
+    ghost use Rattle.std.specs.Prelude.{◌↔◌, IsTrue};
+    ghost use Rattle.peer_fetch.specs.Fetchers.{HasNothing, MayTakeJob};
+
     /// Nothing is under way.
     pub fn new(alloc: Global, settings: FetchThreadSettings, room: Room) -> Fetcher<'a, S> {
         let Room {
@@ -53,12 +56,16 @@ impl<'a, S: Source> Fetcher<'a, S> {
     }
 
     /// Whether another job may be taken.
-    pub fn has_room(&self) -> bool {
+    pub fn has_room(&self) -> bool
+        ensures { IsTrue result ↔ MayTakeJob self.now }
+    {
         !self.shares.is_full() && self.waiting.count() < MAX_WAITING
     }
 
     /// Whether no value is under way, and none waits.
-    pub fn is_empty(&self) -> bool {
+    pub fn is_empty(&self) -> bool
+        ensures { IsTrue result ↔ HasNothing self.now }
+    {
         self.shares.total() == 0 && self.waiting.count() == 0
     }
 
@@ -151,7 +158,9 @@ impl<'a, S: Source> Fetcher<'a, S> {
         system: &System<'_, H>,
         at: Numbered<'a>,
         job: TakenJob<S>,
-    ) -> Option<Done<'a, S>> {
+    ) -> Option<Done<'a, S>>
+        requires { MayTakeJob self.old }
+    {
         let due = self
             .connections
             .now()

@@ -6,6 +6,7 @@ ghost use Rattle.std.specs.Prelude.{IfSome};
 ghost use Rattle.peer_source.specs.Outcomes.{answer_of};
 ghost use Rattle.peer_fill.specs.Pools.{source_of, IsFillSeatOf};
 ghost use Rattle.peer_origin.specs.Origins.{IsOriginAnswer};
+ghost use Rattle.peer_fetch.specs.Fetchers.{MayTakeJob};
 ghost use Rattle.peer_fetch.specs.Threads.{Allows, IsLaterSeat};
 
 use crate::fetcher::Fetcher;
@@ -81,6 +82,7 @@ fn take_job<'a, S: Source, L: Ledger, G: Gate, H: Network>(
 ) -> bool
     requires seat { IsFillSeatOf jobs.now.pool.now seat.old }
     requires answers { Allows (S.answers (source_of jobs.now.pool.now)) jobs.now.plan }
+    requires room { MayTakeJob fetcher.old }
     ensures { IsLaterSeat jobs.now.pool.now seat.old seat.new }
 {
     let Some(job) = jobs.pool.take_job(system.rt, seat, jobs.gate) else {

@@ -4,8 +4,9 @@
 //! once more behind saying that it falls asleep. Where it has no room for another value it does not say so, and need not be
 //! woken: it looks for jobs once one is done or given up. Where that last look filled it, who pushed may have found it asleep and woken
 //! it for a job that it cannot take; then it wakes another thread.
-ghost use Rattle.std.specs.Prelude.{◌≡◌};
+ghost use Rattle.std.specs.Prelude.{◌≡◌, IsTrue};
 ghost use Rattle.peer_fill.specs.Pools.{source_of, IsFillSeatOf};
+ghost use Rattle.peer_fetch.specs.Fetchers.{HasNothing};
 ghost use Rattle.peer_fetch.specs.Threads.{Allows, IsLaterSeat};
 
 use crate::fetcher::Fetcher;
@@ -92,7 +93,8 @@ fn work_on<'a, S: Source, L: Ledger, G: Gate, H: Network>(
 ) -> bool
     requires seat { IsFillSeatOf jobs.now.pool.now seat.old }
     requires answers { Allows (S.answers (source_of jobs.now.pool.now)) jobs.now.plan }
-    ensures { IsLaterSeat jobs.now.pool.now seat.old seat.new }
+    ensures seat { IsLaterSeat jobs.now.pool.now seat.old seat.new }
+    ensures done { IsTrue result → HasNothing fetcher.new }
 {
     let stopping = waker.own.is_closed();
     let took = take_jobs(system, jobs, seat, fetcher);
@@ -191,7 +193,8 @@ impl<'a, S: Source> Running<'a, S> {
     ) -> bool
         requires seat { IsFillSeatOf jobs.now.pool.now seat.old }
         requires answers { Allows (S.answers (source_of jobs.now.pool.now)) jobs.now.plan }
-        ensures { IsLaterSeat jobs.now.pool.now seat.old seat.new }
+        ensures seat { IsLaterSeat jobs.now.pool.now seat.old seat.new }
+        ensures done { IsTrue result → HasNothing self.new.fetcher }
     {
         let system = System {
             rt,
@@ -215,7 +218,8 @@ impl<'a, S: Source> Running<'a, S> {
     )
         requires seat { IsFillSeatOf jobs.now.pool.now seat.old }
         requires answers { Allows (S.answers (source_of jobs.now.pool.now)) jobs.now.plan }
-        ensures { IsLaterSeat jobs.now.pool.now seat.old seat.new }
+        ensures seat { IsLaterSeat jobs.now.pool.now seat.old seat.new }
+        ensures done { HasNothing self.new.fetcher }
     {
         let begun = Instant::now(rt).ok();
         for _ in rt.forever() {

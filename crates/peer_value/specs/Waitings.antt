@@ -1,5 +1,5 @@
 -- The values that wait until another one of their service may be under way.
-use Rattle.std.specs.Prelude.{ℕ, List, [], option_map, unwrap_or, slice_get}
+use Rattle.std.specs.Prelude.{ℕ, List, [], length, option_map, sum_by, unwrap_or, slice_get}
 use Rattle.std.specs.VecDeque.{deque_items}
 use Rattle.peer_source.specs.declared.source.Source as Source
 use Rattle.peer_value.specs.declared.under_way.UnderWay.{UnderWay}
@@ -13,3 +13,7 @@ module _ {S : Type 0} {g : Source.Ghosts S} where
   -- those that wait for a service, each behind those that came before it
   abbrev pub line_of : Waiting S g → ℕ → List (UnderWay S g)
   line_of w service = line_in deque_items w.lines.items service
+
+  -- how many wait for all services
+  abbrev pub count_of : Waiting S g → ℕ
+  count_of w = sum_by (λ line. length (deque_items line)) w.lines.items

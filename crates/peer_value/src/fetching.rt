@@ -5,7 +5,8 @@
 //! reply with status 200, on bytes that came on a connection on which the whole request was sent, that two requests are
 //! sent at most, the second behind a connection on which nothing came, and that a connection may be asked again only where all
 //! that came on it is one reply.
-ghost use Rattle.std.specs.Prelude.{◌≡◌, ◌+◌, ◌≤◌, ◌↔◌, ◌++◌, [], drop, false, length, true, IfOk, IfSome, IsTrue, None};
+ghost use Rattle.std.specs.Prelude.{◌≡◌, ◌≢◌, ◌+◌, ◌≤◌, ◌↔◌, ◌++◌, [], drop, false, length, true};
+ghost use Rattle.std.specs.Prelude.{Err, IfOk, IfSome, IsFalse, IsTrue, None};
 ghost use Rattle.peer_view.specs.Sinks.{MAX_VALUE};
 ghost use Rattle.peer_http.specs.Requests.{Awaits};
 ghost use Rattle.peer_origin.specs.declared.exchange.Failure.TheVariants as fail;
@@ -127,6 +128,7 @@ impl Fetching {
         ensures came { self.new.receiving.came.bytes ≡ self.old.receiving.came.bytes ++ bytes.now }
         ensures ended { self.new.ended ≡ self.old.ended }
         ensures answer { IfOk result (λ given. IfSome given (IsAnswerOf self.new)) }
+        ensures silent { result ≢ Err fail.Silent }
     {
         match self.receiving.receive(bytes) {
             Ok(Some(reply)) => Ok(Some(answer_of(reply))),
@@ -142,6 +144,7 @@ impl Fetching {
         ensures came { self.new.receiving.came.bytes ≡ self.old.receiving.came.bytes }
         ensures ended { self.new.ended ≡ true }
         ensures answer { IfOk result (IsAnswerOf self.new) }
+        ensures silent { result ≡ Err fail.Silent → self.new.receiving.came.bytes ≡ [] }
     {
         self.ended = true;
         match self.receiving.end() {
@@ -164,6 +167,7 @@ impl Fetching {
         ensures request { self.new.request.items ≡ self.old.request.items }
         ensures whether { IsTrue result ↔ MayGoOnAnew self.old }
         ensures uses { IsTrue result → GoesOnAnew self.old.request.items (uses_of self.old) (uses_of self.new) }
+        ensures kept { IsFalse result → self.new ≡ self.old }
     {
         if self.first.is_some() || !self.receiving.is_silent() {
             return false;

@@ -1,6 +1,6 @@
 //! A value under way, or one that waits to be: a job, the numbered endpoint of its origin, and the fetch.
-ghost use Rattle.std.specs.Prelude.{◌≡◌, ◌+◌, ◌≤◌, ◌↔◌, ◌⊎◌, ◌++◌, [], ◌∷◌, Some, false, true, drop, length};
-ghost use Rattle.std.specs.Prelude.{IfErr, IfOk, IfSome, IsErr, IsTrue};
+ghost use Rattle.std.specs.Prelude.{◌≡◌, ◌≢◌, ◌+◌, ◌≤◌, ◌↔◌, ◌⊎◌, ◌++◌, [], ◌∷◌, Some, false, true, drop, length};
+ghost use Rattle.std.specs.Prelude.{Err, IfErr, IfOk, IfSome, IsErr, IsTrue};
 ghost use Rattle.peer_origin.specs.declared.exchange.Failure.TheVariants as fail;
 ghost use Rattle.peer_origin.specs.declared.fault.FetchFault.TheVariants as fault;
 ghost use Rattle.peer_value.specs.Fetchings.{request_at, use_by};
@@ -155,6 +155,7 @@ impl<'a, S: Source> UnderWay<'a, S> {
         ensures came { self.new.fetching.receiving.came.bytes ≡ self.old.fetching.receiving.came.bytes ++ bytes.now }
         ensures ended { self.new.fetching.ended ≡ self.old.fetching.ended }
         ensures answer { IfOk result (λ given. IfSome given (IsAnswerTo self.new)) }
+        ensures silent { result ≢ Err fail.Silent }
     {
         self.fetching.receive(bytes)
     }
@@ -167,6 +168,7 @@ impl<'a, S: Source> UnderWay<'a, S> {
         ensures came { self.new.fetching.receiving.came.bytes ≡ self.old.fetching.receiving.came.bytes }
         ensures ended { self.new.fetching.ended ≡ true }
         ensures answer { IfOk result (IsAnswerTo self.new) }
+        ensures silent { result ≡ Err fail.Silent → self.new.fetching.receiving.came.bytes ≡ [] }
     {
         self.fetching.end()
     }

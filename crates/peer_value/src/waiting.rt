@@ -1,10 +1,10 @@
 //! The values that wait until another one of their service may be under way.
 //!
 //! It stands on the value of each (`UnderWay`). It promises that those of a service come out in the order in which they came in.
-ghost use Rattle.std.specs.Prelude.{◌≡◌, ◌≢◌, ◌≤◌, ℕ, [], ◌∷◌, ◌++◌, IfErr, IfNone, IfSome, MatchOption, OnOk, option_map, slice_get};
+ghost use Rattle.std.specs.Prelude.{◌≡◌, ◌≢◌, ◌≤◌, ◌-◌, ◌^◌, ℕ, [], ◌∷◌, ◌++◌, min, IfErr, IfNone, IfSome, MatchOption, OnOk, option_map, slice_get};
 ghost use Rattle.peer_origin.specs.declared.fault.FetchFault.TheVariants as fault;
 ghost use Rattle.peer_value.specs.UnderWays.{due_of};
-ghost use Rattle.peer_value.specs.Waitings.{line_of};
+ghost use Rattle.peer_value.specs.Waitings.{count_of, line_of};
 
 use crate::done::Done;
 use crate::under_way::UnderWay;
@@ -20,7 +20,6 @@ pub struct Waiting<'a, S: Source> {
     alloc: Global,
     // Of each service, by its number, those that wait, the one that waits longest first.
     lines: Vec<VecDeque<UnderWay<'a, S>>>,
-    count: usize,
 }
 
 impl<'a, S: Source> Waiting<'a, S> {
@@ -31,13 +30,18 @@ impl<'a, S: Source> Waiting<'a, S> {
         Waiting {
             alloc,
             lines: Vec::new(alloc),
-            count: 0,
         }
     }
 
-    /// How many wait.
-    pub fn count(&self) -> usize {
-        self.count
+    /// How many wait, 2^64 - 1 at most.
+    pub fn count(&self) -> usize
+        ensures { result ≡ min (count_of self.now) (2 ^ 64 - 1) }
+    {
+        let mut count = 0usize;
+        for line in &self.lines {
+            count = count.saturating_add(line.len());
+        }
+        count
     }
 
     /// The number above those of all services for which one may wait.
@@ -81,7 +85,6 @@ impl<'a, S: Source> Waiting<'a, S> {
             return Err(under);
         }
         line.push_back_reserved(under);
-        self.count = self.count.saturating_add(1);
         Ok(())
     }
 
@@ -104,7 +107,6 @@ impl<'a, S: Source> Waiting<'a, S> {
         ensures others { (n : ℕ) → n ≢ service → line_of self.new n ≡ line_of self.old n }
     {
         let under = self.lines.get_mut(service)?.pop_front()?;
-        self.count = self.count.saturating_sub(1);
         Some(under)
     }
 }

@@ -1,0 +1,14 @@
+-- What a thread that fetches has under way, and what waits in it.
+use Rattle.std.specs.Prelude.{◌≡◌, ◌<◌}
+use Rattle.peer_source.specs.declared.source.Source as Source
+use Rattle.peer_value.specs.Waitings.{count_of}
+use Rattle.peer_fetch.specs.declared.fetcher.Fetcher.{Fetcher}
+
+module _ {S : Type 0} {g : Source.Ghosts S} where
+  -- another job may be taken: fewer values are under way than may be, and fewer than 4,096 wait
+  abbrev pub MayTakeJob : Fetcher S g → Type 0
+  MayTakeJob f = (f.shares.total < f.shares.most) × (count_of f.waiting < 4096)
+
+  -- no value is under way, and none waits
+  abbrev pub HasNothing : Fetcher S g → Type 0
+  HasNothing f = (f.shares.total ≡ 0) × (count_of f.waiting ≡ 0)
