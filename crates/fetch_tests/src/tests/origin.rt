@@ -184,6 +184,8 @@ pub fn serve<H: Clock>(rt: &H, alloc: Global, listener: TcpListener, hold: usize
         let _ = told.open.fetch_max(open, SeqCst);
         held &= open < hold;
         if !held && reply_all(rt, alloc, &mut callers) {
+            // First: a caller whose connection has ended could else connect once more.
+            drop(listener);
             return;
         }
         thread::sleep(rt, Duration::from_millis(1));
