@@ -97,9 +97,7 @@ impl<'a, S: Source, F: Facts<S>> Clients<'a, S, F> {
 
     /// Takes a client off the list of those that wait for a fill.
     pub fn unlist(&mut self, key: usize) {
-        if self.waiting.slot(key).is_some() {
-            self.waiting.remove(key);
-        }
+        self.waiting.remove(key);
     }
 
     /// Lists a client as one that waits for a fill, at the slot of its flight.

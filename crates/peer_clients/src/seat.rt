@@ -46,13 +46,16 @@ pub enum Progress {
 }
 
 impl Progress {
-    // What became of them, by what `ask_held` said, where the first ticket waits for a fill or does not.
-    fn of(rest: Rest, waits: bool) -> Progress {
-        if rest.job {
+    // What became of them, by what `ask_held` said, by what stands behind the answers, and by whether the first ticket waits
+    // for a fill. Where no more could be judged before the answers, and more can now, they have made room.
+    fn of(asked: Rest, now: Rest, waits: bool) -> Progress {
+        if asked.job {
             Progress::NoRoom
-        } else if rest.bytes {
+        } else if asked.bytes {
             Progress::Done
-        } else if !rest.fill {
+        } else if now.bytes {
+            Progress::More
+        } else if !asked.fill {
             Progress::Unsent
         } else if waits {
             Progress::Done
@@ -80,7 +83,7 @@ impl<'a, S: Source, L: Ledger, F: Facts<S>> LoopSeat<'a, S, L, F> {
         ensures pool { self.new.pool.now ≡ self.old.pool.now }
         ensures parts { KeepsParts self.old.seats self.new.seats }
     {
-        let Ok(rest) = exchange.ask_held(rt, self.pool, &mut self.seats.conn) else {
+        let Ok(asked) = exchange.ask_held(rt, self.pool, &mut self.seats.conn) else {
             return Progress::Done;
         };
         if exchange
@@ -89,7 +92,7 @@ impl<'a, S: Source, L: Ledger, F: Facts<S>> LoopSeat<'a, S, L, F> {
         {
             return Progress::Done;
         }
-        Progress::of(rest, exchange.awaits().is_some())
+        Progress::of(asked, exchange.rest(), exchange.awaits().is_some())
     }
 
     /// Puts the replies whose fills are there, and asks for nothing more.

@@ -5,15 +5,17 @@
 use peer_site::SLOTS;
 use std::alloc::{AllocError, Global};
 
-// Where a client is listed, and who is listed behind it.
+// Where a client is listed, who is listed before it, and who behind it.
 #[derive(Clone, Copy)]
 struct Entry {
     slot: Option<usize>,
+    before: Option<usize>,
     next: Option<usize>,
 }
 
 const UNLISTED: Entry = Entry {
     slot: None,
+    before: None,
     next: None,
 };
 
@@ -60,38 +62,23 @@ impl WaitLists {
         else {
             return;
         };
-        entry.slot = Some(slot);
-        entry.next = first.replace(key);
+        let next = first.replace(key);
+        *entry = Entry {
+            slot: Some(slot),
+            before: None,
+            next,
+        };
+        if let Some(entry) = next.and_then(|next| self.entries.get_mut(next)) {
+            entry.before = Some(key);
+        }
         self.count = self.count.saturating_add(1);
     }
 
     /// Takes one client off the list of the slot.
     pub fn pop(&mut self, slot: usize) -> Option<usize> {
-        let first = self.first.get_mut(slot)?;
-        let key = (*first)?;
-        let entry = self.entries.get_mut(key)?;
-        *first = entry.next;
-        *entry = UNLISTED;
-        self.count = self.count.saturating_sub(1);
+        let key = (*self.first.get(slot)?)?;
+        self.remove(key);
         Some(key)
-    }
-
-    // Has the one before this client, on the list of the slot, point to `next`.
-    fn unlink(&mut self, slot: usize, key: usize, next: Option<usize>) {
-        let mut at = match self.first.get(slot) {
-            Some(first) => *first,
-            None => None,
-        };
-        for _ in 0..self.entries.len() {
-            let Some(before) = at.and_then(|before| self.entries.get_mut(before)) else {
-                return;
-            };
-            if before.next == Some(key) {
-                before.next = next;
-                return;
-            }
-            at = before.next;
-        }
     }
 
     /// Takes one client off its list.
@@ -99,15 +86,22 @@ impl WaitLists {
         let Some(
             Entry {
                 slot: Some(slot),
+                before,
                 next,
             },
         ) = self.entries.get(key).copied()
         else {
             return;
         };
-        match self.first.get_mut(slot) {
-            Some(first) if *first == Some(key) => *first = next,
-            _ => self.unlink(slot, key, next),
+        if let Some(before) = before {
+            if let Some(entry) = self.entries.get_mut(before) {
+                entry.next = next;
+            }
+        } else if let Some(first) = self.first.get_mut(slot) {
+            *first = next;
+        }
+        if let Some(entry) = next.and_then(|next| self.entries.get_mut(next)) {
+            entry.before = before;
         }
         if let Some(entry) = self.entries.get_mut(key) {
             *entry = UNLISTED;

@@ -1,6 +1,6 @@
-//! Clients that wait for their values for longer than one may be silent.
+//! Clients that wait for their values: for longer than one may be silent, and beside one that goes away.
 
-use super::clients::{connect, send};
+use super::clients::{connect, is_served, send};
 use super::loop_servers::{Outside, beside_loops, settings_of};
 use super::plans::{patient, plan_of};
 use super::servers::has_asked;
@@ -13,6 +13,7 @@ use std::sync::atomic::Ordering::SeqCst;
 use std::test::Fail;
 use std::thread;
 use std::time::{Clock, Duration};
+use stream_model::ASK_K;
 use test_support::Hooked;
 
 // How many values a client waits for, one after the other.
@@ -25,9 +26,14 @@ fn is_answered_late<H: Clock>(rt: &H, stream: &TcpStream, call: &Call) -> bool {
     let asked = send(stream, ASK_SLOW) && await_call(rt, &call.called);
     thread::sleep(rt, Duration::from_millis(1200));
     call.open.store(true, SeqCst);
+    asked && has_value(stream)
+}
+
+// Whether a client gets its value.
+fn has_value(stream: &TcpStream) -> bool {
     let mut reader = stream;
     let mut reply = [0; 82];
-    asked && reader.read_exact(&mut reply).is_ok() && reply.as_slice() == FOUND_SLOW
+    reader.read_exact(&mut reply).is_ok() && reply.as_slice() == FOUND_SLOW
 }
 
 // Whether a client gets all its values.
@@ -62,5 +68,56 @@ fn a_client_that_waits_is_not_silent(rt: HostRuntime) -> Result<(), Fail> {
     })?;
     assert!(rt; answered);
     assert!(rt; has_asked(&report, VALUES));
+    Ok(())
+}
+
+// Has a client wait for its value with all but a byte of another reply unread, so that it resets its connection as it goes.
+fn waits_with_a_reply_unread(stream: &TcpStream) -> bool {
+    let mut reader = stream;
+    send(stream, ASK_K) && reader.read_exact(&mut [0]).is_ok() && send(stream, ASK_SLOW)
+}
+
+// Whether two of three clients get the value for which all wait, where the one between them resets its connection. That this
+// was let go is seen by three more, for whom there was no room.
+fn others_have_it<H: AllocGlobal + Net<Listener = TcpListener, Stream = TcpStream> + Wait + Clock>(
+    rt: &H,
+    address: SocketAddr,
+    call: &Call,
+) -> bool {
+    let (Some(first), Some(second), Some(third)) = (
+        connect(rt, address),
+        connect(rt, address),
+        connect(rt, address),
+    ) else {
+        return false;
+    };
+    let asked = send(&first, ASK_SLOW)
+        && await_call(rt, &call.called)
+        && waits_with_a_reply_unread(&second)
+        && send(&third, ASK_SLOW);
+    // By then the three are listed.
+    thread::sleep(rt, Duration::from_millis(50));
+    drop(second);
+    let let_go = asked && (0..3).all(|_| is_served(rt, address));
+    call.open.store(true, SeqCst);
+    let_go && has_value(&first) && has_value(&third)
+}
+
+#[test]
+fn a_client_that_waits_resets_between_others(rt: HostRuntime) -> Result<(), Fail> {
+    let call = Call::new();
+    let outside = Outside::new();
+    let plan = plan_of(&rt, 2, 3, 2)?;
+    let settings = settings_of(&outside, &plan);
+    let source = Hooked {
+        hook: Slow { call: &call },
+    };
+    let (report, answered) = beside_loops(&rt, source, &settings, |address| {
+        let answered = others_have_it(&rt, address, &call);
+        call.open.store(true, SeqCst);
+        answered
+    })?;
+    assert!(rt; answered);
+    assert!(rt; has_asked(&report, 7));
     Ok(())
 }
