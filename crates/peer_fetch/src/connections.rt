@@ -1,8 +1,8 @@
 //! The connections of one thread: which of them are to have a turn, which are kept, and when something is to be given up next.
 //!
 //! It stands on `Link`, a connection and its value, and on the keys of those that are kept (`Idle`). It promises nothing that
-//! contracts see: a connection is on the list of those that are to have a turn once at most, none that is gone is on a list of
-//! those that are kept, and the time that is told never is too late.
+//! contracts see: none that is gone is on a list of those that are kept, and the time that is told never is too late. A key
+//! stays among those that are to have a turn where its connection is gone: it is passed over, or the next one has its turn.
 ghost use Rattle.std.specs.Prelude.{OnOk};
 ghost use Rattle.slab.specs.Slab.{HasRoomFor};
 
@@ -22,7 +22,7 @@ pub struct Connections<'a, S: Source> {
     links: Slab<Link<'a, S>>,
     // Those that may be used again.
     idle: Idle,
-    // Those that are to have a turn, each once.
+    // Those that are to have a turn.
     ready: VecDeque<usize>,
     // The time since the thread began, as it was when it last waited.
     now: Duration,
@@ -57,11 +57,6 @@ impl<'a, S: Source> Connections<'a, S> {
     }
 
     /// The connection under a key.
-    pub fn get(&self, key: usize) -> Option<&Link<'a, S>> {
-        self.links.get(key)
-    }
-
-    /// The same, to be changed.
     pub fn get_mut(&mut self, key: usize) -> Option<&mut Link<'a, S>> {
         self.links.get_mut(key)
     }

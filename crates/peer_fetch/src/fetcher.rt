@@ -20,7 +20,7 @@ use peer_value::{Done, Numbered, Shares, UnderWay, Waiting};
 use std::alloc::Global;
 use std::time::Duration;
 
-// How many values may wait. Each key that waits is fetched in the end, whatever its clients hold by then.
+// How many values may wait. Each key that waits is fetched in the end, or is late, whatever its clients hold by then.
 const MAX_WAITING: usize = 4096;
 
 /// The values that are under way, and those that wait.
