@@ -17,7 +17,7 @@ mod table;
 mod troubles;
 mod until_eof;
 
-use crate::exit::{BAD_WORD, DONE, Exit, OUT_OF_MEMORY};
+use crate::exit::{BAD_WORD, DONE, Exit, OUT_OF_MEMORY, refuse};
 use crate::serve::{check_flags, serve};
 use clap::ArgMatches;
 use peer_flags::{Options, command};
@@ -63,10 +63,7 @@ where
 {
     let options = match Options::of(matches) {
         Ok(options) => options,
-        Err(bad) => {
-            let _ = eprintln!(rt; "peer_front: {bad}");
-            return BAD_WORD;
-        }
+        Err(bad) => return refuse(rt, &bad, BAD_WORD),
     };
     let words = matches.get_strs("GROUP=URL").unwrap_or(&[]);
     match check_flags(rt, &options, !words.is_empty()) {
@@ -77,6 +74,5 @@ where
 
 // Says that memory was refused.
 fn out_of_memory(rt: &HostRuntime) -> Exit {
-    let _ = eprintln!(rt; "peer_front: out of memory");
-    OUT_OF_MEMORY
+    refuse(rt, &"out of memory", OUT_OF_MEMORY)
 }

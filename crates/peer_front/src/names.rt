@@ -15,6 +15,17 @@ pub fn has_names(endpoints: &[Endpoint]) -> bool {
         .any(|endpoint| endpoint.addresses.has_name())
 }
 
+// Looks the name of an endpoint up again, unless one of those before it is at the same host, whose addresses it shares.
+fn look_up<H: AllocGlobal + Network>(rt: &H, endpoints: &[Endpoint], number: usize) {
+    let Some(endpoint) = endpoints.get(number) else {
+        return;
+    };
+    let mut before = endpoints.iter().take(number);
+    if !before.any(|other| other.host == endpoint.host) {
+        endpoint.addresses.look_up_again(rt, rt.alloc());
+    }
+}
+
 /// Looks the names up again and again, until the end is told.
 pub fn look_up_names<H: AllocGlobal + Network>(rt: &H, endpoints: &[Endpoint], end: &End) {
     for _ in rt.forever() {
@@ -22,11 +33,11 @@ pub fn look_up_names<H: AllocGlobal + Network>(rt: &H, endpoints: &[Endpoint], e
         if end.is_told() {
             return;
         }
-        for endpoint in endpoints {
+        for number in 0..endpoints.len() {
             if end.is_told() {
                 return;
             }
-            endpoint.addresses.look_up_again(rt, rt.alloc());
+            look_up(rt, endpoints, number);
         }
     }
     unreachable!()

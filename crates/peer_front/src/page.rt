@@ -1,6 +1,6 @@
 //! The page of counters, where one is asked for.
 
-use crate::exit::{CANNOT_BIND, Exit, OUT_OF_MEMORY};
+use crate::exit::{CANNOT_BIND, Exit, OUT_OF_MEMORY, refuse};
 use peer_flags::{Options, PageAddress};
 use peer_stats::{StatsEnd, StatsServer, open_stats};
 use std::hash::RandomState;
@@ -46,9 +46,6 @@ pub fn page_of<H: AllocGlobal + Eprint + Net<Listener = TcpListener, Stream = Tc
             let _ = eprintln!(rt; "peer_front: serves /metrics and /healthz at {address}");
             Ok(Some(Page { server, end }))
         }
-        None => {
-            let _ = eprintln!(rt; "peer_front: out of memory");
-            Err(OUT_OF_MEMORY)
-        }
+        None => Err(refuse(rt, &"out of memory", OUT_OF_MEMORY)),
     }
 }

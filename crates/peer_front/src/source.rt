@@ -51,9 +51,7 @@ fn first_twice<'w>(
 // Whether the table has a group for demonstrations.
 fn has_demo_group(table: &Option<TableSource>) -> bool {
     match table {
-        Some(table) => DEMO_GROUPS
-            .iter()
-            .any(|name| table.group(name.as_bytes()).is_some()),
+        Some(table) => first_in(table, &DEMO_GROUPS).is_some(),
         None => false,
     }
 }

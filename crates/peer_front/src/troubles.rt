@@ -23,7 +23,7 @@ fn tell_all<H: AllocGlobal + Eprint>(rt: &H, before: &Counts, now: &Counts) {
     let (old, new) = (before.failures, now.failures);
     tell(rt, "origins not reached", old.unreached, new.unreached);
     tell(rt, "origins too late", old.late, new.late);
-    tell(rt, "origins that ended within a reply", old.lost, new.lost);
+    tell(rt, "origins that closed the connection", old.lost, new.lost);
     tell(rt, "origins with bad replies", old.malformed, new.malformed);
     tell(
         rt,

@@ -63,13 +63,18 @@ fn origin_of<H: Net<Listener = TcpListener, Stream = TcpStream>>(
     }
 }
 
-// Puts an origin behind the others, of which none has its name.
-fn push_origin(origins: &mut Vec<Origin>, origin: Origin) -> Result<(), GroupFault> {
+// Puts an origin behind the others, of which none has its name. It shares the addresses of those at its host.
+fn push_origin(origins: &mut Vec<Origin>, mut origin: Origin) -> Result<(), GroupFault> {
     if origins.iter().any(|other| other.has_name_of(&origin)) {
         return Err(GroupFault::Repeated);
     }
     if origins.len() >= MAX_GROUPS {
         return Err(GroupFault::Groups);
+    }
+    for other in origins.iter() {
+        if origin.share_addresses(other).is_err() {
+            return Err(GroupFault::Memory);
+        }
     }
     match origins.push(origin) {
         Ok(()) => Ok(()),

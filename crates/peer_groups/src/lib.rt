@@ -1,7 +1,7 @@
 //! The groups that `peer_front` serves: those of a table, of services and of the demonstration beside one another, and
 //! where threads of their own fetch the values of services.
 //!
-//! It stands on the sources of `peer_table`, `peer_origin` and `peer_source`, and on the endpoints of `peer_fetch`. It
+//! It stands on the sources of `peer_table`, `peer_origin` and `peer_source`, and on the endpoints of `peer_value`. It
 //! promises that a group answers as the source that has it, and that threads fetch only for groups of services.
 #![tactic(auto)]
 

@@ -1,10 +1,11 @@
 //! The origin of one group.
 ghost use Rattle.std.specs.Prelude.{◌≡◌, bytes_eq};
+ghost use Rattle.peer_origin.specs.Endpoints.{asked_at};
 
 use crate::endpoint::Endpoint;
 use crate::sockets::is_quiet;
 use peer_wait::lock;
-use std::alloc::Global;
+use std::alloc::{AllocError, Global};
 use std::net::TcpStream;
 use std::sync::{Arc, Mutex, Wait};
 
@@ -22,7 +23,8 @@ pub struct Origin {
 impl Origin {
     /// The origin of a group of this name.
     pub fn new(alloc: Global, name: Vec<u8>, endpoint: Endpoint) -> Origin
-        ensures { result.name ≡ name }
+        ensures name { result.name ≡ name }
+        ensures endpoint { result.endpoint ≡ endpoint }
     {
         Origin {
             name,
@@ -36,6 +38,17 @@ impl Origin {
         ensures { result ≡ bytes_eq self.now.name.items other.now.name.items }
     {
         self.name == other.name
+    }
+
+    /// Where both are at one host, it has the addresses of the other one, whose name is then looked up for both at once.
+    pub fn share_addresses(&mut self, other: &Origin) -> Result<(), AllocError>
+        ensures name { self.new.name ≡ self.old.name }
+        ensures asked { asked_at self.new.endpoint ≡ asked_at self.old.endpoint }
+    {
+        if self.endpoint.host == other.endpoint.host {
+            self.endpoint.addresses = Arc::try_clone(&other.endpoint.addresses)?;
+        }
+        Ok(())
     }
 
     /// An idle connection on which nothing came. Others are let go.
