@@ -1,7 +1,7 @@
 //! A peer server for thousands of clients: one thread accepts them, a few serve them in event loops, and others fill.
 //!
 //! It stands on the event loops of `peer_clients`, on the threads that fetch of `peer_fetch`, and on the pool of `peer_fill`.
-//! It promises that the report which a server gives adds up, and for which numbers of threads, connections and groups it
+//! It promises that the report which a server gives adds up, and for which numbers of threads that fill, loops and groups it
 //! refuses to open.
 #![tactic(auto)]
 

@@ -2,9 +2,9 @@
 //!
 //! It stands on the sources of `peer_source`, on the replies of `peer_http`, and on the sockets of std. It promises that
 //! a value which a fetch found is the content of a whole reply with status 200 that came on a connection on which the
-//! request for this very key was sent, and that at most two requests were sent: of connections whose bytes are told, as
-//! those in memory. Sockets tell nothing of theirs. An answer is a value within the limit or one of the texts of
-//! `FetchFault`.
+//! request for this very key was sent, and that at most two requests were sent: of connections whose bytes are told. Sockets
+//! tell nothing of theirs; of a fetch without them `peer_value` says the same. An answer is a value within the limit or one of
+//! the texts of `FetchFault`.
 #![tactic(auto)]
 
 mod addresses;

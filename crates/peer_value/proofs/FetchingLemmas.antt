@@ -1,5 +1,5 @@
 -- What a value is that was found.
-use Rattle.std.proofs.Common.{◌≡◌, ℕ, ◌≤◌, Bool, true, false, List, [], length, take, drop, Option, Some, None, Result, Ok, Err, IfOk, refl, sym, subst, subst₂, arith, append-nil, Vec}
+use Rattle.std.proofs.Common.{◌≡◌, ◌≢◌, ℕ, ◌≤◌, Bool, true, false, List, [], length, take, drop, Option, Some, None, Result, Ok, Err, IfErr, IfOk, refl, sym, subst, subst₂, arith, append-nil, Vec}
 use mathlib.Core.Logic.{∥∥₁_map}
 use Rattle.std.proofs.lemmas.List.{take-append-drop, take_all}
 use Rattle.std.specs.declared.alloc.Global.{Global}
@@ -7,8 +7,10 @@ use Rattle.peer_view.specs.Sinks.{MAX_VALUE}
 use Rattle.peer_http.specs.Replies.{IsReply}
 use Rattle.peer_http.specs.Receivings.{IsStanding}
 use Rattle.peer_origin.specs.declared.fault.FetchFault.{FetchFault}
+use Rattle.peer_origin.specs.declared.fault.FetchFault.TheVariants as fault
 use Rattle.peer_origin.specs.Fetches.{IsTry, Tries, once, twice}
 use Rattle.peer_value.specs.Fetchings.{GoesOnAnew, IsFoundIn, use_by, uses_by}
+use Rattle.peer_value.specs.Values.{IsStatusOf}
 use Rattle.peer_value.specs.declared.fetching.Silence.{Silence}
 
 tries_by : (request : List ℕ) (sent : ℕ) (came : List ℕ) (ended : Bool) → IsTry (Some []) request (use_by request sent came ended)
@@ -63,6 +65,15 @@ module _ (request : List ℕ) (sent : ℕ) (came : List ℕ) (first : Option Sil
       let within' : length v.items ≤ MAX_VALUE = subst (λ x. length x ≤ MAX_VALUE) (sym same) within in
       (within', ∥∥₁_map s (λ h. found_at_end request sent came first v whole within' (subst₂ (IsReply came) ok (sym same) h)))
   answers_at_end (Err f) h s = tt
+
+-- a reply that stands is one
+pub reply_of : (came : List ℕ) (status : ℕ) (content : List ℕ) → ∥ IsStanding came status content ∥₁ → ∥ IsReply came status content ∥₁
+reply_of came status content s = ∥∥₁_map s (λ h. subst (λ t. IsReply t status content) (append-nil came) (h []))
+
+-- there is no value for the status of the reply
+pub status_of : (came : List ℕ) (status : ℕ) (content : List ℕ) (got : Result (Vec ℕ Global) FetchFault) → IfErr got (λ why. (why ≡ fault.Status status) × (status ≢ 200)) → ∥ IsReply came status content ∥₁ → IfErr got (IsStatusOf came)
+status_of came status content (Ok v) h r = tt
+status_of came status content (Err why) (is, other) r = (status, content, is, other, r)
 
 -- a fetch that begins anew
 pub anew : (request : List ℕ) (sent : ℕ) (came : List ℕ) (ended : Bool) (first : Option Silence) (came' : List ℕ) → came ≡ [] → first ≡ None → came' ≡ []

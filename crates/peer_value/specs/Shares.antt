@@ -13,10 +13,12 @@ pub record IsFirstThere (each : List Endpoint) (n service : ℕ) : Type 0 where
   pub first : (m : ℕ) → m < service → host_at each m ≢ host_at each n
 
 -- a service is a host: that of each endpoint is the number of the first endpoint there
-abbrev pub AreServices : List Endpoint → List ℕ → Type 0
-AreServices each services = (n : ℕ) → n < length each → IsSomeAnd (slice_get services n) (IsFirstThere each n)
+pub record AreServices (endpoints : List Endpoint) (services : List ℕ) : Type 0 where
+  pub count : length services ≡ length endpoints
+  pub each : (n : ℕ) → n < length endpoints → IsSomeAnd (slice_get services n) (IsFirstThere endpoints n)
 
--- with so many groups of a source, so many endpoints and the service of each: each group has an endpoint, and all are of one service
+-- with so many groups of a source, so many endpoints and the service of each: there are as many endpoints as groups, and all are of
+-- one service
 abbrev pub IsAlone : ℕ → ℕ → List ℕ → Type 0
 IsAlone groups endpoints services = (groups ≤ endpoints) × All (λ service. service ≡ 0) services
 

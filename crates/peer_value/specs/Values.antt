@@ -1,9 +1,10 @@
 -- What a value is that a fetch found, and what answer it is.
-use Rattle.std.specs.Prelude.{◌≡◌, ◌⊎◌, ◌≤◌, ℕ, List, [], length, Option, Some, None, Vec, IfOk, IsTrue}
+use Rattle.std.specs.Prelude.{◌≡◌, ◌≢◌, ◌⊎◌, ◌≤◌, ℕ, List, [], length, Option, Some, None, Vec, IfErr, IfOk, IsTrue}
 use Rattle.std.specs.declared.alloc.Global.{Global}
 use Rattle.peer_origin.specs.Fetches.{Use}
 use Rattle.peer_origin.specs.declared.fault.FetchFault.{FetchFault}
 use Rattle.peer_origin.specs.declared.fault.FetchFault.TheVariants as fault
+use Rattle.peer_http.specs.Replies.{IsReply}
 use Rattle.peer_source.specs.Answers.{Answer}
 use Rattle.peer_view.specs.Sinks.{MAX_VALUE}
 use Rattle.peer_value.specs.Fetchings.{GoesOnAnew, IsFoundIn, IsFreeBehind, uses_by}
@@ -42,10 +43,16 @@ IsFree f = IsFreeBehind f.receiving.came.bytes f.receiving.client
 abbrev pub IsValueOf : Fetching → Vec ℕ Global → Type 0
 IsValueOf f value = (length value.items ≤ MAX_VALUE) × ∥ IsFoundIn f.request.items f.sent f.receiving.came.bytes f.ended f.first value ∥₁
 
--- the answer of a fetch: its value is one that the fetch found, and another request may follow where the answer says so
+-- there is no value, since the reply that came has this status, which is not 200
+abbrev pub IsStatusOf : List ℕ → FetchFault → Type 0
+IsStatusOf came why = (status : ℕ) × (content : List ℕ) × (why ≡ fault.Status status) × (status ≢ 200) × ∥ IsReply came status content ∥₁
+
+-- the answer of a fetch: its value is one that the fetch found, it has none for the status of the reply alone, and another request
+-- may follow where the answer says so
 pub record IsAnswerOf (f : Fetching) (a : fetched.Answer) : Type 0 where
   pub keeps : IsTrue a.keeps → IsFree f
   pub value : IfOk a.value (IsValueOf f)
+  pub status : IfErr a.value (IsStatusOf f.receiving.came.bytes)
 
 -- this is the answer, or there is none, where memory was refused
 abbrev pub AnswersBy : Answer → Option Answer → Type 0

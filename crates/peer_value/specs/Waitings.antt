@@ -1,7 +1,9 @@
 -- The values that wait until another one of their service may be under way.
-use Rattle.std.specs.Prelude.{ℕ, List, [], length, option_map, sum_by, unwrap_or, slice_get}
+use Rattle.std.specs.Prelude.{◌≡◌, ℕ, IfErr, List, [], length, option_map, sum_by, unwrap_or, slice_get}
 use Rattle.std.specs.VecDeque.{deque_items}
 use Rattle.peer_source.specs.declared.source.Source as Source
+use Rattle.peer_origin.specs.declared.fault.FetchFault.TheVariants as fault
+use Rattle.peer_value.specs.declared.done.Done.{Done}
 use Rattle.peer_value.specs.declared.under_way.UnderWay.{UnderWay}
 use Rattle.peer_value.specs.declared.waiting.Waiting.{Waiting}
 
@@ -17,3 +19,7 @@ module _ {S : Type 0} {g : Source.Ghosts S} where
   -- how many wait for all services
   abbrev pub count_of : Waiting S g → ℕ
   count_of w = sum_by (λ line. length (deque_items line)) w.lines.items
+
+  -- the job is given back, since memory was refused
+  abbrev pub IsRefused : UnderWay S g → Done S g → Type 0
+  IsRefused u d = (d.job ≡ u.job) × IfErr d.got (λ why. why ≡ fault.Memory)

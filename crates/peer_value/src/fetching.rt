@@ -2,14 +2,15 @@
 //! second try.
 //!
 //! It stands on the reply as a state of `peer_http`. It promises that a value which is found is the content of a whole
-//! reply with status 200, on bytes that came on a connection on which the whole request was sent, that two requests are
-//! sent at most, the second behind a connection on which nothing came, and that a connection may be asked again only where all
+//! reply with status 200, on bytes that came on a connection on which the whole request was sent, that a whole reply with
+//! another status is told by that, that two requests are sent at most, the second behind a connection on which nothing came, and that a connection may be asked again only where all
 //! that came on it is one reply.
 ghost use Rattle.std.specs.Prelude.{◌≡◌, ◌≢◌, ◌+◌, ◌≤◌, ◌↔◌, ◌++◌, [], drop, false, length, true};
-ghost use Rattle.std.specs.Prelude.{Err, IfOk, IfSome, IsFalse, IsTrue, None};
+ghost use Rattle.std.specs.Prelude.{Err, IfErr, IfOk, IfSome, IsFalse, IsTrue, None};
 ghost use Rattle.peer_view.specs.Sinks.{MAX_VALUE};
 ghost use Rattle.peer_http.specs.Requests.{Awaits};
 ghost use Rattle.peer_origin.specs.declared.exchange.Failure.TheVariants as fail;
+ghost use Rattle.peer_origin.specs.declared.fault.FetchFault.TheVariants as fault;
 ghost use Rattle.peer_value.specs.Fetchings.{GoesOnAnew};
 
 use http1::Client;
@@ -49,6 +50,7 @@ pub struct Fetching {
 // What a reply says.
 fn answer_of(reply: Reply) -> Answer
     ensures value { IfOk result.value (λ v. (v.items ≡ reply.value.items) × (reply.status ≡ 200)) }
+    ensures status { IfErr result.value (λ why. (why ≡ fault.Status reply.status) × (reply.status ≢ 200)) }
     ensures keeps { result.keeps ≡ reply.keeps }
 {
     let Reply {

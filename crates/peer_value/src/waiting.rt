@@ -2,9 +2,8 @@
 //!
 //! It stands on the value of each (`UnderWay`). It promises that those of a service come out in the order in which they came in.
 ghost use Rattle.std.specs.Prelude.{◌≡◌, ◌≢◌, ◌≤◌, ◌-◌, ◌^◌, ℕ, [], ◌∷◌, ◌++◌, min, IfErr, IfNone, IfSome, MatchOption, OnOk, option_map, slice_get};
-ghost use Rattle.peer_origin.specs.declared.fault.FetchFault.TheVariants as fault;
 ghost use Rattle.peer_value.specs.UnderWays.{due_of};
-ghost use Rattle.peer_value.specs.Waitings.{count_of, line_of};
+ghost use Rattle.peer_value.specs.Waitings.{IsRefused, count_of, line_of};
 
 use crate::done::Done;
 use crate::under_way::UnderWay;
@@ -73,7 +72,7 @@ impl<'a, S: Source> Waiting<'a, S> {
     fn put(&mut self, service: usize, under: UnderWay<'a, S>) -> Result<(), UnderWay<'a, S>>
         ensures put { OnOk result (line_of self.new service ≡ line_of self.old service ++ under.entry ∷ []) }
         ensures others { (n : ℕ) → n ≢ service → line_of self.new n ≡ line_of self.old n }
-        ensures back { IfErr result (λ back. back ≡ under.entry) }
+        ensures back { IfErr result (λ back. (back ≡ under.entry) × (line_of self.new service ≡ line_of self.old service)) }
     {
         if self.reserve_lines(service.saturating_add(1)).is_err() {
             return Err(under);
@@ -88,10 +87,10 @@ impl<'a, S: Source> Waiting<'a, S> {
         Ok(())
     }
 
-    /// Has a value wait behind the others of its service. Where memory is refused it is done.
+    /// Has a value wait behind the others of its service. Where memory is refused it is done, and the others wait on.
     pub fn push(&mut self, service: usize, under: UnderWay<'a, S>) -> Option<Done<'a, S>>
         ensures last { MatchOption result (line_of self.new service ≡ line_of self.old service ++ under.entry ∷ [])
-            (λ d. (d.job ≡ under.entry.job) × IfErr d.got (λ why. why ≡ fault.Memory)) }
+            (λ d. IsRefused under.entry d × (line_of self.new service ≡ line_of self.old service)) }
         ensures others { (n : ℕ) → n ≢ service → line_of self.new n ≡ line_of self.old n }
     {
         match self.put(service, under) {
