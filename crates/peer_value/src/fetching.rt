@@ -3,8 +3,8 @@
 //!
 //! It stands on the reply as a state of `peer_http`. It promises that a value which is found is the content of a whole
 //! reply with status 200, on bytes that came on a connection on which the whole request was sent, that a whole reply with
-//! another status is told by that, that two requests are sent at most, the second behind a connection on which nothing came, and that a connection may be asked again only where all
-//! that came on it is one reply.
+//! another status is told by that, that two requests are sent at most, the second behind a connection on which nothing came,
+//! and that a connection may be asked again only where all that came on it is one reply.
 ghost use Rattle.std.specs.Prelude.{◌≡◌, ◌≢◌, ◌+◌, ◌≤◌, ◌↔◌, ◌++◌, [], drop, false, length, true};
 ghost use Rattle.std.specs.Prelude.{Err, IfErr, IfOk, IfSome, IsFalse, IsTrue, None};
 ghost use Rattle.peer_view.specs.Sinks.{MAX_VALUE};
