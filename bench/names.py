@@ -6,7 +6,7 @@
 
 The program runs in a mount namespace of its own, in which /etc/hosts is a file that this script writes; that takes root.
 The name stands first for a service that answers `one`, then for one that answers `two`, then for none, and each key is
-asked once. Its last line is `checks N failures 0`; where one fails, so does the program.
+asked once. Two groups are at the name, which is looked up once for both. Its last line is `checks N failures 0`; where one fails, so does the program.
 """
 import http.client
 import http.server
@@ -44,17 +44,18 @@ class Front:
     """The program, before which /etc/hosts is a file of its own."""
 
     def __init__(self, hosts):
-        script = f"mount --bind {hosts} /etc/hosts && exec {PROGRAM} --listen 127.0.0.1:9474 g=http://{NAME}:{PORT}/"
+        script = f"mount --bind {hosts} /etc/hosts && exec {PROGRAM} --listen 127.0.0.1:9474"
+        script += f" first=http://{NAME}:{PORT}/ second=http://{NAME}:{PORT}/"
         self.process = subprocess.Popen(["unshare", "--mount", "sh", "-c", script], stdout=subprocess.PIPE, text=True)
         if self.process.stdout.readline() != "listening\n":
             sys.exit("names.py: the program does not serve")
         self.asked = 0
 
-    def ask(self):
-        """The body of a key that nobody asked for yet."""
+    def ask(self, group="first"):
+        """The body of a key of the group that nobody asked for yet."""
         self.asked += 1
         connection = http.client.HTTPConnection("127.0.0.1", 9474, timeout=15)
-        connection.request("GET", f"/_groupcache/g/{self.asked}")
+        connection.request("GET", f"/_groupcache/{group}/{self.asked}")
         return connection.getresponse().read()
 
     def gives_soon(self, text):
@@ -86,6 +87,7 @@ def main():
             stands_for("127.0.0.3")
             checks.append(("the second address", front.gives_soon(b"two")))
             checks.append(("the first no more", not front.ask().endswith(b"one")))
+            checks.append(("the second address for both groups", front.ask("second").endswith(b"two")))
             stands_for(None)
             time.sleep(PATIENCE / 2)
             checks.append(("the last address, where nothing is found", front.ask().endswith(b"two")))
