@@ -2,11 +2,12 @@
 //!
 //! It stands on the connection as a state (`Exchange`), on the seat of its loop, and on what the system reports of the stream.
 //! It promises that the seat stays one of the pool, with its parts, and that the connection stays one of the pool's source.
-ghost use Rattle.std.specs.Prelude.{◌≡◌, ◌↔◌, true, IsTrue, Some};
+ghost use Rattle.std.specs.Prelude.{◌≡◌, ◌↔◌, IsTrue, Some};
 ghost use Rattle.peer_activity.specs.Activities.{IsOverdue};
-ghost use Rattle.peer_exchange.specs.ExchangeStates.{takes_bytes};
 ghost use Rattle.peer_clients.specs.Parts.{KeepsParts};
 ghost use Rattle.peer_clients.specs.Standings.{standing_of};
+
+mod streaming;
 
 use crate::client_state::ClientState;
 use crate::facts::Facts;
@@ -19,12 +20,10 @@ use mio::{Interest, Registry, Token};
 use peer_activity::{Activity, Standing};
 use peer_exchange::Exchange;
 use peer_limits::Limits;
-use peer_poll::{Readiness, was_interrupted, would_block};
+use peer_poll::Readiness;
 use peer_site::Occupancy;
 use peer_source::Source;
-use std::cmp::min;
 use std::io;
-use std::io::{Read, Write};
 use std::marker::PhantomData;
 use std::net::Shutdown;
 use std::sync::Wait;
@@ -93,64 +92,6 @@ impl<'a, S: Source, F: Facts<S>> Client<'a, S, F> {
     /// The number of the flight whose fill it waits for.
     pub fn awaits(&self) -> Option<u64> {
         self.exchange.awaits()
-    }
-
-    // Whether bytes are read.
-    fn reads(&self) -> bool
-        ensures { IsTrue result → takes_bytes self.now.exchange.state ≡ true }
-    {
-        self.readiness.readable && self.exchange.takes_bytes() && self.exchange.room() > 0
-    }
-
-    // Whether bytes are written: those that are to be sent, where the stream is known to take some.
-    fn writes(&self) -> bool {
-        self.readiness.writable && !self.failed && !self.exchange.output().is_empty()
-    }
-
-    // Reads once, where bytes are read.
-    fn receive(&mut self, buffer: &mut [u8], now: Duration) {
-        let room = min(self.exchange.room(), buffer.len());
-        if !self.reads() {
-            return;
-        }
-        match self.stream.read(&mut buffer[..room]) {
-            Ok(0) => {
-                self.readiness.readable = false;
-                self.ended = true;
-                self.exchange.end();
-            }
-            Ok(n) => {
-                // Where memory is refused, the connection is over.
-                let _ = self.exchange.receive(&buffer[..n]);
-                self.activity.note_came(now);
-                // Less than there was room for is all that has come.
-                self.readiness.readable = n == room || self.readiness.read_closed;
-            }
-            Err(error) if would_block(&error) => self.readiness.readable = false,
-            Err(error) if was_interrupted(&error) => {}
-            Err(_) => self.failed = true,
-        }
-    }
-
-    // Writes until all is sent or the stream takes no more, some times at most.
-    fn send(&mut self, now: Duration) {
-        for _ in 0..ROUNDS_OF_TURN {
-            if !self.writes() {
-                return;
-            }
-            match self.stream.write(self.exchange.output()) {
-                Ok(n) => {
-                    self.exchange.sent(n);
-                    self.activity.note_taken(now);
-                }
-                Err(error) if would_block(&error) => {
-                    self.readiness.writable = false;
-                    self.activity.note_refused(now);
-                }
-                Err(error) if was_interrupted(&error) => {}
-                Err(_) => self.failed = true,
-            }
-        }
     }
 
     // Closes what is over. Where the client has not told its end, the close lingers.

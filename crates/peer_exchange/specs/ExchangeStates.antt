@@ -34,6 +34,10 @@ module _ {S : Type 0} where
   abbrev pub lent : ExchangeState S → List ℕ
   lent e = e.outgoing.out.front
 
+  -- .. and those that lie together behind them
+  abbrev pub lent_behind : ExchangeState S → List ℕ
+  lent_behind e = e.outgoing.out.second
+
   -- nothing is put until output was sent
   abbrev pub has_much_output : ExchangeState S → Bool
   has_much_output e = leb 65536 (length (unsent e))

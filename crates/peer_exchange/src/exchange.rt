@@ -3,7 +3,7 @@
 //! It stands on the state of an exchange and on two histories that only contracts see: the bytes that came and those that
 //! were sent. It promises, at every moment, that the bytes that were sent are a front of the replies to the bytes that
 //! came; and once it is over, which replies they are.
-ghost use Rattle.std.specs.Prelude.{[]};
+ghost use Rattle.std.specs.Prelude.{◌≡◌, ◌≤◌, ◌+◌, [], ◌++◌, length, take};
 ghost use Rattle.peer_wish.specs.Allowed.{allows};
 ghost use Rattle.peer_exchange.specs.ExchangeStates.{Upholds};
 
@@ -28,8 +28,20 @@ pub struct Exchange<'p, S: Source> {
     ghost upholds: { ∥ Upholds (S.number_of names) (allows S.allowed) came.bytes sent.bytes [] state ∥₁ },
 }
 
+// The bytes of a history, and the first `n` of these behind them.
+fn and_first(history: &History, n: usize, first: &[u8], second: &[u8]) -> History
+    requires { n ≤ length first.now + length second.now }
+    ensures { result.bytes ≡ history.now.bytes ++ take n (first.now ++ second.now) }
+{
+    if n <= first.len() {
+        history.and(&first[..n])
+    } else {
+        history.and(first).and(&second[..n - first.len()])
+    }
+}
+
 impl<'p, S: Source> Exchange<'p, S> {
-    ghost use Rattle.std.specs.Prelude.{◌≡◌, ◌≤◌, true, [], ◌++◌, length, min, take, Some, IfErr, IfOk, IfSome, OnOk};
+    ghost use Rattle.std.specs.Prelude.{◌≡◌, ◌≤◌, ◌+◌, true, [], ◌++◌, length, min, take, Some, IfErr, IfOk, IfSome, OnOk};
     ghost use Rattle.peer_fill.specs.Claiming.{KeepsSeat};
     ghost use Rattle.peer_fill.specs.Pools.{source_of, IsConnSeatOf};
     ghost use Rattle.peer_fill.specs.Seats.{asks_of, left_of};
@@ -37,8 +49,9 @@ impl<'p, S: Source> Exchange<'p, S> {
     ghost use Rattle.peer_exchange.specs.AnsweringReady.{AnswersReady, IsAnsweredThrough};
     ghost use Rattle.peer_exchange.specs.Asking.{AddsTickets};
     ghost use Rattle.peer_exchange.specs.ExchangeEnds.{IsEnd, IsEndAt};
-    ghost use Rattle.peer_exchange.specs.ExchangeStates.{AreSent, HoldsLittle, is_over, lent, room_of, takes_bytes, unsent};
-    ghost use Rattle.peer_outbox.specs.Outboxes.{IsFrontOf};
+    ghost use Rattle.peer_exchange.specs.ExchangeStates.{AreSent, HoldsLittle, is_over, lent, lent_behind, room_of};
+    ghost use Rattle.peer_exchange.specs.ExchangeStates.{takes_bytes, unsent};
+    ghost use Rattle.peer_outbox.specs.Outboxes.{BeginsWithBoth, IsFrontOf};
     ghost use Rattle.peer_exchange.specs.Histories.{Came, KeepsHistories};
     ghost use Rattle.peer_exchange.specs.Holdings.{Holds};
     ghost use Rattle.peer_exchange.specs.Intakes.{GoesOn, IsGivenUpFor, told};
@@ -134,9 +147,17 @@ impl<'p, S: Source> Exchange<'p, S> {
         self.state.output()
     }
 
-    /// The first `n` bytes of the output were sent.
+    /// The bytes behind the output, as far as they lie together: a stream can take both by one call.
+    pub fn output_behind(&self) -> &[u8]
+        ensures lent { result.now ≡ lent_behind self.now.state }
+        ensures begins { BeginsWithBoth (lent self.now.state) (lent_behind self.now.state) (unsent self.now.state) }
+    {
+        self.state.output_behind()
+    }
+
+    /// The first `n` bytes of the output, and of what lies behind it, were sent.
     pub fn sent(&mut self, n: usize)
-        requires { n ≤ length (lent self.old.state) }
+        requires { n ≤ length (lent self.old.state) + length (lent_behind self.old.state) }
         ensures names { self.new.names ≡ self.old.names }
         ensures came { self.new.came.bytes ≡ self.old.came.bytes }
         ensures sent { self.new.sent.bytes ≡ self.old.sent.bytes ++ take n (unsent self.old.state) }
@@ -144,7 +165,8 @@ impl<'p, S: Source> Exchange<'p, S> {
         ensures waiting { self.new.state.waiting.items ≡ self.old.state.waiting.items }
         ensures window { self.new.state.window.tickets ≡ self.old.state.window.tickets }
     {
-        let sent = self.sent.and(&self.state.output()[..n]);
+        let (output, behind) = (self.state.output(), self.state.output_behind());
+        let sent = and_first(&self.sent, n, output, behind);
         self.state.sent(n);
         self.sent = sent;
     }

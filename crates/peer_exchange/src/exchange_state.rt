@@ -38,13 +38,14 @@ fn with_came<S: Source>(bytes: usize, waiting: &VecDeque<Ticket<S>>) -> usize
 }
 
 impl<S: Source> ExchangeState<S> {
-    ghost use Rattle.std.specs.Prelude.{◌≡◌, ◌≤◌, ◌++◌, ℕ, List, [], Option, true, length, min, take, OnErr, OnOk, IfErr, IfOk};
+    ghost use Rattle.std.specs.Prelude.{◌≡◌, ◌≤◌, ◌+◌, ◌++◌, ℕ, List, [], Option, true, length, min, take, OnErr, OnOk, IfErr, IfOk};
     ghost use Rattle.peer_wish.specs.Allowed.{allows};
-    ghost use Rattle.peer_outbox.specs.Outboxes.{IsFrontOf};
+    ghost use Rattle.peer_outbox.specs.Outboxes.{BeginsWithBoth, IsFrontOf};
     ghost use Rattle.peer_exchange.specs.Holdings.{Holds};
     ghost use Rattle.peer_exchange.specs.Intakes.{IsGivenUpFor, told};
     ghost use Rattle.peer_exchange.specs.ExchangeStates.{Upholds, Keeps, Receives, Sends, GivesUp, SaysSent, SaysLittle};
-    ghost use Rattle.peer_exchange.specs.ExchangeStates.{has_much_output, is_full, is_over, lent, room_of, takes_bytes, unsent};
+    ghost use Rattle.peer_exchange.specs.ExchangeStates.{has_much_output, is_full, is_over, lent, lent_behind, room_of};
+    ghost use Rattle.peer_exchange.specs.ExchangeStates.{takes_bytes, unsent};
 
     /// No byte came, and none was sent. It takes no memory yet.
     pub(crate) fn new(alloc: Global) -> ExchangeState<S>
@@ -136,9 +137,17 @@ impl<S: Source> ExchangeState<S> {
         self.outgoing.out.front()
     }
 
-    /// The first `n` bytes of the output were sent.
+    /// The bytes behind the output, as far as they lie together.
+    pub(crate) fn output_behind(&self) -> &[u8]
+        ensures lent { result.now ≡ lent_behind self.now }
+        ensures begins { BeginsWithBoth (lent self.now) (lent_behind self.now) (unsent self.now) }
+    {
+        self.outgoing.out.second()
+    }
+
+    /// The first `n` bytes of the output, and of what lies behind it, were sent.
     pub(crate) fn sent(&mut self, n: usize)
-        requires { n ≤ length (lent self.old) }
+        requires { n ≤ length (lent self.old) + length (lent_behind self.old) }
         ensures upholds { Sends (allows S.allowed) self.old self.new (take n (unsent self.old)) }
         ensures stage { self.new.intake.stage ≡ self.old.intake.stage }
         ensures waiting { self.new.waiting.items ≡ self.old.waiting.items }

@@ -8,6 +8,7 @@ ghost use Rattle.slab.specs.Slab.{HasRoomFor};
 
 use crate::idle::Idle;
 use crate::link::{Link, Reusable};
+use crate::opening::Untried;
 use mio::Token;
 use mio::event::Event;
 use peer_source::Source;
@@ -96,10 +97,10 @@ impl<'a, S: Source> Connections<'a, S> {
         }
     }
 
-    /// Lets a connection go that was not reached. Says which address is to be tried next.
-    pub fn forget_unreached(&mut self, key: usize) -> Option<usize> {
+    /// Lets a connection go that was not reached. Says which addresses are to be tried next.
+    pub fn forget_unreached(&mut self, key: usize) -> Option<Untried> {
         let link = self.links.try_remove(key)?;
-        Some(link.next_address)
+        Some(link.untried)
     }
 
     /// Takes a connection to the endpoint with this number off those that may be used again. One that has ended meanwhile is let go.

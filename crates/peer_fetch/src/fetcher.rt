@@ -8,7 +8,7 @@
 
 use crate::connections::{Connections, earlier};
 use crate::link::{Link, Reusable, Turn};
-use crate::opening::{System, open};
+use crate::opening::{System, Untried, open};
 use crate::room::Room;
 use crate::settings::FetchThreadSettings;
 use mio::event::Event;
@@ -17,7 +17,7 @@ use peer_host::Network;
 use peer_origin::{Failure, FetchFault};
 use peer_source::Source;
 use peer_value::{Done, Numbered, Shares, UnderWay, Waiting};
-use std::alloc::Global;
+use std::alloc::{AllocError, Global};
 use std::time::Duration;
 
 // How many values may wait. Each key that waits is fetched in the end, or is late, whatever its clients hold by then.
@@ -108,18 +108,18 @@ impl<'a, S: Source> Fetcher<'a, S> {
         self.connections.tell_time(now);
     }
 
-    // Begins to connect to the endpoint of a value, from this address on. A value that cannot be fetched is given back.
+    // Begins to connect to one of these addresses for a value. A value that cannot be fetched is given back.
     fn connect<H: Network>(
         &mut self,
         system: &System<'_, H>,
         under: UnderWay<'a, S>,
-        from: usize,
+        untried: Untried,
     ) -> Option<Done<'a, S>> {
         if self.connections.reserve().is_err() {
             return Some(under.done(Err(FetchFault::Memory)));
         }
         let token = self.connections.next_token();
-        let Some((stream, next)) = open(system, &under.endpoint().addresses, from, token) else {
+        let Some((stream, untried)) = open(system, untried, token) else {
             return Some(under.done(Err(FetchFault::Unreached)));
         };
         let due = self
@@ -127,8 +127,20 @@ impl<'a, S: Source> Fetcher<'a, S> {
             .now()
             .saturating_add(self.settings.fetch.connect);
         self.shares.begin(self.shares.service(under.number()));
-        self.connections.add(Link::new(stream, under, next, due));
+        self.connections.add(Link::new(stream, under, untried, due));
         None
+    }
+
+    // Begins to connect to the endpoint of a value, to the first of its addresses.
+    fn connect_first<H: Network>(
+        &mut self,
+        system: &System<'_, H>,
+        under: UnderWay<'a, S>,
+    ) -> Option<Done<'a, S>> {
+        match Untried::of(system.rt, &under.endpoint().addresses) {
+            Ok(untried) => self.connect(system, under, untried),
+            Err(AllocError) => Some(under.done(Err(FetchFault::Memory))),
+        }
     }
 
     // Asks for a value on a connection that is kept for its endpoint, or a new one.
@@ -139,11 +151,11 @@ impl<'a, S: Source> Fetcher<'a, S> {
     ) -> Option<Done<'a, S>> {
         let number = under.number();
         let Some(key) = self.connections.take_idle(number) else {
-            return self.connect(system, under, 0);
+            return self.connect_first(system, under);
         };
         match self.connections.get_mut(key) {
             Some(link) if link.number == number => link.begin(under),
-            _ => return self.connect(system, under, 0),
+            _ => return self.connect_first(system, under),
         }
         self.shares.begin(self.shares.service(number));
         self.connections.note_due(key);
@@ -231,7 +243,7 @@ impl<'a, S: Source> Fetcher<'a, S> {
         under: UnderWay<'a, S>,
     ) -> Option<Done<'a, S>> {
         match self.connections.forget_unreached(key) {
-            Some(next) => self.connect(system, under, next),
+            Some(untried) => self.connect(system, under, untried),
             None => Some(under.done(Err(FetchFault::Unreached))),
         }
     }
@@ -243,7 +255,7 @@ impl<'a, S: Source> Fetcher<'a, S> {
         under: UnderWay<'a, S>,
     ) -> Option<Done<'a, S>> {
         match under.again(self.alloc) {
-            Ok(under) => self.connect(system, under, 0),
+            Ok(under) => self.connect_first(system, under),
             Err(done) => Some(done),
         }
     }

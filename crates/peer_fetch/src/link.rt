@@ -7,6 +7,7 @@ ghost use Rattle.std.proofs.Props.{props};
 ghost use Rattle.peer_fetch.specs.Turns.{IsTurnOf};
 ghost use Rattle.peer_value.specs.UnderWays.{number_of};
 
+use crate::opening::Untried;
 use crate::transfer::{Halt, receive, send};
 use mio::event::Event;
 use mio::net::TcpStream;
@@ -51,8 +52,8 @@ pub struct Link<'a, S: Source> {
     readiness: Readiness,
     /// The number of the endpoint that it is to.
     pub number: usize,
-    /// Which address of the origin is tried next, where this one is not reached.
-    pub next_address: usize,
+    /// The addresses that are tried next, where this one is not reached.
+    pub untried: Untried,
     /// Whether it was used before.
     pub was_kept: bool,
     /// Whether it is on the list of those that are to have a turn.
@@ -96,7 +97,7 @@ impl<'a, S: Source> Link<'a, S> {
     pub fn new(
         stream: TcpStream,
         under: UnderWay<'a, S>,
-        next_address: usize,
+        untried: Untried,
         due: Duration,
     ) -> Link<'a, S>
         ensures { result.under ≡ Some under.entry }
@@ -108,7 +109,7 @@ impl<'a, S: Source> Link<'a, S> {
             connect_due: Some(due),
             readiness: Readiness::unknown(),
             number,
-            next_address,
+            untried,
             was_kept: false,
             is_ready: false,
         }

@@ -7,6 +7,9 @@ use mio::net::TcpStream;
 use mio::{Interest, Registry, Token};
 use peer_host::Network;
 use peer_origin::Addresses;
+use std::alloc::{AllocError, Global};
+use std::net::SocketAddr;
+use std::sync::{Arc, Wait};
 
 /// The runtime, and where streams are registered for events.
 #[derive(Drop)]
@@ -15,15 +18,32 @@ pub struct System<'r, H> {
     pub registry: &'r Registry,
 }
 
-/// A stream that begins to connect to one of these addresses, and which is to be tried behind it.
+/// The addresses of a host that a connection has not tried yet. Where others are found meanwhile, these stay.
+#[derive(Drop)]
+pub struct Untried {
+    found: Arc<Vec<SocketAddr>, Global>,
+    next: usize,
+}
+
+impl Untried {
+    /// All of them.
+    pub fn of<H: Wait>(rt: &H, addresses: &Addresses) -> Result<Untried, AllocError> {
+        Ok(Untried {
+            found: addresses.found(rt)?,
+            next: 0,
+        })
+    }
+}
+
+/// A stream that begins to connect to one of these addresses, and those that are to be tried behind it.
 pub fn open<H: Network>(
     system: &System<'_, H>,
-    addresses: &Addresses,
-    from: usize,
+    untried: Untried,
     token: Token,
-) -> Option<(TcpStream, usize)> {
-    for number in from..addresses.len(system.rt) {
-        let address = addresses.get(system.rt, number)?;
+) -> Option<(TcpStream, Untried)> {
+    let Untried { found, next } = untried;
+    for number in next..found.len() {
+        let address = *found.get(number)?;
         let Ok(mut stream) = TcpStream::connect(system.rt, address) else {
             continue;
         };
@@ -33,7 +53,8 @@ pub fn open<H: Network>(
             .register(&mut stream, token, interest)
             .is_ok()
         {
-            return Some((stream, number + 1));
+            let next = number + 1;
+            return Some((stream, Untried { found, next }));
         }
     }
     None

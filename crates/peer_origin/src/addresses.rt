@@ -3,9 +3,9 @@
 use crate::endpoint::EndpointFault;
 use peer_host::Network;
 use peer_wait::lock;
-use std::alloc::Global;
+use std::alloc::{AllocError, Global};
 use std::net::{IpAddr, Net, SocketAddr, TcpListener, TcpStream, ToSocketAddrs};
-use std::sync::{Mutex, Wait};
+use std::sync::{Arc, Mutex, Wait};
 use url::Host;
 
 // A name, and the port at its addresses.
@@ -20,7 +20,7 @@ struct Name {
 pub struct Addresses {
     // None where the host is an address.
     name: Option<Name>,
-    found: Mutex<Vec<SocketAddr>>,
+    found: Mutex<Arc<Vec<SocketAddr>, Global>>,
 }
 
 impl Name {
@@ -29,7 +29,7 @@ impl Name {
         &self,
         rt: &H,
         alloc: Global,
-    ) -> Result<Vec<SocketAddr>, EndpointFault> {
+    ) -> Result<Arc<Vec<SocketAddr>, Global>, EndpointFault> {
         let mut addresses = Vec::new(alloc);
         let found = (self.host.as_str(), self.port)
             .to_socket_addrs(rt)
@@ -40,7 +40,7 @@ impl Name {
         if addresses.is_empty() {
             return Err(EndpointFault::Host);
         }
-        Ok(addresses)
+        Arc::new(alloc, addresses).map_err(|_| EndpointFault::Memory)
     }
 }
 
@@ -51,9 +51,10 @@ impl Addresses {
         addresses
             .push(SocketAddr::new(ip, port))
             .map_err(|_| EndpointFault::Memory)?;
+        let found = Arc::new(alloc, addresses).map_err(|_| EndpointFault::Memory)?;
         Ok(Addresses {
             name: None,
-            found: Mutex::new(addresses),
+            found: Mutex::new(found),
         })
     }
 
@@ -92,14 +93,9 @@ impl Addresses {
         self.name.is_some()
     }
 
-    /// How many there are.
-    pub fn len<H: Wait>(&self, rt: &H) -> usize {
-        lock(rt, &self.found).len()
-    }
-
-    /// The address with this number, from 0, in the order in which they are tried.
-    pub fn get<H: Wait>(&self, rt: &H, number: usize) -> Option<SocketAddr> {
-        lock(rt, &self.found).get(number).copied()
+    /// Those that were found last, in the order in which they are tried. They stay as they are where others are found later.
+    pub fn found<H: Wait>(&self, rt: &H) -> Result<Arc<Vec<SocketAddr>, Global>, AllocError> {
+        Arc::try_clone(&*lock(rt, &self.found))
     }
 
     /// Looks the name up again. Where nothing is found, or memory is refused, the addresses stay.

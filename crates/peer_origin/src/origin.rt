@@ -1,6 +1,7 @@
 //! The origin of one group.
-ghost use Rattle.std.specs.Prelude.{◌≡◌, bytes_eq};
-ghost use Rattle.peer_origin.specs.Endpoints.{asked_at};
+ghost use Rattle.std.specs.Prelude.{◌≡◌, OnOk, bytes_eq};
+ghost use Rattle.std.specs.Bool.{OnTrue};
+ghost use Rattle.peer_origin.specs.Endpoints.{addresses_of, asked_at};
 
 use crate::endpoint::Endpoint;
 use crate::sockets::is_quiet;
@@ -44,6 +45,8 @@ impl Origin {
     pub fn share_addresses(&mut self, other: &Origin) -> Result<(), AllocError>
         ensures name { self.new.name ≡ self.old.name }
         ensures asked { asked_at self.new.endpoint ≡ asked_at self.old.endpoint }
+        ensures shared { OnOk result (OnTrue (bytes_eq self.old.endpoint.host.items other.now.endpoint.host.items)
+            (addresses_of self.new.endpoint ≡ addresses_of other.now.endpoint)) }
     {
         if self.endpoint.host == other.endpoint.host {
             self.endpoint.addresses = Arc::try_clone(&other.endpoint.addresses)?;

@@ -37,15 +37,15 @@ fn connect<H: Network>(
     within: Duration,
     deadline: &Deadline<'_, H>,
 ) -> Result<TcpStream, FetchFault> {
-    for number in 0..addresses.len(rt) {
-        let Some(address) = addresses.get(rt, number) else {
-            break;
-        };
+    let Ok(found) = addresses.found(rt) else {
+        return Err(FetchFault::Memory);
+    };
+    for address in found.iter() {
         let Some(left) = deadline.left() else {
             return Err(FetchFault::Late);
         };
         let wait = if left < within { left } else { within };
-        if let Ok(stream) = TcpStream::connect_timeout(rt, &address, wait) {
+        if let Ok(stream) = TcpStream::connect_timeout(rt, address, wait) {
             let _ = stream.set_nodelay(true);
             return Ok(stream);
         }

@@ -6,7 +6,7 @@ use Rattle.peer_source.specs.Answers.{Answer, Found}
 use Rattle.peer_reply.specs.Bodies.{body_of, tag_and_length}
 use Rattle.peer_reply.specs.Texts.{crlf, field, connection_field, value_start, value_reply, answer_reply}
 use Rattle.peer_outbox.specs.Joins.{join}
-use Rattle.peer_outbox.specs.Outboxes.{EachHasByte, StartsIn, IsFrontOf, EndsIn}
+use Rattle.peer_outbox.specs.Outboxes.{EachHasByte, StartsIn, BeginsWithBoth, EndsIn}
 use Rattle.peer_outbox.proofs.JoinLemmas.{join-append}
 
 -- what is sent of the first piece is no more than there is
@@ -14,9 +14,10 @@ starts_le : (ps : List (List ℕ)) (start : ℕ) → StartsIn ps start → start
 starts_le [] start h = omega (arith, h)
 starts_le (p ∷ ps) start h = omega (arith, h.0, length-append p (join ps))
 
--- so many of the first bytes are so many of all
-pub take_front : (n : ℕ) (front bytes : List ℕ) → IsFrontOf front bytes → n ≤ length front → take n front ≡ take n bytes
-take_front n front bytes h le = sym (ap (take n) h.all ∙ take-append-le n front h.behind le)
+-- so many of the first bytes, and of those behind them, are so many of all
+pub take_both : (n : ℕ) (front second bytes : List ℕ) → BeginsWithBoth front second bytes → n ≤ length front + length second → take n (front ++ second) ≡ take n bytes
+take_both n front second bytes h le =
+    sym (ap (take n) (h.all ∙ sym (append_assoc front second h.behind)) ∙ take-append-le n (front ++ second) h.behind (omega (arith, le, length-append front second)))
 
 -- all bytes of pieces, two of which are the last
 join_two : (ps : List (List ℕ)) (p q : List ℕ) → join (ps ++ p ∷ q ∷ []) ++ [] ≡ join ps ++ (p ++ q)

@@ -2,10 +2,11 @@
 use Rattle.std.specs.Prelude.{◌≡◌, ℕ, ◌<◌, List, [], ◌∷◌, ◌++◌, length, drop}
 use Rattle.peer_outbox.specs.Joins.{join}
 
--- all bytes, and the first of them that lie together
+-- all bytes, the first of them that lie together, and those that do behind these
 pub record Output : Type 0 where
   pub bytes : List ℕ
   pub front : List ℕ
+  pub second : List ℕ
 
 abbrev pub EachHasByte : List (List ℕ) → Type 0
 EachHasByte [] = Unit {0}
@@ -20,15 +21,26 @@ abbrev pub front_of : List (List ℕ) → ℕ → List ℕ → List ℕ
 front_of [] start last = last
 front_of (p ∷ ps) start last = drop start p
 
+abbrev pub second_of : List (List ℕ) → List ℕ → List ℕ
+second_of [] last = []
+second_of (p ∷ []) last = last
+second_of (p ∷ q ∷ ps) last = q
+
 -- pieces of whose first so many bytes were sent, and the bytes behind them
 abbrev pub output_of : List (List ℕ) → ℕ → List ℕ → Output
-output_of pieces start last = record { bytes = drop start (join pieces ++ last); front = front_of pieces start last }
+output_of pieces start last =
+    record { bytes = drop start (join pieces ++ last); front = front_of pieces start last; second = second_of pieces last }
 
 -- these are the first bytes: some, where there are any
 pub record IsFrontOf (front bytes : List ℕ) : Type 0 where
   pub behind : List ℕ
   pub all : bytes ≡ front ++ behind
   pub some : front ≡ [] → bytes ≡ []
+
+-- the bytes are these two, one behind the other, and others behind them
+pub record BeginsWithBoth (front second bytes : List ℕ) : Type 0 where
+  pub behind : List ℕ
+  pub all : bytes ≡ front ++ (second ++ behind)
 
 -- the text ends in the value, and has a byte before it
 pub record EndsIn (value text : List ℕ) : Type 0 where

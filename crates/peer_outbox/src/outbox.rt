@@ -13,6 +13,7 @@ use crate::byte_queue::ByteQueue;
 use crate::parts::part_at;
 use peer_view::ByteView;
 use std::alloc::{AllocError, Global};
+use std::cmp::min;
 use std::collections::VecDeque;
 use std::marker::Model;
 
@@ -103,7 +104,7 @@ fn drop_piece(pieces: &mut VecDeque<ByteView>)
 impl Outbox {
     ghost use Rattle.std.specs.Prelude.{◌≡◌, ◌==◌, ◌≤◌, ◌<◌, ◌+◌, [], ◌++◌, length, drop, OnErr, OnOk};
     ghost use Rattle.peer_reply.specs.Texts.{joined};
-    ghost use Rattle.peer_outbox.specs.Outboxes.{EndsIn, IsFrontOf};
+    ghost use Rattle.peer_outbox.specs.Outboxes.{BeginsWithBoth, EndsIn, IsFrontOf};
 
     /// It takes no memory yet.
     pub fn new(alloc: Global) -> Outbox
@@ -141,10 +142,23 @@ impl Outbox {
         }
     }
 
-    /// So many of the first bytes go.
-    pub fn drop_front(&mut self, n: usize)
+    /// The bytes behind the first ones, as far as they lie together.
+    pub fn second(&self) -> &[u8]
+        ensures second { result.now ≡ self.now.second }
+        ensures begins { BeginsWithBoth self.now.front self.now.second self.now.bytes }
+    {
+        match self.pieces.get(1) {
+            Some(piece) => piece.as_slice(),
+            None if self.pieces.is_empty() => &[],
+            None => self.last.as_slice(),
+        }
+    }
+
+    // So many of the first bytes go.
+    fn drop_first(&mut self, n: usize)
         requires { n ≤ length self.old.front }
-        ensures { self.new.bytes ≡ drop n self.old.bytes }
+        ensures bytes { self.new.bytes ≡ drop n self.old.bytes }
+        ensures next { n ≡ length self.old.front → self.new.front ≡ self.old.second }
     {
         self.len -= n;
         let Some(piece) = self.pieces.front() else {
@@ -156,6 +170,18 @@ impl Outbox {
         if self.start == end {
             drop_piece(&mut self.pieces);
             self.start = 0;
+        }
+    }
+
+    /// So many of the first bytes go, and of those behind them.
+    pub fn drop_front(&mut self, n: usize)
+        requires { n ≤ length self.old.front + length self.old.second }
+        ensures { self.new.bytes ≡ drop n self.old.bytes }
+    {
+        let first = min(n, self.front().len());
+        self.drop_first(first);
+        if first < n {
+            self.drop_first(n - first);
         }
     }
 

@@ -16,7 +16,7 @@ fn is_place<H: Net<Listener = TcpListener, Stream = TcpStream> + Wait>(
         Ok(endpoint) => {
             endpoint.host.as_slice() == host
                 && endpoint.prefix.as_slice() == prefix
-                && endpoint.addresses.len(rt) == 1
+                && matches!(endpoint.addresses.found(rt), Ok(found) if found.len() == 1)
         }
         Err(_) => false,
     }

@@ -104,8 +104,8 @@ fn a_fill_comes_at_each_moment_of_falling_asleep(rt: HostRuntime) -> Result<(), 
     Ok(())
 }
 
-// So many requests, each for a key of its own from this number on, and one that closes.
-fn many_requests(alloc: Global, first: u32, count: u32) -> Option<Vec<u8>> {
+/// So many requests, each for a key of its own from this number on, and one that closes.
+pub fn many_requests(alloc: Global, first: u32, count: u32) -> Option<Vec<u8>> {
     let mut bytes = Vec::new(alloc);
     for number in 0..count {
         bytes.extend_from_slice(b"GET /_groupcache/echo/").ok()?;
