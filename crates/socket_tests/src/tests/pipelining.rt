@@ -17,19 +17,25 @@ use std::time::{Clock, Duration};
 use stream_model::FOUND_K_LAST;
 use test_support::{Hook, Hooked};
 
-// A source whose calls for the second and the third key wait until each may go on.
+// The calls for the second and the third key.
+#[derive(Drop)]
+struct Calls {
+    second: Call,
+    third: Call,
+}
+
+// A source whose calls for these keys wait until each may go on.
 #[derive(Clone, Copy, Drop)]
 struct SlowTwo<'a> {
-    second: &'a Call,
-    third: &'a Call,
+    calls: &'a Calls,
 }
 
 impl Hook for SlowTwo<'_> {
     fn may_call(&self, _alloc: Global, key: &[u8]) -> bool {
         if key == b"00001".as_slice() {
-            self.second.wait()
+            self.calls.second.wait()
         } else if key == b"00002".as_slice() {
-            self.third.wait()
+            self.calls.third.wait()
         } else {
             true
         }
@@ -52,7 +58,7 @@ fn await_led<H: Clock>(rt: &H, counters: &Counters, count: u64) -> bool {
 fn is_asked_on<H: AllocGlobal + Net<Listener = TcpListener, Stream = TcpStream> + Wait + Clock>(
     rt: &H,
     address: SocketAddr,
-    calls: SlowTwo<'_>,
+    calls: &Calls,
     counters: &Counters,
 ) -> [bool; 3] {
     let (Some(stream), Some(requests)) = (connect(rt, address), many_requests(rt.alloc(), 0, 5))
@@ -74,18 +80,20 @@ fn is_asked_on<H: AllocGlobal + Net<Listener = TcpListener, Stream = TcpStream> 
 
 #[test]
 fn more_is_asked_for_once_the_first_that_waits_is_answered(rt: HostRuntime) -> Result<(), Fail> {
-    let (second, third) = (Call::new(), Call::new());
-    let calls = SlowTwo {
-        second: &second,
-        third: &third,
+    let calls = Calls {
+        second: Call::new(),
+        third: Call::new(),
     };
     let outside = Outside::new();
     let plan = plan_of(&rt, 1, 1, 1)?;
     let settings = settings_of(&outside, &plan);
-    let (report, seen) = beside_loops(&rt, Hooked { hook: calls }, &settings, |address| {
-        let seen = is_asked_on(&rt, address, calls, &outside.counters);
-        second.open.store(true, SeqCst);
-        third.open.store(true, SeqCst);
+    let source = Hooked {
+        hook: SlowTwo { calls: &calls },
+    };
+    let (report, seen) = beside_loops(&rt, source, &settings, |address| {
+        let seen = is_asked_on(&rt, address, &calls, &outside.counters);
+        calls.second.open.store(true, SeqCst);
+        calls.third.open.store(true, SeqCst);
         seen
     })?;
     assert_eq!(rt; seen, [true; 3]);
