@@ -1,9 +1,10 @@
-"""What several scripts of this folder share: a free port, a request, a server that ends with its block, rows, and words of the
-command line."""
+"""What several scripts of this folder share: a free port, a request, a server that ends with its block, a service, rows, and words of
+the command line."""
 import argparse
 import socket
 import subprocess
 import sys
+import threading
 
 
 def free_port():
@@ -38,6 +39,36 @@ class Listening(Started):
         command = [program, "--listen", "%s:%d" % self.address, *words]
         self.process = subprocess.Popen(command, stdin=subprocess.DEVNULL, stdout=subprocess.PIPE, stderr=subprocess.DEVNULL)
         self.process.stdout.readline()
+
+
+class Service:
+    """An HTTP service with a thread for each connection, and how many connections it had."""
+
+    def __init__(self, serve):
+        self.listener = socket.create_server(("127.0.0.1", 0))
+        self.port = self.listener.getsockname()[1]
+        self.url = f"http://127.0.0.1:{self.port}/"
+        self.serve, self.connections = serve, 0
+        threading.Thread(target=self.accept, daemon=True).start()
+
+    def accept(self):
+        while True:
+            stream, _ = self.listener.accept()
+            self.connections += 1
+            threading.Thread(target=self.answer, args=(stream,), daemon=True).start()
+
+    def answer(self, stream):
+        with stream:
+            try:
+                self.serve(stream)
+            except OSError:
+                pass
+
+
+def hangs(stream):
+    """What a service does that answers nothing."""
+    while stream.recv(10000):
+        pass
 
 
 def holds(row):

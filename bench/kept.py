@@ -5,7 +5,7 @@
     python3 bench/kept.py [crates/peer_front/out/peer_front]
 
 Connections are kept for a service that is asked now, also where others, asked before, leave as many as are kept; none is
-kept that a service has ended; of two services each value comes from its own, also where one ends its connections now and then,
+kept that a service has ended, nor any with `--connection-for-each`; of two services each value comes from its own, also where one ends its connections now and then,
 and in its time where the other one hangs, as a table's do beside a service that hangs;
 what comes on a kept connection without a request is no value; a reply that runs until its connection ends is no value where
 that is reset; and interim replies without end fill no memory.
@@ -16,40 +16,15 @@ import socket
 import struct
 import sys
 import tempfile
-import threading
 import time
 from concurrent.futures import ThreadPoolExecutor
 
-from common import Listening, ask, run_rows
+from common import Listening, Service, ask, hangs, run_rows
 
 PROGRAM = sys.argv[1] if len(sys.argv) > 1 else "crates/peer_front/out/peer_front"
 VALUE = b"HTTP/1.1 200 OK\r\nContent-Length: 1\r\n\r\nv"
 INTERIM = b"HTTP/1.1 103 Early Hints\r\nLink: " + b"x" * 10000 + b"\r\n\r\n"
 MOST_MEMORY = 64 << 20
-
-
-class Service:
-    """An HTTP service with a thread for each connection, and how many connections it had."""
-
-    def __init__(self, serve):
-        self.listener = socket.create_server(("127.0.0.1", 0))
-        self.port = self.listener.getsockname()[1]
-        self.url = f"http://127.0.0.1:{self.port}/"
-        self.serve, self.connections = serve, 0
-        threading.Thread(target=self.accept, daemon=True).start()
-
-    def accept(self):
-        while True:
-            stream, _ = self.listener.accept()
-            self.connections += 1
-            threading.Thread(target=self.answer, args=(stream,), daemon=True).start()
-
-    def answer(self, stream):
-        with stream:
-            try:
-                self.serve(stream)
-            except OSError:
-                pass
 
 
 def closes(stream):
@@ -84,11 +59,6 @@ def resets_within(stream):
     stream.sendall(b"HTTP/1.1 200 OK\r\n\r\nv")
     time.sleep(0.2)
     stream.setsockopt(socket.SOL_SOCKET, socket.SO_LINGER, struct.pack("ii", 1, 0))
-
-
-def hangs(stream):
-    while stream.recv(10000):
-        pass
 
 
 def never_replies(stream):
@@ -154,6 +124,13 @@ def none_is_kept_that_was_ended():
         return service.connections == 20 and waiting_to_close(service.port) == 0
 
 
+def none_is_kept_where_each_value_has_its_own():
+    service = Service(gives(b"v"))
+    with Server("--connection-for-each", "g=" + service.url) as server:
+        replies = [server.ask(f"g/{number}") for number in range(5)]
+        return all(reply.endswith(b"\x0a\x01v") for reply in replies) and service.connections == 5
+
+
 def each_value_is_of_its_own_service():
     first, second = Service(gives(b"x")), Service(gives(b"y", most=3))
     with Server("a=" + first.url, "b=" + second.url) as server:
@@ -208,6 +185,7 @@ run_rows(
     [
         connections_to_each_service_are_kept,
         none_is_kept_that_was_ended,
+        none_is_kept_where_each_value_has_its_own,
         each_value_is_of_its_own_service,
         a_service_that_hangs_leaves_room_to_others,
         a_service_that_hangs_leaves_room_to_a_table,

@@ -116,6 +116,25 @@ def seats():
             row("the end behind them", server.end(), (0, totals(count, count - 1, 1)))
 
 
+def many():
+    """One less than a connection gets, each behind a read of its own."""
+    with Server("1", "1", "1") as server:
+        client = server.client()
+        replies = ask(client, *["echo/k"] * 9999)
+        row("how many replies one client has", len([reply for reply in replies if reply == (200, b"\n\x01k")]), 9999)
+
+
+def unread():
+    """Who started the server reads its first line alone, so its totals cannot be written."""
+    with Server("1", "1", "1") as server:
+        server.process.stdout.close()
+        client = server.client()
+        row("a client of a server whose output nobody reads", ask(client, "echo/k"), [(200, b"\n\x01k")])
+        client.close()
+        status = server.process.wait(PATIENCE)
+        row("its end", (status, server.process.stderr.read()), (4, b"peer_serve: write failed\n"))
+
+
 def interrupt(process):
     """Stops the process and lets it go on, which ends its reads that wait for a time."""
     for number in (signal.SIGSTOP, signal.SIGCONT) * 5:
@@ -178,7 +197,7 @@ def threads():
 
 
 def main():
-    for part in (first_line, table, caches, seats, interrupted, pipe, cut, threads):
+    for part in (first_line, table, caches, seats, many, unread, interrupted, pipe, cut, threads):
         part()
     failures = rows.count(False)
     print(f"rows {len(rows)} failures {failures}")

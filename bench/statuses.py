@@ -29,6 +29,11 @@ def taken_address():
     return listener, "127.0.0.1:%d" % listener.getsockname()[1]
 
 
+def table_of(count):
+    """A table of one line and so many bytes. Behind them one more read finds the end."""
+    return b"g\tk\t" + b"v" * (count - 5) + b"\n"
+
+
 LISTENER, TAKEN = taken_address()
 
 # the words, standard input, standard output where it is not read, the status, the line
@@ -62,6 +67,8 @@ ODD_ROWS = [
     ("NO_MEMORY", [], HEAD, None, 5, "peer_serve: out of memory\n"),
     ("NO_MEMORY", [HERE, "1", "1", "1"], b"", None, 5, "peer_serve: out of memory\n"),
     ("ONE_BYTE", [], LONG * 9999, None, 6, "peer_serve: too many reads\n"),
+    ("ONE_BYTE", [TAKEN, "1", "1", "1", "-"], table_of(999_999), None, 2, "peer_serve: cannot bind\n"),
+    ("ONE_BYTE", [TAKEN, "1", "1", "1", "-"], table_of(1_000_000), None, 6, "peer_serve: too many reads\n"),
     ("NO_SEED", [HERE, "1", "1", "1"], b"", None, 3, "peer_serve: read failed\n"),
     ("NO_SEED", [], HEAD, None, 0, ""),
 ]

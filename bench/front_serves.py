@@ -1,0 +1,213 @@
+#!/usr/bin/env python3
+"""What the page of counters of the built peer_front says, and what its flags come to.
+
+    ./build
+    python3 bench/front_serves.py [crates/peer_front/out/peer_front]
+
+The first who asks for a key leads, those who ask while it is looked up join, and those who ask once a cache has it hit; connections
+are counted as they come and go; and each failure of a service is counted as what it is. `--loops`, `--workers` and `--fetchers` are as
+many threads; `--timeout` is how long a value may take; a value above `--cache` is not kept, and one below it is; and above
+`--memory` a client is asked for one value at a time.
+
+Its last line is `rows N failures 0`; where a row fails, so does the program.
+"""
+import os
+import socket
+import sys
+import threading
+import time
+import urllib.request
+from concurrent.futures import ThreadPoolExecutor
+
+from common import Listening, Service, ask, free_port, hangs, run_rows
+
+PROGRAM = sys.argv[1] if len(sys.argv) > 1 else "crates/peer_front/out/peer_front"
+PATIENCE = 10  # seconds until the page says what it is to say
+HEAD = b"HTTP/1.1 200 OK\r\nContent-Length: "
+
+
+def replies(reply):
+    """Answers each request by these bytes, and ends the connection behind them."""
+
+    def serve(stream):
+        stream.recv(10000)
+        stream.sendall(reply)
+
+    return serve
+
+
+class Counted(Listening):
+    """A server with a page of counters."""
+
+    def __init__(self, *words):
+        self.page = free_port()
+        super().__init__(PROGRAM, "--stats", str(self.page), *words)
+
+    def ask(self, path):
+        return ask(self.address, path)
+
+    def counts(self):
+        """The numbers of the page by their names."""
+        with urllib.request.urlopen(f"http://127.0.0.1:{self.page}/metrics", timeout=5) as page:
+            lines = page.read().decode().splitlines()
+        pairs = [line.rsplit(" ", 1) for line in lines if not line.startswith("#")]
+        return {name.removeprefix("peer_front_"): float(number) for name, number in pairs}
+
+    def threads(self):
+        return len(os.listdir(f"/proc/{self.process.pid}/task"))
+
+    def calls(self, number):
+        """Waits until the source was called so often."""
+        until = time.monotonic() + PATIENCE
+        while self.counts()["calls_total"] < number and time.monotonic() < until:
+            time.sleep(0.02)
+
+    def says(self, **numbers):
+        """Whether the page comes to have these numbers."""
+        until = time.monotonic() + PATIENCE
+        while time.monotonic() < until:
+            counts = self.counts()
+            if all(counts[name] == number for name, number in numbers.items()):
+                return True
+            time.sleep(0.02)
+        print({name: counts[name] for name in numbers}, "and not", numbers)
+        return False
+
+
+def asks_are_told_apart():
+    found = threading.Event()
+
+    def serve(stream):
+        found.wait(PATIENCE)
+        replies(HEAD + b"1\r\n\r\nv")(stream)
+
+    service = Service(serve)
+    with Counted("g=" + service.url) as server, ThreadPoolExecutor(4) as threads:
+        waiting = [threads.submit(server.ask, "g/k") for _ in range(4)]
+        joined = server.says(asked_total=4, led_total=1, joined_total=3, hits_total=0, calls_total=1)
+        found.set()
+        right = [future.result().endswith(b"\x0a\x01v") for future in waiting]
+        right += [server.ask("g/" + key).endswith(b"\x0a\x01v") for key in ("k", "k", "k", "k", "k", "other")]
+        return joined and all(right) and server.says(
+            asked_total=10, led_total=2, joined_total=3, hits_total=5, calls_total=2, rehits_total=0, strangers_total=0
+        )
+
+
+def connections_come_and_go():
+    with Counted("--demo") as server:
+        ask(server.address, "echo/k")
+        first, second = (socket.create_connection(server.address) for _ in range(2))
+        came = server.says(connections=2, connections_accepted_total=3)
+        first.close()
+        went = server.says(connections=1, connections_accepted_total=3)
+        second.close()
+        return came and went and server.says(connections=0, accept_failures_total=0)
+
+
+# What a service does, and the kind of failure that it is.
+KINDS = [
+    (replies(b"HTTP/1.1 404 Not Found\r\nContent-Length: 0\r\n\r\n"), "no_such_key"),
+    (replies(b"HTTP/1.1 500 Oh\r\nContent-Length: 0\r\n\r\n"), "status"),
+    (None, "unreached"),
+    (hangs, "late"),
+    (replies(HEAD + b"2\r\n\r\nv"), "lost"),
+    (replies(b"220 ready\r\n\r\n"), "malformed"),
+    (replies(HEAD + b"1048577\r\n\r\n"), "too_long"),
+]
+
+
+def each_failure_is_of_its_kind():
+    urls = [Service(serve).url if serve else f"http://127.0.0.1:{free_port()}/" for serve, _ in KINDS]
+    words = [f"g{number}={url}" for number, url in enumerate(urls)]
+    with Counted("--timeout", "1", *words) as server, ThreadPoolExecutor(8) as threads:
+        # Of the first kind one, of the next two, and so on.
+        paths = [f"g{number}/{key}" for number in range(len(KINDS)) for key in range(number + 1)]
+        list(threads.map(server.ask, paths))
+        return server.says(**{f'origin_failures_total{{kind="{kind}"}}': number + 1 for number, (_, kind) in enumerate(KINDS)})
+
+
+def threads_of(path, *words):
+    """How many threads there are once a key was answered: no client is accepted before all are there."""
+    with Counted(*words) as server:
+        server.ask(path)
+        return server.threads()
+
+
+def each_thread_is_asked_for():
+    group = "g=" + Service(replies(HEAD + b"1\r\n\r\nv")).url
+    one = threads_of("echo/k", "--demo", "--loops", "1")
+    fetching = threads_of("g/k", "--fetchers", "1", group)
+    return (
+        threads_of("echo/k", "--demo", "--loops", "4") == one + 3
+        and threads_of("echo/k", "--demo", "--loops", "1", "--workers", "5") == one + 5
+        and threads_of("g/k", "--fetchers", "3", group) == fetching + 2
+    )
+
+
+def a_value_is_late_by_the_flag():
+    def ends_late(stream):
+        stream.recv(10000)
+        time.sleep(5)  # longer than by the flag, and not as long as without it
+
+    with Counted("--timeout", "1", "g=" + Service(ends_late).url) as server:
+        return b"origin timed out" in server.ask("g/k")
+
+
+def hits_of(*words):
+    """How many hits there are where a value of 100,000 bytes is asked for twice."""
+    with Counted("--demo", *words) as server:
+        for _ in range(2):
+            server.ask("fill/100000")
+        server.says(asked_total=2)
+        return server.counts()["hits_total"]
+
+
+def values_within_the_cache_are_kept():
+    return [hits_of(), hits_of("--cache", "100006"), hits_of("--cache", "100005"), hits_of("--cache", "0")] == [1, 1, 0, 0]
+
+
+def get(*paths):
+    return b"".join(f"GET /_groupcache/{path} HTTP/1.1\r\nHost: h\r\n\r\n".encode() for path in paths)
+
+
+def asked_at_once(*words):
+    """How many of two values of a service are asked for at once for a client, beside another one that waits for a first value, while
+    two more of 1 MiB each are there for it."""
+    asked, may_answer = [], threading.Event()
+
+    def serve(stream):
+        asked.append(stream.recv(10000).split()[1])
+        may_answer.wait(PATIENCE)
+
+    service = Service(serve)
+    with Counted("--demo", *words, "g=" + service.url) as server:
+        other, client = (socket.create_connection(server.address, PATIENCE) for _ in range(2))
+        for stream in (other, client):
+            for number in range(6):
+                stream.sendall(get(f"echo/{number}"))
+                stream.recv(10000)
+        other.sendall(get("g/first", "fill/1048576", "fill/1048575"))
+        server.calls(9)
+        time.sleep(1.5)  # what clients hold is counted once a second
+        client.sendall(get("g/one", "g/two"))
+        server.calls(10)
+        time.sleep(0.5)
+        may_answer.set()
+        return len({b"/one", b"/two"} & set(asked))
+
+
+def above_the_memory_one_value_is_asked_for():
+    return [asked_at_once("--memory", "64KiB"), asked_at_once()] == [1, 2]
+
+
+run_rows(
+    [
+        asks_are_told_apart,
+        connections_come_and_go,
+        each_failure_is_of_its_kind,
+        each_thread_is_asked_for,
+        a_value_is_late_by_the_flag,
+        values_within_the_cache_are_kept,
+        above_the_memory_one_value_is_asked_for,
+    ]
+)
