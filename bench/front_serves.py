@@ -188,7 +188,7 @@ def asked_at_once(*words):
                 stream.recv(10000)
         other.sendall(get("g/first", "fill/1048576", "fill/1048575"))
         server.calls(9)
-        time.sleep(1.5)  # what clients hold is counted once a second
+        time.sleep(2.5)  # what clients hold is counted once a second
         client.sendall(get("g/one", "g/two"))
         server.calls(10)
         time.sleep(0.5)
