@@ -6,7 +6,7 @@
 
 The first who asks for a key leads, those who ask while it is looked up join, and those who ask once a cache has it hit; connections
 are counted as they come and go; and each failure of a service is counted as what it is. `--loops`, `--workers` and `--fetchers` are as
-many threads; `--timeout` is how long a value may take; a value above `--cache` is not kept, and one below it is; and above
+many threads; no more connections are open than by `--connections`; `--timeout` is how long a value may take; a value above `--cache` is not kept, and one below it is; and above
 `--memory` a client is asked for one value at a time.
 
 Its last line is `rows N failures 0`; where a row fails, so does the program.
@@ -34,6 +34,10 @@ def replies(reply):
         stream.sendall(reply)
 
     return serve
+
+
+def get(*paths):
+    return b"".join(f"GET /_groupcache/{path} HTTP/1.1\r\nHost: h\r\n\r\n".encode() for path in paths)
 
 
 class Counted(Listening):
@@ -144,6 +148,19 @@ def each_thread_is_asked_for():
     )
 
 
+def no_more_connections_than_by_the_flag():
+    with Counted("--connections", "1", "g=" + Service(hangs).url) as server:
+        with socket.create_connection(server.address) as first:
+            first.sendall(get("g/k"))
+            server.calls(1)
+            others = [socket.create_connection(server.address) for _ in range(2)]
+            time.sleep(0.5)
+            accepted = server.counts()["connections_accepted_total"]
+    for other in others:
+        other.close()
+    return accepted == 1
+
+
 def a_value_is_late_by_the_flag():
     def ends_late(stream):
         stream.recv(10000)
@@ -164,10 +181,6 @@ def hits_of(*words):
 
 def values_within_the_cache_are_kept():
     return [hits_of(), hits_of("--cache", "100006"), hits_of("--cache", "100005"), hits_of("--cache", "0")] == [1, 1, 0, 0]
-
-
-def get(*paths):
-    return b"".join(f"GET /_groupcache/{path} HTTP/1.1\r\nHost: h\r\n\r\n".encode() for path in paths)
 
 
 def asked_at_once(*words):
@@ -206,6 +219,7 @@ run_rows(
         connections_come_and_go,
         each_failure_is_of_its_kind,
         each_thread_is_asked_for,
+        no_more_connections_than_by_the_flag,
         a_value_is_late_by_the_flag,
         values_within_the_cache_are_kept,
         above_the_memory_one_value_is_asked_for,
