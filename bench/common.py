@@ -1,5 +1,5 @@
-"""What several scripts of this folder share: a free port, a request, a server that ends with its block, a service, rows, and words of
-the command line."""
+"""What several scripts of this folder share: a free port, a request, a server that ends with its block, a service, rows, and words
+of the command line."""
 import argparse
 import socket
 import subprocess

@@ -4,10 +4,10 @@
     ./build
     python3 bench/front_serves.py [crates/peer_front/out/peer_front]
 
-The first who asks for a key leads, those who ask while it is looked up join, and those who ask once a cache has it hit; connections
-are counted as they come and go; and each failure of a service is counted as what it is. `--loops`, `--workers` and `--fetchers` are as
-many threads; no more connections are open than by `--connections`; `--timeout` is how long a value may take; a value above `--cache`
-is not kept, and one below it is; and above `--memory` a client is asked for one value at a time.
+The first who asks for a key leads, those who ask while it is looked up join, and those who ask once a cache has it hit;
+connections are counted as they come and go; and each failure of a service is counted as what it is. `--loops`, `--workers` and
+`--fetchers` are as many threads; no more connections are open than by `--connections`; `--timeout` is how long a value may take; a
+value above `--cache` is not kept, and one below it is; and above `--memory` a client is asked for one value at a time.
 
 Its last line is `rows N failures 0`; where a row fails, so does the program.
 """
