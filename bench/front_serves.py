@@ -5,7 +5,8 @@
     python3 bench/front_serves.py [crates/peer_front/out/peer_front]
 
 The first who asks for a key leads, those who ask while it is looked up join, and those who ask once a cache has it hit;
-connections are counted as they come and go; and each failure of a service is counted as what it is. `--loops`, `--workers` and
+connections are counted as they come and go; and each failure of a service is counted as what it is, also where a reply of another
+status than 200 begins and its rest is late. `--loops`, `--workers` and
 `--fetchers` are as many threads; no more connections are open than by `--connections`; `--timeout` is how long a value may take; a
 value above `--cache` is not kept, and one below it is; and above `--memory` a client is asked for one value at a time.
 
@@ -130,6 +131,24 @@ def each_failure_is_of_its_kind():
         return server.says(**{f'origin_failures_total{{kind="{kind}"}}': number + 1 for number, (_, kind) in enumerate(KINDS)})
 
 
+def a_status_is_told_where_its_rest_is_late():
+    def hangs_behind(status):
+        def serve(stream):
+            stream.recv(10000)
+            stream.sendall(b"HTTP/1.1 " + status + b"\r\nContent-Length: 10\r\n\r\n")
+            time.sleep(PATIENCE)
+
+        return Service(serve).url
+
+    groups = ["g=" + hangs_behind(b"404 Not Found"), "h=" + hangs_behind(b"503 Oh")]
+    with Counted("--timeout", "1", *groups) as server, ThreadPoolExecutor(2) as threads:
+        missing, broken = threads.map(server.ask, ("g/k", "h/k"))
+        counted = server.says(
+            **{f'origin_failures_total{{kind="{kind}"}}': number for kind, number in (("no_such_key", 1), ("status", 1), ("late", 0))}
+        )
+        return b"no such key" in missing and b"origin answered 503" in broken and counted
+
+
 def threads_of(path, *words):
     """How many threads there are once a key was answered: no client is accepted before all are there."""
     with Counted(*words) as server:
@@ -218,6 +237,7 @@ run_rows(
         asks_are_told_apart,
         connections_come_and_go,
         each_failure_is_of_its_kind,
+        a_status_is_told_where_its_rest_is_late,
         each_thread_is_asked_for,
         no_more_connections_than_by_the_flag,
         a_value_is_late_by_the_flag,

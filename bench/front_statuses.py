@@ -52,7 +52,7 @@ UNDER_WAY = "a number from 1 to 1024 is needed"
 NO_WORKERS = "--workers is for a table and --demo alone: where a service is named, --fetchers says how many threads there are"
 FOR_SERVICES = "is for services: name one, such as thumbs=http://10.0.0.7/thumbs/"
 SIZE = "a number of bytes is needed, or of KiB, MiB or GiB, such as 64MiB"
-PAGE = "a port, or an address and a port, is needed, such as 9100 or 127.0.0.1:9100"
+PAGE = "a port, or an address and a port, is needed, such as 9180 or 127.0.0.1:9180"
 
 # the words, the status, what standard error holds
 ROWS = [
@@ -96,7 +96,7 @@ ROWS = [
     (HERE + ["--demo", "--stats", "0"], 1, f"peer_front: --stats 0: {PAGE}\n"),
     (HERE + ["--demo", "--stats", "65536"], 1, f"peer_front: --stats 65536: {PAGE}\n"),
     (HERE + ["--demo", "--stats", "127.0.0.1"], 1, f"peer_front: --stats 127.0.0.1: {PAGE}\n"),
-    (HERE + ["--demo", "--stats", ":9100"], 1, f"peer_front: --stats :9100: {PAGE}\n"),
+    (HERE + ["--demo", "--stats", ":9180"], 1, f"peer_front: --stats :9180: {PAGE}\n"),
     (HERE + ["--demo", "--stats", TAKEN], 2, f"peer_front: cannot serve --stats {TAKEN}: "),
     (HERE + ["--demo", "--stats", TAKEN.split(":")[1]], 2, f"peer_front: cannot serve --stats {TAKEN}: "),
     (HERE + ["--demo", "--stats"], 1, "--stats"),

@@ -5,8 +5,8 @@
     python3 bench/kept.py [crates/peer_front/out/peer_front]
 
 Connections are kept for a service that is asked now, also where others, asked before, leave as many as are kept; none is kept
-that a service has ended, nor any with `--connection-for-each`; of two services each value comes from its own, also where one ends
-its connections now and then, and in its time where the other one hangs, as a table's do beside a service that hangs; what comes on
+that a service has ended, nor any with `--connection-for-each`; where a host is gone without a word one value is late, and the next
+ones ask anew; of two services each value comes from its own, also where one ends its connections now and then, and in its time where the other one hangs, as a table's do beside a service that hangs; what comes on
 a kept connection without a request is no value; a reply that runs until its connection ends is no value where that is reset; and
 interim replies without end fill no memory.
 
@@ -16,6 +16,7 @@ import socket
 import struct
 import sys
 import tempfile
+import threading
 import time
 from concurrent.futures import ThreadPoolExecutor
 
@@ -157,6 +158,27 @@ def a_service_that_hangs_leaves_room_to_a_table():
             return answers_beside(server, service, "t/k", b"v")
 
 
+def one_value_is_late_where_a_host_is_gone():
+    """Three connections are kept when their host goes without a word, and another one has its address."""
+    three, gone = threading.Barrier(3), threading.Event()
+
+    def serve(stream):
+        was_gone = gone.is_set()
+        if stream.recv(10000) and not was_gone:
+            three.wait(20)
+        stream.sendall(VALUE)
+        while stream.recv(10000):
+            if was_gone:
+                stream.sendall(VALUE)
+
+    with Server("--timeout", "1", "g=" + Service(serve).url) as server:
+        replies = server.ask_together("g/1", "g/2", "g/3")
+        gone.set()
+        late = server.ask("g/4")
+        replies += [server.ask(f"g/{number}") for number in range(5, 9)]
+        return b"origin timed out" in late and all(reply.endswith(b"\x0a\x01v") for reply in replies)
+
+
 def no_value_is_one_that_nobody_asked_for():
     service = Service(speaks_unasked)
     with Server("g=" + service.url) as server:
@@ -189,6 +211,7 @@ run_rows(
         each_value_is_of_its_own_service,
         a_service_that_hangs_leaves_room_to_others,
         a_service_that_hangs_leaves_room_to_a_table,
+        one_value_is_late_where_a_host_is_gone,
         no_value_is_one_that_nobody_asked_for,
         no_value_is_cut_by_a_reset,
         interim_replies_fill_no_memory,

@@ -6,11 +6,14 @@
 
 The program runs in a mount namespace of its own, in which /etc/hosts is a file that this script writes; that takes root.
 The name stands first for a service that answers `one`, then for one that answers `two`, then for none, and each key is
-asked once. Two groups are at the name, which is looked up once for both. Its last line is `checks N failures 0`; where one fails, so does the program.
+asked once. Two groups are at the name, which is looked up once for both. In the end the name has two addresses, of which the
+first answers nobody, and a value may take 2 seconds: the second one is asked within them. Its last line is `checks N failures 0`;
+where one fails, so does the program.
 """
 import http.client
 import http.server
 import os
+import socket
 import subprocess
 import sys
 import tempfile
@@ -40,11 +43,23 @@ def service(address, text):
     threading.Thread(target=server.serve_forever, daemon=True).start()
 
 
+def deaf(address):
+    """A listener that is full: whoever connects to it hears nothing."""
+    listener = socket.create_server((address, PORT), backlog=0)
+    streams = [listener]
+    for _ in range(4):
+        stream = socket.socket()
+        stream.setblocking(False)
+        stream.connect_ex((address, PORT))
+        streams.append(stream)
+    return streams
+
+
 class Front:
     """The program, before which /etc/hosts is a file of its own."""
 
-    def __init__(self, hosts):
-        script = f"mount --bind {hosts} /etc/hosts && exec {PROGRAM} --listen 127.0.0.1:9474"
+    def __init__(self, hosts, *words):
+        script = f"mount --bind {hosts} /etc/hosts && exec {PROGRAM} --listen 127.0.0.1:9474 {' '.join(words)}"
         script += f" first=http://{NAME}:{PORT}/ second=http://{NAME}:{PORT}/"
         self.process = subprocess.Popen(["unshare", "--mount", "sh", "-c", script], stdout=subprocess.PIPE, text=True)
         if self.process.stdout.readline() != "listening\n":
@@ -74,10 +89,10 @@ def main():
     failures = 0
     with tempfile.NamedTemporaryFile("w") as hosts:
 
-        def stands_for(address):
+        def stands_for(*addresses):
             hosts.seek(0)
             hosts.truncate()
-            hosts.write(f"{address} {NAME}\n" if address else "127.0.0.1 localhost\n")
+            hosts.write("127.0.0.1 localhost\n" + "".join(f"{address} {NAME}\n" for address in addresses))
             hosts.flush()
 
         stands_for("127.0.0.2")
@@ -88,11 +103,22 @@ def main():
             checks.append(("the second address", front.gives_soon(b"two")))
             checks.append(("the first no more", not front.ask().endswith(b"one")))
             checks.append(("the second address for both groups", front.ask("second").endswith(b"two")))
-            stands_for(None)
+            stands_for()
             time.sleep(PATIENCE / 2)
             checks.append(("the last address, where nothing is found", front.ask().endswith(b"two")))
         finally:
             front.process.kill()
+            front.process.wait()
+        # The resolver puts the nearer one to 127.0.0.1 first.
+        streams = deaf("127.0.0.1")
+        stands_for("127.0.0.1", "127.0.0.3")
+        front = Front(hosts.name, "--timeout", "2")
+        try:
+            checks.append(("the second of two addresses, where the first one answers nobody", front.ask().endswith(b"two")))
+        finally:
+            front.process.kill()
+        for stream in streams:
+            stream.close()
     for what, right in checks:
         failures += not right
         if not right:

@@ -5,18 +5,20 @@
     python3 bench/slow_clients.py [crates/peer_front/out/peer_front]
 
 One takes so little at a time that the system reports room for more only after longer than a client may take nothing. Others
-take all that there is while the server itself is stopped for longer than that.
+take all that there is while the server itself is stopped for longer than that. Of those who ask while it is stopped for longer than a
+client may be silent none is let go, and a value that comes meanwhile is given, whose time is over by then.
 
 Its last line is `rows N failures 0`; where a row fails, so does the program.
 """
 import signal
 import socket
 import sys
+import threading
 import time
 from contextlib import ExitStack
 from multiprocessing.pool import ThreadPool
 
-from common import Listening, run_rows
+from common import Listening, Service, run_rows
 
 PROGRAM = sys.argv[1] if len(sys.argv) > 1 else "crates/peer_front/out/peer_front"
 # A client may take nothing for 10 s.
@@ -85,4 +87,63 @@ def those_whose_server_stood_still():
         return all(pool.map(has_all_behind_a_stop, servers))
 
 
-run_rows([one_that_takes_little_at_a_time, those_whose_server_stood_still])
+def request(path):
+    return f"GET /_groupcache/{path} HTTP/1.1\r\nHost: h\r\n\r\n".encode()
+
+
+def have_replies_behind_a_stop(_):
+    """Two clients that ask while the server is stopped, where there is room for two and each may be silent for a second."""
+    with Listening(PROGRAM, "--demo", "--connections", "2") as server, ExitStack() as stack:
+        clients = [stack.enter_context(socket.create_connection(server.address, 10)) for _ in range(2)]
+        for client in clients:
+            client.sendall(request("echo/k"))
+            client.recv(10000)
+        time.sleep(0.2)
+        server.process.send_signal(signal.SIGSTOP)
+        time.sleep(3)
+        for client in clients:
+            client.sendall(request("echo/other"))
+        server.process.send_signal(signal.SIGCONT)
+        return all(client.recv(10000).endswith(b"\x0a\x05other") for client in clients)
+
+
+def those_who_asked_while_their_server_stood_still():
+    with ThreadPool(SERVERS) as pool:
+        return all(pool.map(have_replies_behind_a_stop, range(SERVERS)))
+
+
+def is_given_behind_a_stop(_):
+    """A value that comes while the server is stopped, until its time is over."""
+    asked, may_answer = threading.Event(), threading.Event()
+
+    def serve(stream):
+        stream.recv(10000)
+        asked.set()
+        may_answer.wait(10)
+        stream.sendall(b"HTTP/1.1 200 OK\r\nContent-Length: 5\r\n\r\nvalue")
+
+    with Listening(PROGRAM, "--timeout", "2", "g=" + Service(serve).url) as server:
+        with socket.create_connection(server.address, 10) as client:
+            client.sendall(request("g/k"))
+            asked.wait(10)
+            time.sleep(0.2)
+            server.process.send_signal(signal.SIGSTOP)
+            may_answer.set()
+            time.sleep(3)
+            server.process.send_signal(signal.SIGCONT)
+            return client.recv(10000).endswith(b"\x0a\x05value")
+
+
+def a_value_that_came_while_the_server_stood_still():
+    with ThreadPool(SERVERS) as pool:
+        return all(pool.map(is_given_behind_a_stop, range(SERVERS)))
+
+
+run_rows(
+    [
+        one_that_takes_little_at_a_time,
+        those_whose_server_stood_still,
+        those_who_asked_while_their_server_stood_still,
+        a_value_that_came_while_the_server_stood_still,
+    ]
+)

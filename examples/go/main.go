@@ -124,7 +124,8 @@ func main() {
 	halfway := flag.Bool("halfway", false, "say `halfway` and wait for a line, and then ask for more: a server may be ended")
 	flag.Parse()
 
-	// This is what a user writes: a pool whose peers are the servers, and groups with a getter of one's own.
+	// A pool whose peers are the servers, and groups with a getter of one's own. The transport is Go's usual one: for use take that
+	// of README.md.
 	transport := &counting{hosts: map[string]int{}}
 	pool := groupcache.NewHTTPPoolOpts("http://self.invalid", nil)
 	pool.Transport = func(context.Context) http.RoundTripper { return transport }

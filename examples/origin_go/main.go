@@ -227,7 +227,9 @@ type client struct {
 func newClient(urls []string) *client {
 	c := &client{watch: &watcher{hosts: map[string]int{}, errors: map[string]int{}}}
 	c.watch.MaxIdleConnsPerHost = callers
+	c.watch.IdleConnTimeout = 50 * time.Second
 	c.watch.ResponseHeaderTimeout = 30 * time.Second
+	c.watch.DialContext = (&net.Dialer{Timeout: time.Second}).DialContext
 	pool := groupcache.NewHTTPPoolOpts("http://self.invalid", nil)
 	pool.Transport = func(context.Context) http.RoundTripper { return c.watch }
 	pool.Set(urls...)

@@ -115,10 +115,10 @@ fn an_address_has_a_port(rt: HostRuntime) -> Result<(), Fail> {
 #[test]
 fn a_page_has_a_port(rt: HostRuntime) -> Result<(), Fail> {
     let alloc = rt.alloc();
-    let page = "a port, or an address and a port, is needed, such as 9100 or 127.0.0.1:9100";
-    let mut right = tells(alloc, "--stats", "9100", "")?;
-    right &= tells(alloc, "--stats", "0.0.0.0:9100", "")?;
-    for word in ["0", "65536", "+1", "127.0.0.1", ":9100", ""] {
+    let page = "a port, or an address and a port, is needed, such as 9180 or 127.0.0.1:9180";
+    let mut right = tells(alloc, "--stats", "9180", "")?;
+    right &= tells(alloc, "--stats", "0.0.0.0:9180", "")?;
+    for word in ["0", "65536", "+1", "127.0.0.1", ":9180", ""] {
         let text = format!(in alloc; "--stats {word}: {page}")?;
         right &= tells(alloc, "--stats", word, text.as_str())?;
     }

@@ -48,8 +48,6 @@ pub struct Client<'a, S: Source, F: Facts<S>> {
     counted: usize,
     /// Whether it is on the list of those that are to have a turn.
     pub is_ready: bool,
-    /// Whether it is on the list of those that wait for room in the queue of jobs.
-    pub is_for_room: bool,
     activity: Activity,
     ghost source: { F.source ≡ Some exchange.names },
 }
@@ -73,7 +71,6 @@ impl<'a, S: Source, F: Facts<S>> Client<'a, S, F> {
             skipped: 0,
             counted: 0,
             is_ready: false,
-            is_for_room: false,
             activity: Activity::new(now),
         }
     }
@@ -84,9 +81,10 @@ impl<'a, S: Source, F: Facts<S>> Client<'a, S, F> {
         registry.register(&mut self.stream, token, interest)
     }
 
-    /// Notes what was reported.
+    /// Notes what was reported. A client that has reset its connection is to have no reply, whatever it waits for.
     pub fn note(&mut self, event: &Event) {
         self.readiness.note(event);
+        self.failed |= event.is_error();
     }
 
     /// The number of the flight whose fill it waits for.
@@ -146,7 +144,7 @@ impl<'a, S: Source, F: Facts<S>> Client<'a, S, F> {
             return None;
         }
         match awaits {
-            _ if progress == Progress::NoRoom => Some(ClientState::NoRoom),
+            _ if progress == Progress::NoRoom => Some(ClientState::NoRoom(awaits)),
             Some(number) => Some(ClientState::Awaits(number)),
             None => Some(ClientState::Idle),
         }
@@ -164,6 +162,9 @@ impl<'a, S: Source, F: Facts<S>> Client<'a, S, F> {
         ensures parts { KeepsParts seat.old.seats seat.new.seats }
     {
         self.receive(seat.buffer.as_mut_slice(), now);
+        if self.failed {
+            return Some(ClientState::Gone);
+        }
         let progress = self.serve(rt, seat, occupancy);
         self.send(now);
         if self.failed {
@@ -191,11 +192,9 @@ impl<'a, S: Source, F: Facts<S>> Client<'a, S, F> {
         self.counted = 0;
     }
 
-    /// Reads nothing more of it, as if it had told its end. Whether it can be let go: it holds nothing, and its close does not
-    /// linger.
-    pub fn stop(&mut self) -> bool {
+    /// Reads nothing more of it, as if it had told its end. In its next turns it is answered, and closed.
+    pub fn stop(&mut self) {
         self.exchange.end();
-        !self.is_ready && !self.lingers && self.holds_nothing() && !self.exchange.rest().job
     }
 
     /// Reads, answers and writes, as far as that goes in one turn.

@@ -7,8 +7,8 @@ pub enum ClientState {
     Idle,
     /// It waits for the fill of the flight with this number.
     Awaits(u64),
-    /// It waits for room in the queue of jobs.
-    NoRoom,
+    /// It waits for room in the queue of jobs, and for the fill of the flight with this number, if for one.
+    NoRoom(Option<u64>),
     /// It has had its turn, and has work left.
     Busy,
     /// It is to be let go.

@@ -1,10 +1,11 @@
 //! The clients of a loop: which are to have a turn, which wait for a fill, and which for room in the queue of jobs.
 //!
-//! It stands on `Client`, a stream and its connection, and on the lists by slot (`WaitLists`). It promises nothing that
-//! contracts see: a client waits on each list once at most, and to list one takes no memory, which is had as it is added. A
-//! key stays among those that are to have a turn where its client had one for another reason, or left: it is passed over.
+//! It stands on `Client`, a stream and its connection, and on the lists (`ClientList`, and by slot `WaitLists`). It promises
+//! nothing that contracts see: a client waits on each list once at most, to list one takes no memory, which is had as it is added,
+//! and one that left is on none.
 
 use crate::client::Client;
+use crate::client_list::ClientList;
 use crate::facts::Facts;
 use crate::wait_lists::WaitLists;
 use mio::event::Event;
@@ -12,17 +13,16 @@ use mio::{Registry, Token};
 use peer_source::Source;
 use slab::Slab;
 use std::alloc::{AllocError, Global};
-use std::collections::VecDeque;
 
 /// The clients, each under its key.
 #[derive(Drop)]
 pub struct Clients<'a, S: Source, F: Facts<S>> {
     /// All of them.
     pub each: Slab<Client<'a, S, F>>,
-    /// Those that are to have a turn.
-    pub ready: VecDeque<usize>,
+    // Those that are to have a turn.
+    ready: ClientList,
     // Those that wait for room in the queue of jobs, the one that waits longest first.
-    for_room: VecDeque<usize>,
+    for_room: ClientList,
     // Those that wait for a fill.
     waiting: WaitLists,
 }
@@ -32,8 +32,8 @@ impl<'a, S: Source, F: Facts<S>> Clients<'a, S, F> {
     pub fn new(alloc: Global) -> Clients<'a, S, F> {
         Clients {
             each: Slab::new(alloc),
-            ready: VecDeque::new(alloc),
-            for_room: VecDeque::new(alloc),
+            ready: ClientList::new(alloc),
+            for_room: ClientList::new(alloc),
             waiting: WaitLists::new(alloc),
         }
     }
@@ -43,10 +43,8 @@ impl<'a, S: Source, F: Facts<S>> Clients<'a, S, F> {
         self.each.reserve(1)?;
         let key = self.each.vacant_key();
         self.waiting.reserve(key)?;
-        let more = self.each.len().saturating_add(1);
-        // One more for each that had its turn, and is listed anew.
-        self.ready.reserve(more.saturating_mul(2))?;
-        self.for_room.reserve(more)
+        self.ready.reserve(key)?;
+        self.for_room.reserve(key)
     }
 
     /// Adds a client, and says whether memory and the system allow it.
@@ -56,24 +54,39 @@ impl<'a, S: Source, F: Facts<S>> Clients<'a, S, F> {
         has_room && client.register(registry, token).is_ok() && self.each.insert(client).is_ok()
     }
 
-    /// Takes a client out, and off the lists of those that wait.
+    /// Takes a client out, and off all lists.
     pub fn remove(&mut self, key: usize) -> Option<Client<'a, S, F>> {
         self.unlist(key);
-        let client = self.each.try_remove(key)?;
-        if client.is_for_room {
-            self.for_room.retain(|waits| *waits != key);
-        }
-        Some(client)
+        self.ready.remove(key);
+        self.for_room.remove(key);
+        self.each.try_remove(key)
     }
 
     /// Puts a client behind those that are to have a turn.
     pub fn make_ready(&mut self, key: usize) {
         if let Some(client) = self.each.get_mut(key) {
-            if !client.is_ready {
-                client.is_ready = true;
-                let _ = self.ready.push_back(key);
-            }
+            client.is_ready = true;
+            self.ready.push(key);
         }
+    }
+
+    /// Whether one is to have a turn.
+    pub fn has_ready(&self) -> bool {
+        !self.ready.is_empty()
+    }
+
+    /// How many are to have a turn.
+    pub fn ready_count(&self) -> usize {
+        self.ready.len()
+    }
+
+    /// Takes the client off its list that is to have its turn first.
+    pub fn next_ready(&mut self) -> Option<usize> {
+        let key = self.ready.pop()?;
+        if let Some(client) = self.each.get_mut(key) {
+            client.is_ready = false;
+        }
+        Some(key)
     }
 
     /// Notes an event of a client, which then has its turn.
@@ -125,21 +138,12 @@ impl<'a, S: Source, F: Facts<S>> Clients<'a, S, F> {
 
     /// Lists a client as one that waits for room in the queue of jobs.
     pub fn wait_for_room(&mut self, key: usize) {
-        if let Some(client) = self.each.get_mut(key) {
-            if !client.is_for_room {
-                client.is_for_room = true;
-                let _ = self.for_room.push_back(key);
-            }
-        }
+        self.for_room.push(key);
     }
 
     /// Takes the client off its list that has waited longest for room in the queue of jobs.
     pub fn next_for_room(&mut self) -> Option<usize> {
-        let key = self.for_room.pop_front()?;
-        if let Some(client) = self.each.get_mut(key) {
-            client.is_for_room = false;
-        }
-        Some(key)
+        self.for_room.pop()
     }
 
     /// Whether a client is to have a turn.

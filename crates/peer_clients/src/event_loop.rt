@@ -4,6 +4,7 @@
 //! that the seats stay those of the pool, with their parts.
 
 use crate::facts::Facts;
+use crate::limits::MAX_EVENTS;
 use crate::seat::LoopSeat;
 use crate::turns::Turns;
 use mio::{Events, Poll};
@@ -23,6 +24,15 @@ use std::time::{Clock, Duration, Instant};
 pub struct Waits {
     pub poll: Poll,
     pub events: Events,
+}
+
+impl Waits {
+    // Looks for events without waiting. Whether that went well.
+    fn poll_now(&mut self) -> bool {
+        self.poll
+            .poll(&mut self.events, Some(Duration::ZERO))
+            .is_ok()
+    }
 }
 
 /// A loop and its clients.
@@ -68,12 +78,50 @@ impl<'a, S: Source, F: Facts<S>> EventLoop<'a, S, F> {
         }
     }
 
-    // Tells the time.
-    fn tell_time<H: Clock>(&mut self, rt: &H, begun: Option<Instant>) {
+    // Notes what was reported. Whether more may be.
+    fn note(&mut self, waits: &Waits) -> bool {
+        for event in waits.events.iter() {
+            if event.token() != WOKEN {
+                self.turns.clients.note(event);
+            }
+        }
+        waits.events.iter().count() >= MAX_EVENTS
+    }
+
+    // Notes all that is there by now.
+    fn note_all(&mut self, waits: &mut Waits) {
+        for _ in 0..=self.turns.clients.each.len() / MAX_EVENTS {
+            if !waits.poll_now() || !self.note(waits) {
+                return;
+            }
+        }
+    }
+
+    // Tells the time. Where clients may be let go by it, all that is there is noted before: of those who asked while the loop
+    // stood still it need not have been told.
+    fn tell_time<H: Clock>(&mut self, rt: &H, begun: Option<Instant>, waits: &mut Waits) {
         let Some(now) = begun.and_then(|begun| begun.elapsed(rt).ok()) else {
             return;
         };
+        if self.turns.is_tick(now) {
+            self.note_all(waits);
+        }
         self.turns.tell_time(now);
+    }
+
+    // Reads and asks for what is there, and no more of its clients.
+    fn stop<L: Ledger, H: Wait>(
+        &mut self,
+        rt: &H,
+        seat: &mut LoopSeat<'a, S, L, F>,
+        waits: &mut Waits,
+    )
+        ensures pool { seat.new.pool.now ≡ seat.old.pool.now }
+        ensures parts { KeepsParts seat.old.seats seat.new.seats }
+    {
+        self.note_all(waits);
+        self.turns.serve_told(rt, seat);
+        self.turns.stop_clients();
     }
 
     // Has the jobs filled that were pushed. Where the loop fills them, those have their turn who waited for them.
@@ -92,9 +140,7 @@ impl<'a, S: Source, F: Facts<S>> EventLoop<'a, S, F> {
 
     // Whether there is something to do by now.
     fn is_awake<L: Ledger>(&self, seat: &LoopSeat<'a, S, L, F>) -> bool {
-        !self.turns.clients.ready.is_empty()
-            || self.turns.shared.mailbox.is_told()
-            || seat.has_jobs()
+        self.turns.clients.has_ready() || self.turns.shared.mailbox.is_told() || seat.has_jobs()
     }
 
     // Whether nothing is left to do, and nothing comes any more.
@@ -137,7 +183,7 @@ impl<'a, S: Source, F: Facts<S>> EventLoop<'a, S, F> {
         }
     }
 
-    // Waits for events so long, and notes them.
+    // Waits for events so long, and notes what was reported.
     fn wait<H: Host>(&mut self, rt: &H, time: Option<Duration>, waits: &mut Waits) {
         let waited = waits.poll.poll(&mut waits.events, time);
         self.turns.shared.mailbox.stay_awake();
@@ -145,11 +191,7 @@ impl<'a, S: Source, F: Facts<S>> EventLoop<'a, S, F> {
             thread::sleep(rt, self.turns.shared.site.limits.pause);
             return;
         }
-        for event in waits.events.iter() {
-            if event.token() != WOKEN {
-                self.turns.clients.note(event);
-            }
-        }
+        let _ = self.note(waits);
     }
 
     // One turn of the loop: it waits for events, and serves those whom they concern.
@@ -165,10 +207,14 @@ impl<'a, S: Source, F: Facts<S>> EventLoop<'a, S, F> {
     {
         let time = self.time_to_wait(rt, seat);
         self.wait(rt, time, waits);
-        self.turns.stop_clients();
-        // Before streams are taken: a loop without clients may have slept for longer than a client may be silent.
-        self.tell_time(rt, begun);
+        // Before streams are taken: behind the look none is given, and a loop without clients may have slept for longer than a client
+        // may be silent.
+        let stops = self.turns.is_to_stop();
+        self.tell_time(rt, begun, waits);
         self.turns.take_streams(rt, waits.poll.registry(), seat);
+        if stops {
+            self.stop(rt, seat, waits);
+        }
         self.turns.serve_told(rt, seat);
         self.fill_jobs(rt, seat);
         self.publish(seat);

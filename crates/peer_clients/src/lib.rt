@@ -8,6 +8,7 @@
 #![tactic(auto)]
 
 mod client;
+mod client_list;
 mod client_state;
 mod clients;
 mod event_loop;

@@ -27,6 +27,9 @@ pub struct Turns<'a, S: Source, F: Facts<S>> {
     now: Duration,
     /// When it last looked for clients that are overdue.
     pub swept: Duration,
+    // Where the next look for them begins: behind the one that was let go last for want of room, or else it would always be the same
+    // ones.
+    next_sweep_key: usize,
 }
 
 impl<'a, S: Source, F: Facts<S>> Turns<'a, S, F> {
@@ -41,6 +44,7 @@ impl<'a, S: Source, F: Facts<S>> Turns<'a, S, F> {
             stopped: false,
             now: Duration::ZERO,
             swept: Duration::ZERO,
+            next_sweep_key: 0,
         }
     }
 
@@ -66,6 +70,8 @@ impl<'a, S: Source, F: Facts<S>> Turns<'a, S, F> {
     fn forget(&mut self, key: usize) {
         if let Some(mut client) = self.clients.remove(key) {
             client.let_go(self.shared.site.occupancy);
+            // Before the place is free: the next one needs its file.
+            drop(client);
             self.shared.site.occupancy.leave();
         }
     }
@@ -80,9 +86,9 @@ impl<'a, S: Source, F: Facts<S>> Turns<'a, S, F> {
         }
     }
 
-    // Lists a client as one that waits for a fill, where it waits for one.
-    fn list_awaited(&mut self, key: usize) {
-        match self.clients.awaits(key) {
+    // Lists a client as one that waits for the fill of this flight, or for none.
+    fn list_awaited(&mut self, key: usize, awaits: Option<u64>) {
+        match awaits {
             Some(number) => self.list(key, number),
             None => self.clients.unlist(key),
         }
@@ -101,7 +107,10 @@ impl<'a, S: Source, F: Facts<S>> Turns<'a, S, F> {
             let Some(key) = self.clients.next_for_room() else {
                 return;
             };
-            self.serve(rt, seat, key);
+            // One that is to have a turn anyway has it soon, and no second one now.
+            if !self.clients.is_ready(key) {
+                self.serve(rt, seat, key);
+            }
         }
     }
 
@@ -131,7 +140,6 @@ impl<'a, S: Source, F: Facts<S>> Turns<'a, S, F> {
         ensures parts { KeepsParts seat.old.seats seat.new.seats }
     {
         let client = self.clients.each.get_mut(key)?;
-        client.is_ready = false;
         let state = client.turn(rt, seat, self.now, self.shared.site.occupancy);
         client.count_held(self.shared.site.occupancy);
         Some(state)
@@ -142,9 +150,9 @@ impl<'a, S: Source, F: Facts<S>> Turns<'a, S, F> {
         match state {
             ClientState::Idle => self.clients.unlist(key),
             ClientState::Awaits(number) => self.list(key, number),
-            ClientState::NoRoom => {
+            ClientState::NoRoom(awaits) => {
                 self.clients.wait_for_room(key);
-                self.list_awaited(key);
+                self.list_awaited(key, awaits);
             }
             ClientState::Busy => self.clients.make_ready(key),
             ClientState::Gone => self.forget(key),
@@ -161,18 +169,16 @@ impl<'a, S: Source, F: Facts<S>> Turns<'a, S, F> {
         }
     }
 
-    // Gives each of those their turn that are to have one by now, and have not had it since they were listed.
+    // Gives each of those their turn that are to have one by now.
     fn serve_ready<L: Ledger, H: Wait>(&mut self, rt: &H, seat: &mut LoopSeat<'a, S, L, F>)
         ensures pool { seat.new.pool.now ≡ seat.old.pool.now }
         ensures parts { KeepsParts seat.old.seats seat.new.seats }
     {
-        for _ in 0..self.clients.ready.len() {
-            let Some(key) = self.clients.ready.pop_front() else {
+        for _ in 0..self.clients.ready_count() {
+            let Some(key) = self.clients.next_ready() else {
                 return;
             };
-            if self.clients.is_ready(key) {
-                self.serve(rt, seat, key);
-            }
+            self.serve(rt, seat, key);
         }
     }
 
@@ -204,33 +210,39 @@ impl<'a, S: Source, F: Facts<S>> Turns<'a, S, F> {
         false
     }
 
-    // Lets those go that were silent, or took nothing, for too long, and counts what the others hold.
+    // Lets those go that were silent, or took nothing, for too long, and counts what the others hold. Where no more connections
+    // could be had, others than these are let go until some are free again.
     fn sweep(&mut self) {
-        let full = self.shared.site.occupancy.is_full();
-        for key in 0..self.clients.each.capacity() {
+        let keys = self.clients.each.capacity();
+        let first = self.next_sweep_key;
+        let mut full = self.shared.site.occupancy.is_full();
+        for n in 0..keys {
+            let key = first.wrapping_add(n) % keys;
             if self.look_at(key, full) {
                 self.forget(key);
+                if full && !self.shared.site.occupancy.is_crowded() {
+                    full = false;
+                    self.next_sweep_key = key.wrapping_add(1);
+                }
             }
         }
     }
 
-    // Lets a client go that holds nothing, and has another its turn, in which it is answered and closed.
+    // Reads nothing more of a client, and has it its turn, in which it is closed where it waits for nothing.
     fn stop_client(&mut self, key: usize) {
-        let Some(client) = self.clients.each.get_mut(key) else {
-            return;
-        };
-        if client.stop() {
-            self.forget(key);
-        } else {
+        if let Some(client) = self.clients.each.get_mut(key) {
+            client.stop();
             self.clients.make_ready(key);
         }
     }
 
-    /// Lets idle clients go, and reads nothing more of the others, once the server was told to end.
+    /// Whether the server was told to end, and its clients were not stopped yet.
+    pub fn is_to_stop(&self) -> bool {
+        !self.stopped && self.shared.mailbox.is_stopping()
+    }
+
+    /// Reads nothing more of the clients. They are closed as others are, so that none loses a reply that is on its way.
     pub fn stop_clients(&mut self) {
-        if self.stopped || !self.shared.mailbox.is_stopping() {
-            return;
-        }
         self.stopped = true;
         for key in 0..self.clients.each.capacity() {
             self.stop_client(key);
@@ -255,10 +267,15 @@ impl<'a, S: Source, F: Facts<S>> Turns<'a, S, F> {
         tick.saturating_sub(self.now.saturating_sub(self.swept))
     }
 
+    /// Whether a tick is over by then.
+    pub fn is_tick(&self, now: Duration) -> bool {
+        now.saturating_sub(self.swept) >= self.shared.site.limits.tick
+    }
+
     /// So much time has passed since the loop began. Lets clients go that are overdue, where a tick is over.
     pub fn tell_time(&mut self, now: Duration) {
         self.now = now;
-        if now.saturating_sub(self.swept) >= self.shared.site.limits.tick {
+        if self.is_tick(now) {
             self.swept = now;
             self.sweep();
         }

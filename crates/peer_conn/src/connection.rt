@@ -29,7 +29,7 @@ use std::thread;
 use std::thread::{Promise, Scope, Threads};
 
 /// Serves one connection with at most `reads` reads. One thread reads and asks the pool ahead, and another writes, so
-/// that fills for one connection are had beside one another.
+/// that several fills for one connection are made at the same time.
 ///
 /// It needs a worker of the pool (`Pool::run_worker`) in another thread, until it returns: without one it waits for ever
 /// for the first fill.

@@ -45,8 +45,8 @@ module _ {S : Type 0} where
   -- another place; or memory was refused
   abbrev pub AnswersFilled : {E : Type 0} → (ℕ → List ℕ → Answer → Type 0) → Claim S → Filled → ReplyForm → List ℕ → List ℕ
       → Result Answered E → Type 0
-  AnswersFilled answers c fill form old new (Ok (answered.Put made_good)) = IsReplyPut answers (claim_wish c form) old new
-      × OnFalse made_good (IsOwn c fill) × OnTrue made_good (¬ (IsOwn c fill))
+  AnswersFilled answers c fill form old new (Ok (answered.Put refilled)) = IsReplyPut answers (claim_wish c form) old new
+      × OnFalse refilled (IsOwn c fill) × OnTrue refilled (¬ (IsOwn c fill))
   AnswersFilled answers c fill form old new (Ok answered.Waits) = ⊥
   AnswersFilled answers c fill form old new (Err fault) = new ≡ old
 
@@ -54,15 +54,15 @@ module _ {S : Type 0} where
   -- memory was refused
   abbrev pub AnswersClaim : {E : Type 0} → (ℕ → List ℕ → Answer → Type 0) → Claim S → ReplyForm → List ℕ → List ℕ
       → Result Answered E → Type 0
-  AnswersClaim answers c form old new (Ok (answered.Put made_good)) = IsReplyPut answers (claim_wish c form) old new
-      × OnTrue made_good (is_pending c ≡ true)
+  AnswersClaim answers c form old new (Ok (answered.Put refilled)) = IsReplyPut answers (claim_wish c form) old new
+      × OnTrue refilled (is_pending c ≡ true)
   AnswersClaim answers c form old new (Ok answered.Waits) = (new ≡ old) × (is_pending c ≡ true)
   AnswersClaim answers c form old new (Err fault) = new ≡ old
 
   -- a reply to this ticket was put, and made good only where it is of a flight; or its fill is not there yet, or memory was
   -- refused
   abbrev pub Answers : {E : Type 0} → (ℕ → List ℕ → Answer → Type 0) → Ticket S → List ℕ → List ℕ → Result Answered E → Type 0
-  Answers answers t old new (Ok (answered.Put made_good)) = IsReplyPut answers (wish_by t) old new
-      × OnTrue made_good (waits_on_flight t.body ≡ true)
+  Answers answers t old new (Ok (answered.Put refilled)) = IsReplyPut answers (wish_by t) old new
+      × OnTrue refilled (waits_on_flight t.body ≡ true)
   Answers answers t old new (Ok answered.Waits) = (new ≡ old) × (waits_on_flight t.body ≡ true)
   Answers answers t old new (Err fault) = new ≡ old

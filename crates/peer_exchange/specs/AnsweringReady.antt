@@ -37,8 +37,8 @@ module _ {S : Type 0} where
 
   -- the first ticket was answered, and a stranger counted exactly where it was made good; or it waits, or it was given up
   abbrev pub AnswersFirst : ExchangeState S → ExchangeState S → AskCounts → AskCounts → Result Answered GivenUp → Type 0
-  AnswersFirst old new asks asks' (Ok (answered.Put made_good)) =
-      AnswersTicket (cond made_good 1 0) old new asks asks' × (new.intake.stage ≡ old.intake.stage)
+  AnswersFirst old new asks asks' (Ok (answered.Put refilled)) =
+      AnswersTicket (cond refilled 1 0) old new asks asks' × (new.intake.stage ≡ old.intake.stage)
   AnswersFirst old new asks asks' (Ok answered.Waits) = (new.waiting.items ≡ old.waiting.items) × (asks' ≡ asks)
       × (new.intake.stage ≡ old.intake.stage) × IsAnsweredThrough new
       × (unsent new ≡ unsent old) × (new.window.tickets ≡ old.window.tickets)

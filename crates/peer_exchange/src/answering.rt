@@ -82,11 +82,11 @@ impl<S: Source> ExchangeState<S> {
         };
         let before = self.outgoing.out.len();
         match self.outgoing.answer(pool, ticket) {
-            Ok(Answered::Put { made_good }) => {
-                seat.add_strangers(u64::from(made_good));
+            Ok(Answered::Put { refilled }) => {
+                seat.add_strangers(u64::from(refilled));
                 drop_first(&mut self.waiting);
                 self.window.put(self.outgoing.out.len() - before);
-                Ok(Answered::Put { made_good })
+                Ok(Answered::Put { refilled })
             }
             Ok(Answered::Waits) => Ok(Answered::Waits),
             Err(AllocError) => Err(self.give_up(GivenUp::Memory)),

@@ -126,8 +126,8 @@ impl<'p, S: Source> Exchange<'p, S> {
         self.state.end();
     }
 
-    /// No ticket joins one that waits until replies were put, as for a new client. Those that wait stay: a client for which
-    /// none does comes to hold one value at most, and not 64.
+    /// Sets the window back to one ticket, as for a new client. Tickets that wait stay: a client for which none does then holds one
+    /// value at most, and not 64.
     pub fn narrow(&mut self)
         ensures histories { KeepsHistories self.old self.new }
         ensures stage { self.new.state.intake.stage ≡ self.old.state.intake.stage }
@@ -212,7 +212,8 @@ impl<'p, S: Source> Exchange<'p, S> {
         self.state.answer_ready(pool, seat)
     }
 
-    /// What would let it go on, once what it holds was judged by `ask_held`.
+    /// What would let it go on, once what it holds was judged by `ask_held`. Behind `answer_ready` and `sent`, which make room, more of
+    /// it may have to be judged first.
     pub fn rest(&self) -> Rest
         ensures { result ≡ rest_of self.now.state }
     {
@@ -242,7 +243,8 @@ impl<'p, S: Source> Exchange<'p, S> {
     }
 
     /// How it ended, none where it is not over. `Clean`: all of what came was answered, or all up to a closing request.
-    /// `Cut`: all whole heads were, and the client's end came inside another. `Memory` and `Worn`: it was given up behind whole replies to the first requests.
+    /// `Cut`: all whole heads were, and the client's end came inside another. `Memory` and `Worn`: it was given up behind whole replies
+    /// to the first requests.
     pub fn ended(&self) -> Option<End>
         ensures ends { ∥ IsEnd (S.number_of self.now.names) (allows S.allowed) self.now.came.bytes self.now.sent.bytes
             self.now.state result ∥₁ }

@@ -26,7 +26,7 @@ pub enum GivenUp {
 pub(crate) enum Stage {
     /// More bytes may come.
     Open,
-    /// The client told its end. What is held is judged yet.
+    /// The client told its end. What is held is still to be judged.
     Told,
     /// The client told its end, and all whole heads were judged.
     Ended,

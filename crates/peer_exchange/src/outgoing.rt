@@ -34,8 +34,8 @@ pub(crate) struct Outgoing {
 pub(crate) enum Answered {
     /// Its fill is not there yet.
     Waits,
-    /// Its reply was put. It was made good where that is of a fill of its own, since the one that came was of another place.
-    Put { made_good: bool },
+    /// Its reply was put. `refilled`: the fill that came was of another place, so that `Pool::refill` made one.
+    Put { refilled: bool },
 }
 
 // The fill of a claim, where it is there.
@@ -102,7 +102,7 @@ impl Outgoing {
         };
         match &ticket.body {
             Body::Fault(fault) => match self.put_fault(fault, form) {
-                Ok(()) => Ok(Answered::Put { made_good: false }),
+                Ok(()) => Ok(Answered::Put { refilled: false }),
                 Err(fault) => Err(fault),
             },
             Body::Claim(claim) => self.answer_claim(pool, claim, form),
@@ -120,7 +120,7 @@ impl Outgoing {
     {
         if let Claim::Ready(fill) = claim {
             return match self.put_fill(fill, form) {
-                Ok(()) => Ok(Answered::Put { made_good: false }),
+                Ok(()) => Ok(Answered::Put { refilled: false }),
                 Err(fault) => Err(fault),
             };
         }
@@ -142,11 +142,11 @@ impl Outgoing {
     {
         match pool.refill(self.alloc, claim, fill) {
             Ok(None) => match self.put_fill(fill, form) {
-                Ok(()) => Ok(Answered::Put { made_good: false }),
+                Ok(()) => Ok(Answered::Put { refilled: false }),
                 Err(fault) => Err(fault),
             },
             Ok(Some(own)) => match self.put_fill(&own, form) {
-                Ok(()) => Ok(Answered::Put { made_good: true }),
+                Ok(()) => Ok(Answered::Put { refilled: true }),
                 Err(fault) => Err(fault),
             },
             Err(fault) => Err(fault),

@@ -130,6 +130,20 @@ impl<'a, S: Source> Connections<'a, S> {
         }
     }
 
+    /// Lets all connections go that are kept for the endpoint of this one, where it was kept itself.
+    pub fn forget_kept_with(&mut self, key: usize) {
+        let number = match self.links.get(key) {
+            Some(link) if link.was_kept => link.number,
+            _ => return,
+        };
+        for _ in 0..self.links.len() {
+            match self.idle.pop(number) {
+                Some(kept) => self.forget(kept),
+                None => return,
+            }
+        }
+    }
+
     /// Lets the connection go that was used longest ago, of the endpoint that has most of them.
     pub fn forget_oldest(&mut self) {
         if let Some(key) = self.idle.pop_oldest() {
@@ -160,7 +174,7 @@ impl<'a, S: Source> Connections<'a, S> {
     }
 
     /// Puts a connection behind those that are to have a turn.
-    pub fn ready(&mut self, key: usize) {
+    pub fn make_ready(&mut self, key: usize) {
         if let Some(link) = self.links.get_mut(key) {
             if !link.is_ready {
                 link.is_ready = self.ready.push_back(key).is_ok();
@@ -173,7 +187,7 @@ impl<'a, S: Source> Connections<'a, S> {
         let key = event.token().0;
         if let Some(link) = self.links.get_mut(key) {
             link.note(event);
-            self.ready(key);
+            self.make_ready(key);
         }
     }
 
@@ -222,7 +236,7 @@ impl<'a, S: Source> Connections<'a, S> {
             self.next_due = earlier(self.next_due, due);
             if let Some(due) = due {
                 if due <= self.now {
-                    self.ready(key);
+                    self.make_ready(key);
                 }
             }
         }

@@ -6,9 +6,11 @@
 //! most. A value is asked for on a kept connection only where that is to its own endpoint, which is looked at once more there
 //! (`Link::begin`).
 
+mod connecting;
+
 use crate::connections::{Connections, earlier};
-use crate::link::{Link, Reusable, Turn};
-use crate::opening::{System, Untried, open};
+use crate::link::{Reusable, Turn};
+use crate::opening::System;
 use crate::room::Room;
 use crate::settings::FetchThreadSettings;
 use mio::event::Event;
@@ -17,7 +19,7 @@ use peer_host::Network;
 use peer_origin::{Failure, FetchFault};
 use peer_source::Source;
 use peer_value::{Done, Numbered, Shares, UnderWay, Waiting};
-use std::alloc::{AllocError, Global};
+use std::alloc::Global;
 use std::time::Duration;
 
 // How many values may wait. Each key that waits is fetched in the end, or is late, whatever its clients hold by then.
@@ -35,7 +37,7 @@ pub struct Fetcher<'a, S: Source> {
 }
 
 impl<'a, S: Source> Fetcher<'a, S> {
-    ghost use Rattle.std.specs.Prelude.{◌↔◌, IsTrue};
+    ghost use Rattle.std.specs.Prelude.{◌≡◌, ◌↔◌, IsTrue};
     ghost use Rattle.peer_fetch.specs.Fetchers.{HasNothing, MayTakeJob};
 
     /// Nothing is under way.
@@ -108,41 +110,6 @@ impl<'a, S: Source> Fetcher<'a, S> {
         self.connections.tell_time(now);
     }
 
-    // Begins to connect to one of these addresses for a value. A value that cannot be fetched is given back.
-    fn connect<H: Network>(
-        &mut self,
-        system: &System<'_, H>,
-        under: UnderWay<'a, S>,
-        untried: Untried,
-    ) -> Option<Done<'a, S>> {
-        if self.connections.reserve().is_err() {
-            return Some(under.done(Err(FetchFault::Memory)));
-        }
-        let token = self.connections.next_token();
-        let Some((stream, untried)) = open(system, untried, token) else {
-            return Some(under.done(Err(FetchFault::Unreached)));
-        };
-        let due = self
-            .connections
-            .now()
-            .saturating_add(self.settings.fetch.connect);
-        self.shares.begin(self.shares.service(under.number()));
-        self.connections.add(Link::new(stream, under, untried, due));
-        None
-    }
-
-    // Begins to connect to the endpoint of a value, to the first of its addresses.
-    fn connect_first<H: Network>(
-        &mut self,
-        system: &System<'_, H>,
-        under: UnderWay<'a, S>,
-    ) -> Option<Done<'a, S>> {
-        match Untried::of(system.rt, &under.endpoint().addresses) {
-            Ok(untried) => self.connect(system, under, untried),
-            Err(AllocError) => Some(under.done(Err(FetchFault::Memory))),
-        }
-    }
-
     // Asks for a value on a connection that is kept for its endpoint, or a new one.
     fn start<H: Network>(
         &mut self,
@@ -159,7 +126,7 @@ impl<'a, S: Source> Fetcher<'a, S> {
         }
         self.shares.begin(self.shares.service(number));
         self.connections.note_due(key);
-        self.connections.ready(key);
+        self.connections.make_ready(key);
         None
     }
 
@@ -171,7 +138,8 @@ impl<'a, S: Source> Fetcher<'a, S> {
         at: Numbered<'a>,
         job: TakenJob<S>,
     ) -> Option<Done<'a, S>>
-        requires { MayTakeJob self.old }
+        requires room { MayTakeJob self.old }
+        requires own { at.group.number ≡ job.place.group }
     {
         let due = self
             .connections
@@ -227,24 +195,15 @@ impl<'a, S: Source> Fetcher<'a, S> {
         self.connections.keep(key, reusable);
     }
 
-    // Keeps a connection whose value is done, or lets it go.
-    fn release(&mut self, key: usize, reusable: Option<Reusable>) {
+    // Keeps a connection whose value is done, or lets it go. Where a value is late on one that was kept, its host may be gone
+    // without a word, so that all that are kept for it go too.
+    fn release(&mut self, key: usize, fault: Option<FetchFault>, reusable: Option<Reusable>) {
+        if fault == Some(FetchFault::Late) {
+            self.connections.forget_kept_with(key);
+        }
         match reusable {
             Some(reusable) if !self.settings.fetch.connection_for_each => self.keep(key, reusable),
             _ => self.connections.forget(key),
-        }
-    }
-
-    // Tries the next address of the endpoint of a value.
-    fn connect_next<H: Network>(
-        &mut self,
-        system: &System<'_, H>,
-        key: usize,
-        under: UnderWay<'a, S>,
-    ) -> Option<Done<'a, S>> {
-        match self.connections.forget_unreached(key) {
-            Some(untried) => self.connect(system, under, untried),
-            None => Some(under.done(Err(FetchFault::Unreached))),
         }
     }
 
@@ -287,7 +246,7 @@ impl<'a, S: Source> Fetcher<'a, S> {
         match turn {
             Turn::Waits => None,
             Turn::Busy => {
-                self.connections.ready(key);
+                self.connections.make_ready(key);
                 None
             }
             Turn::Gone => {
@@ -296,7 +255,7 @@ impl<'a, S: Source> Fetcher<'a, S> {
             }
             Turn::Done(done, reusable) => {
                 self.shares.end(service);
-                self.release(key, reusable);
+                self.release(key, done.fault(), reusable);
                 Some(done)
             }
             Turn::Unconnected(under) => {

@@ -88,7 +88,8 @@ fn take_job<'a, S: Source, L: Ledger, G: Gate, H: Network>(
     let Some(job) = jobs.pool.take_job(system.rt, seat, jobs.gate) else {
         return false;
     };
-    match jobs.plan.endpoints.of(job.group()) {
+    let group = job.group();
+    match jobs.plan.endpoints.of(group) {
         Some(at) => {
             let done = fetcher.begin(system, at, job);
             fill_done(system.rt, jobs, seat, done);

@@ -1,6 +1,6 @@
 //! A connection to an origin, and the value that is under way on it.
 //!
-//! It promises that a value stays on its connection from one turn to the next, or is given back with its own job, and that only a
+//! It promises that a turn leaves a value on its connection, or gives it back with its own job, and that only a
 //! value of the endpoint with whose number the connection began is asked for on it.
 ghost use Rattle.std.specs.Prelude.{◌≡◌, IfSome, IsSome, IsTrue, Some};
 ghost use Rattle.std.proofs.Props.{props};
@@ -80,6 +80,14 @@ fn reusable_if(may_follow: bool) -> Option<Reusable>
     }
 }
 
+// Why a value that is late was not had. Where the origin answered another status than 200, it is told by that.
+fn late_fault<S: Source>(under: &UnderWay<'_, S>) -> FetchFault {
+    match under.cut() {
+        Failure::Fetch(FetchFault::Status(status)) => FetchFault::Status(status),
+        _ => FetchFault::Late,
+    }
+}
+
 // How far a stream is that began to connect.
 fn progress_of(stream: &TcpStream) -> Connecting {
     let Ok(None) = stream.take_error() else {
@@ -116,7 +124,10 @@ impl<'a, S: Source> Link<'a, S> {
     }
 
     /// Notes what was reported.
-    pub fn note(&mut self, event: &Event) {
+    pub fn note(&mut self, event: &Event)
+        ensures under { self.new.under ≡ self.old.under }
+        ensures number { self.new.number ≡ self.old.number }
+    {
         self.readiness.note(event);
     }
 
@@ -163,13 +174,15 @@ impl<'a, S: Source> Link<'a, S> {
         }
     }
 
-    // Sends and receives for a value.
-    fn exchange(&mut self, under: UnderWay<'a, S>, buffer: &mut [u8]) -> Turn<'a, S>
+    // Sends and receives for a value. One that is `late` has what has come by now, and nothing is waited for.
+    fn exchange(&mut self, under: UnderWay<'a, S>, buffer: &mut [u8], late: bool) -> Turn<'a, S>
         requires { number_of under ≡ self.old.number }
         ensures value { IsTurnOf under.entry self.new.under result }
         ensures number { self.new.number ≡ self.old.number }
     {
         let mut under = under;
+        // Of what came while the process stood still no event need have told.
+        self.readiness.readable |= late;
         let halt = match send(&mut self.stream, &mut under) {
             Some(halt) => halt,
             None => match receive(&mut self.stream, &mut under, buffer, &mut self.readiness) {
@@ -182,6 +195,10 @@ impl<'a, S: Source> Link<'a, S> {
             },
         };
         match halt {
+            Halt::Waits | Halt::Busy | Halt::Failed(Failure::Silent) if late => {
+                let fault = late_fault(&under);
+                Turn::Done(under.done(Err(fault)), None)
+            }
             Halt::Failed(failure) => Turn::Cut(under, failure),
             Halt::Waits => {
                 self.put(under);
@@ -226,11 +243,12 @@ impl<'a, S: Source> Link<'a, S> {
                 Turn::Gone
             };
         };
-        if under.due() <= now {
-            return Turn::Done(under.done(Err(FetchFault::Late)), None);
-        }
+        let late = under.due() <= now;
         match self.connect(now) {
-            Connecting::Connected => self.exchange(under, buffer),
+            Connecting::Connected => self.exchange(under, buffer, late),
+            Connecting::Waits | Connecting::Failed if late => {
+                Turn::Done(under.done(Err(FetchFault::Unreached)), None)
+            }
             Connecting::Waits => {
                 self.put(under);
                 Turn::Waits

@@ -33,6 +33,11 @@ impl Untried {
             next: 0,
         })
     }
+
+    /// Whether there is none.
+    pub fn is_empty(&self) -> bool {
+        self.next >= self.found.len()
+    }
 }
 
 /// A stream that begins to connect to one of these addresses, and those that are to be tried behind it.

@@ -10,8 +10,8 @@ use peer_value::{Answer, UnderWay};
 use std::io;
 use std::io::{Read, Write};
 
-// How often is read or written for one value before others have their turn: with a buffer of 64 KiB a value of 1 MiB.
-const ROUNDS: u32 = 16;
+// How often is read or written for one value before others have their turn: with a buffer of 64 KiB a value of 1 MiB and its head.
+const ROUNDS: u32 = 17;
 
 /// Why a turn ends without an answer.
 #[derive(Clone, Copy)]

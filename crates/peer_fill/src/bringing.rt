@@ -79,7 +79,7 @@ impl<S: Source, L: Ledger> Pool<S, L> {
             };
             let Job { right, key } = job;
             let group = right.flight().group();
-            gate.before_call(rt, group, key.as_slice());
+            gate.after_take(rt, group, key.as_slice());
             let Some(fill) = self.cached_fill(rt, group, &key) else {
                 seat.fills.calls += 1;
                 gate.after_count(seat.fills.calls, seat.fills.rehits);

@@ -17,7 +17,7 @@ pub struct AskCounts {
     pub strangers: u64,
 }
 
-/// What workers counted.
+/// What those who fill have counted.
 #[derive(Clone, Copy, Debug)]
 pub struct FillCounts {
     /// The jobs that were filled: the source was called, or they were taken out of the pool for that.

@@ -5,9 +5,9 @@ use std::sync::Wait;
 
 /// What is called as a job is taken, counted and filled.
 pub trait Gate: Sync {
-    /// Whoever fills has the flight's right. The cache is looked into next. Only where that has no value the source is called, or
-    /// the job is handed out for that.
-    fn before_call<R: Wait>(&self, rt: &R, group: GroupId, key: &[u8]);
+    /// A job was taken, with the flight's right. The cache is looked into next, and only where that has no value the source is called,
+    /// or the job is handed out for that.
+    fn after_take<R: Wait>(&self, rt: &R, group: GroupId, key: &[u8]);
 
     /// The flight with this number has its fill, and has not landed yet.
     fn after_put<R: Wait>(&self, rt: &R, number: u64, group: GroupId, key: &[u8]);
@@ -21,7 +21,7 @@ pub trait Gate: Sync {
 pub struct NoGate;
 
 impl Gate for NoGate {
-    fn before_call<R: Wait>(&self, _rt: &R, _group: GroupId, _key: &[u8]) {}
+    fn after_take<R: Wait>(&self, _rt: &R, _group: GroupId, _key: &[u8]) {}
 
     fn after_put<R: Wait>(&self, _rt: &R, _number: u64, _group: GroupId, _key: &[u8]) {}
 }

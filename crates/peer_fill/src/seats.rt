@@ -36,7 +36,7 @@ pub struct ConnSeat<S: Source, L: Ledger> {
     ghost most_strangers: { asks.strangers ≤ 2 ^ 56 },
 }
 
-/// A worker's seat.
+/// The seat of who fills: a worker, a thread that fetches, or an event loop.
 #[derive(Drop)]
 pub struct FillSeat<S: Source, L: Ledger> {
     pub(crate) pass: Pass<Job<S>, PassLog>,

@@ -40,7 +40,7 @@ impl<S: Source, L: Ledger> Pool<S, L> {
         };
         let Job { right, key } = job;
         let group = right.flight().group();
-        gate.before_call(rt, group, key.as_slice());
+        gate.after_take(rt, group, key.as_slice());
         let kept = self.cached_fill(rt, group, &key);
         let made = self.make(alloc, kept, group, key);
         self.keep_made(rt, &made, &mut seat.evicted);

@@ -97,7 +97,7 @@ const FLAGS: [Flag; 15] = [
     Flag {
         name: "stats",
         takes: Takes::Value("ADDR"),
-        help: "Where /metrics and /healthz are served, such as 9100 for 127.0.0.1:9100",
+        help: "Where /metrics and /healthz are served, such as 9180 for 127.0.0.1:9180",
     },
     Flag {
         name: "until-eof",

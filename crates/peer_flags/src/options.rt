@@ -1,5 +1,6 @@
 //! The words that the program is called with.
 ghost use Rattle.std.specs.Prelude.{◌≤◌, IfOk};
+ghost use Rattle.std.specs.Duration.{as_nanos};
 
 use crate::size::{bytes_of, number_of};
 use clap::ArgMatches;
@@ -36,7 +37,7 @@ pub enum WordFault {
     Size,
     #[error("an address and a port are needed, such as 127.0.0.1:8001")]
     Address,
-    #[error("a port, or an address and a port, is needed, such as 9100 or 127.0.0.1:9100")]
+    #[error("a port, or an address and a port, is needed, such as 9180 or 127.0.0.1:9180")]
     Page,
 }
 
@@ -217,7 +218,9 @@ struct Limits {
 
 impl Limits {
     // What the words say, or the first that cannot be used.
-    fn of<'w>(matches: &ArgMatches<'w>) -> Result<Limits, BadWord<'w>> {
+    fn of<'w>(matches: &ArgMatches<'w>) -> Result<Limits, BadWord<'w>>
+        ensures { IfOk result (λ l. (1_000_000_000 ≤ as_nanos l.timeout) × (as_nanos l.timeout ≤ 3_600_000_000_000)) }
+    {
         Ok(Limits {
             cache_bytes: size(matches, "cache")?,
             memory: size(matches, "memory")? as usize,
@@ -234,6 +237,7 @@ impl<'w> Options<'w> {
         ensures workers { IfOk result (λ o. o.workers ≤ 16) }
         ensures loops { IfOk result (λ o. (1 ≤ o.loops) × (o.loops ≤ 16)) }
         ensures connections { IfOk result (λ o. (1 ≤ o.connections) × (o.connections ≤ 65536)) }
+        ensures timeout { IfOk result (λ o. (1_000_000_000 ≤ as_nanos o.timeout) × (as_nanos o.timeout ≤ 3_600_000_000_000)) }
     {
         let listen = listen(matches)?;
         let counts = Counts::of(matches)?;

@@ -1,7 +1,7 @@
 //! What threads of their own fetch: the groups of services.
 ghost use Rattle.std.specs.Prelude.{◌≡◌, ◌+◌, IfSome, length, map};
 ghost use Rattle.peer_fetch.specs.Threads.{AllowsOrigins};
-ghost use Rattle.peer_origin.specs.Endpoints.{asked_at};
+ghost use Rattle.peer_origin.specs.Endpoints.{reached_at};
 ghost use Rattle.peer_groups.specs.Besides.{AnswersOrigins};
 
 use crate::beside::Beside;
@@ -57,8 +57,8 @@ pub fn fetched_of<'a, A: Source, B: Source, H: Network + Sync>(
     source: &Beside<Beside<A, OriginSource<'a, H>>, B>,
 ) -> Option<Fetched>
     ensures first { IfSome result (λ fetched. fetched.first ≡ A.count source.now.first.first) }
-    ensures each { IfSome result (λ fetched. map asked_at fetched.each.items
-        ≡ map (λ o. asked_at o.endpoint) source.now.first.second.origins.items) }
+    ensures each { IfSome result (λ fetched. map reached_at fetched.each.items
+        ≡ map (λ o. reached_at o.endpoint) source.now.first.second.origins.items) }
     ensures groups { IfSome result (λ fetched. fetched.groups
         ≡ A.count source.now.first.first + length source.now.first.second.origins.items + B.count source.now.second) }
     ensures allows { IfSome result (λ fetched. AllowsOrigins (AnswersOrigins (A.count source.now.first.first)

@@ -15,7 +15,7 @@ use std::sync::ledger::Ledger;
 
 /// A thread that fetches, and what wakes it.
 #[derive(Drop)]
-pub struct Fetcher<'a> {
+pub struct FetchWork<'a> {
     pub thread: FetchThread<'a>,
     pub waker: OwnWaker<'a>,
 }
@@ -26,13 +26,13 @@ pub fn next_fetcher<'a>(
     plan: Option<FetchPlan<'a>>,
     parts: &mut Vec<FetchParts>,
     wakers: &'a PollWakers,
-) -> Option<Fetcher<'a>>
+) -> Option<FetchWork<'a>>
     ensures { IfSome result (λ fetcher. plan.entry ≡ Some fetcher.thread.plan) }
 {
     let plan = plan?;
     let own = parts.pop()?;
     let waker = wakers.at(parts.len())?;
-    Some(Fetcher {
+    Some(FetchWork {
         thread: FetchThread::new(alloc, own, plan),
         waker,
     })
@@ -45,7 +45,7 @@ pub fn run_filler<S: Source, L: Ledger, H: Network>(
     alloc: Global,
     pool: &Pool<S, L>,
     seat: FillSeat<S, L>,
-    fetcher: Option<Fetcher<'_>>,
+    fetcher: Option<FetchWork<'_>>,
     gate: &FillGate<'_>,
 ) -> FillSeat<S, L>
     requires seat { IsFillSeatOf pool.now seat }
@@ -54,7 +54,7 @@ pub fn run_filler<S: Source, L: Ledger, H: Network>(
     ensures parts { fill_parts result ≡ fill_parts seat }
 {
     match fetcher {
-        Some(Fetcher { thread, waker }) => thread.run(rt, pool, seat, waker, gate),
+        Some(FetchWork { thread, waker }) => thread.run(rt, pool, seat, waker, gate),
         None => pool.run_worker(rt, alloc, seat, gate),
     }
 }

@@ -28,8 +28,8 @@ impl Stop {
         }
     }
 
-    /// The server accepts no more connections, lets idle clients go, reads nothing more of the others, and ends once
-    /// they have their replies. One that has accepted all that it is to ends with these, and later calls change nothing.
+    /// The server accepts no more connections, reads what has come by then and no more, and ends once its clients have their
+    /// replies and are closed. One that has accepted all that it is to ends with these, and later calls change nothing.
     pub fn stop(&self) {
         self.asked.store(true, SeqCst);
         if let Some(waker) = self.waker.get() {

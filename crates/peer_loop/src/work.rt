@@ -1,6 +1,6 @@
 //! What the threads of a server are handed, and what one of them is.
 
-use crate::filler::Fetcher;
+use crate::filler::FetchWork;
 use crate::fillers::Fillers;
 use peer_clients::LoopParts;
 use peer_fetch::{FetchParts, FetchPlan};
@@ -38,6 +38,6 @@ pub struct AllWork<'a, S: Source, L: Ledger> {
 #[derive(Drop)]
 pub struct FillWork<'a, S: Source, L: Ledger> {
     pub seat: FillSeat<S, L>,
-    pub fetcher: Option<Fetcher<'a>>,
+    pub fetcher: Option<FetchWork<'a>>,
     pub gate: FillGate<'a>,
 }

@@ -8,6 +8,10 @@ use Rattle.peer_origin.specs.declared.endpoint.Endpoint.{Endpoint}
 abbrev pub asked_at : Endpoint → List ℕ × List ℕ
 asked_at endpoint = (endpoint.host.items, endpoint.prefix.items)
 
--- the addresses of the host that is asked, which are the same where copies share them
+-- the name whose addresses are asked, none where the host is an address: what lies under a lock has no value in a clause
 abbrev pub addresses_of : Endpoint → Addresses
 addresses_of endpoint = arc_value endpoint.addresses
+
+-- where an endpoint is asked: at the addresses of which name, for which host, and what stands before the key
+abbrev pub reached_at : Endpoint → Addresses × (List ℕ × List ℕ)
+reached_at endpoint = (addresses_of endpoint, asked_at endpoint)

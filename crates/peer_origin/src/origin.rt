@@ -1,6 +1,6 @@
 //! The origin of one group.
 ghost use Rattle.std.specs.Prelude.{◌≡◌, OnOk, bytes_eq};
-ghost use Rattle.std.specs.Bool.{OnTrue};
+ghost use Rattle.std.specs.Bool.{OnFalse, OnTrue};
 ghost use Rattle.peer_origin.specs.Endpoints.{addresses_of, asked_at};
 
 use crate::endpoint::Endpoint;
@@ -47,6 +47,8 @@ impl Origin {
         ensures asked { asked_at self.new.endpoint ≡ asked_at self.old.endpoint }
         ensures shared { OnOk result (OnTrue (bytes_eq self.old.endpoint.host.items other.now.endpoint.host.items)
             (addresses_of self.new.endpoint ≡ addresses_of other.now.endpoint)) }
+        ensures own { OnFalse (bytes_eq self.old.endpoint.host.items other.now.endpoint.host.items)
+            (addresses_of self.new.endpoint ≡ addresses_of self.old.endpoint) }
     {
         if self.endpoint.host == other.endpoint.host {
             self.endpoint.addresses = Arc::try_clone(&other.endpoint.addresses)?;

@@ -31,7 +31,7 @@ pub struct OriginSource<'a, H> {
 
 impl<'a, H> OriginSource<'a, H> {
     ghost use Rattle.std.specs.Prelude.{◌≡◌, IfOk, map};
-    ghost use Rattle.peer_origin.specs.Endpoints.{asked_at};
+    ghost use Rattle.peer_origin.specs.Endpoints.{reached_at};
 
     /// A source over these origins, in the order of their groups' numbers.
     pub fn new(
@@ -52,7 +52,7 @@ impl<'a, H> OriginSource<'a, H> {
 
     /// The endpoints of its origins, in the order of their groups' numbers.
     pub fn endpoints(&self, alloc: Global) -> Result<Vec<Endpoint>, AllocError>
-        ensures { IfOk result (λ endpoints. map asked_at endpoints.items ≡ map (λ o. asked_at o.endpoint) self.now.origins.items) }
+        ensures { IfOk result (λ endpoints. map reached_at endpoints.items ≡ map (λ o. reached_at o.endpoint) self.now.origins.items) }
     {
         let mut endpoints = Vec::new(alloc);
         for origin in &self.origins {

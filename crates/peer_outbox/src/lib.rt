@@ -1,7 +1,7 @@
 //! What waits to be sent: its bytes, of which large values are lent and not copied, and how many more may wait.
 //!
-//! It stands on the views of `peer_view`, and takes from `peer_flight` how many tickets may wait. It promises the bytes that came and did not go, in order, and a window of 1 to 64
-//! by the lengths of what came.
+//! It stands on the views of `peer_view`, and takes from `peer_flight` how many tickets may wait. It promises the bytes that came and
+//! did not go, in order, and a window of 1 to 64 by the lengths of what came.
 #![tactic(auto)]
 
 mod byte_queue;

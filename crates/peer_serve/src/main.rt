@@ -2,7 +2,8 @@
 //!
 //! It runs the calls of `peer_socket` and `peer_conn` over the source for demonstrations or a table of one's own. Its
 //! contracts say what the words of its call ask for, which status and line go with each end, and which bytes its lines
-//! have; for standard input and output, that the replies are those to what was read.
+//! have; for one connection, that the replies are those to what was read, where its reader and writer tell their bytes, as
+//! standard input and output do not.
 #![tactic(auto)]
 
 ghost use Rattle.std.specs.Prelude.{◌≡◌};

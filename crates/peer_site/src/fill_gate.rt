@@ -26,7 +26,7 @@ impl<'a> FillGate<'a> {
 }
 
 impl<'a> Gate for FillGate<'a> {
-    fn before_call<R: Wait>(&self, _rt: &R, _group: GroupId, _key: &[u8]) {
+    fn after_take<R: Wait>(&self, _rt: &R, _group: GroupId, _key: &[u8]) {
         self.mailboxes.tell_room();
     }
 

@@ -161,7 +161,7 @@ impl Mailbox {
         self.waker.close();
     }
 
-    /// The server was told to end: the loop lets idle clients go, and reads nothing more of the others.
+    /// The server was told to end: the loop reads nothing more of its clients, and closes them once they have their replies.
     pub fn stop(&self) {
         self.stopping.store(true, SeqCst);
         self.close();

@@ -6,6 +6,7 @@
 use crossbeam_utils::CachePadded;
 use mio::Poll;
 use peer_poll::PollWaker;
+use std::cmp::max;
 use std::sync::atomic::AtomicUsize;
 use std::sync::atomic::Ordering::SeqCst;
 
@@ -48,6 +49,12 @@ impl Occupancy {
     /// Whether no more connections can be had.
     pub fn is_full(&self) -> bool {
         self.open.load(SeqCst) >= self.most
+    }
+
+    /// Whether fewer connections are free than a sixteenth of all, one at least: then silent clients are still let go, where no
+    /// more could be had.
+    pub fn is_crowded(&self) -> bool {
+        self.most.saturating_sub(self.open.load(SeqCst)) < max(self.most / 16, 1)
     }
 
     /// A client holds so many bytes now, and held so many before.

@@ -1,4 +1,4 @@
-//! The entries of a cache, on the kit's `lru`: how one is put first, and how those behind it make room (`lru/lru.go`).
+//! The entries of a cache, on the toolchain's `lru`: how one is put first, and how those behind it make room (`lru/lru.go`).
 //! Each function says what it leaves, and counts the bytes that are left.
 ghost use Rattle.std.specs.Map.{lookup};
 ghost use Rattle.std.specs.Prelude.{◌≡◌, None, Some, IsTrue, bytes_eq, ◌+◌, ◌^◌, ◌<◌, ◌≤◌, [], ◌∷◌, ◌++◌, length};

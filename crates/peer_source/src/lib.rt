@@ -1,7 +1,7 @@
 //! Sources of values by group and key; fills: what a source answered for a group and a key; and the main cache of a
 //! group, which keeps the values used last.
 //!
-//! It stands on the views and sinks of `peer_view`, and on the kit's `lru`. It promises that an answer is one that the
+//! It stands on the views and sinks of `peer_view`, and on the toolchain's `lru`. It promises that an answer is one that the
 //! source gives, that a fill's answer is one that the type of its source allows for its group and key, and that a cache
 //! gives only such fills, within its limit.
 #![tactic(auto)]

@@ -21,6 +21,7 @@ pub struct Endpoints<'a> {
 pub struct Numbered<'a> {
     pub number: usize,
     pub endpoint: &'a Endpoint,
+    pub group: GroupId,
 }
 
 impl<'a> Endpoints<'a> {
@@ -35,11 +36,16 @@ impl<'a> Endpoints<'a> {
     pub fn of(&self, group: GroupId) -> Option<Numbered<'a>>
         ensures number { IfSome result (λ numbered. self.now.first + numbered.number ≡ group.number) }
         ensures endpoint { IfSome result (λ numbered. slice_get self.now.each.now numbered.number ≡ Some numbered.endpoint.now) }
+        ensures own { IfSome result (λ numbered. numbered.group ≡ group) }
         ensures none { IfNone result (¬ (HasEndpoint self.now.first self.now.each.now group.number)) }
         ensures has { IfSome result (λ numbered. HasEndpoint self.now.first self.now.each.now group.number) }
     {
         let number = group.number.checked_sub(self.first)?;
         let endpoint = self.each.get(number)?;
-        Some(Numbered { number, endpoint })
+        Some(Numbered {
+            number,
+            endpoint,
+            group,
+        })
     }
 }

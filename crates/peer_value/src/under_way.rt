@@ -15,13 +15,14 @@ use peer_source::Source;
 use std::alloc::Global;
 use std::time::Duration;
 
-/// A value under way. Its request is the one for the key of its job.
+/// A value under way: at the endpoint of the group of its job, by the request for its key.
 #[derive(Drop)]
 pub struct UnderWay<'a, S: Source> {
     at: Numbered<'a>,
     job: TakenJob<S>,
     fetching: Fetching,
     due: Duration,
+    ghost own: { at.group.number ≡ job.place.group },
     ghost asks: { fetching.request.items ≡ request_at at.endpoint.now job.place.key },
 }
 
@@ -35,6 +36,7 @@ impl<'a, S: Source> UnderWay<'a, S> {
         job: TakenJob<S>,
         due: Duration,
     ) -> Result<UnderWay<'a, S>, Done<'a, S>>
+        requires { at.group.number ≡ job.place.group }
         ensures kept { IfOk result (λ u. (u.at ≡ at.entry) × (u.job ≡ job) × (u.due ≡ due)) }
         ensures unused { IfOk result (λ u. uses_of u.fetching ≡ use_by u.fetching.request.items 0 [] false ∷ []) }
         ensures given_back { IfErr result (λ d. (d.endpoint ≡ at.entry.endpoint) × (d.job ≡ job) × IsErr d.got) }

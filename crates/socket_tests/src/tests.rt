@@ -16,6 +16,7 @@ mod plans;
 mod servers;
 mod serving;
 mod slow;
+mod stalls;
 mod stopping;
 mod visits;
 mod waiting;

@@ -8,6 +8,7 @@ ghost use Rattle.peer_exchange.specs.ExchangeStates.{lent, lent_behind, takes_by
 use super::Client;
 use crate::facts::Facts;
 use crate::limits::ROUNDS_OF_TURN;
+use mio::net::TcpStream;
 use peer_poll::{was_interrupted, would_block};
 use peer_source::Source;
 use std::cmp::min;
@@ -58,11 +59,11 @@ impl<'a, S: Source, F: Facts<S>> Client<'a, S, F> {
         ensures { IfOk result (λ n. n ≤ length (lent self.now.exchange.state) + length (lent_behind self.now.exchange.state)) }
     {
         let (output, behind) = (self.exchange.output(), self.exchange.output_behind());
-        let mut stream = &self.stream;
         if behind.is_empty() {
-            stream.write(output)
+            (&self.stream).write(output)
         } else {
-            stream.write_vectored(&[IoSlice::new(output), IoSlice::new(behind)])
+            // Not that of `Write`, which makes a call for each.
+            TcpStream::write_vectored(&self.stream, &[IoSlice::new(output), IoSlice::new(behind)])
         }
     }
 

@@ -4,7 +4,7 @@ use super::clients::{connect, is_answered, send};
 use super::loop_servers::{Outside, beside_loops, settings_of};
 use super::plans::{attentive, plan_of};
 use super::slow::{Call, await_call};
-use std::alloc::Global;
+use std::alloc::{AllocError, Global};
 use std::io::Read;
 use std::net::{Net, SocketAddr, TcpListener, TcpStream};
 use std::sync::Wait;
@@ -15,7 +15,7 @@ use std::time::{Clock, Duration};
 use stream_model::add_request;
 use test_support::{Hook, Hooked};
 
-// The calls for the keys `hold`, `one` and `two`.
+// The calls for the key `hold`, and for keys that begin with `one` and with `two`.
 #[derive(Drop)]
 struct Calls {
     hold: Call,
@@ -44,8 +44,8 @@ impl Hook for Waiting<'_> {
     fn may_call(&self, _alloc: Global, key: &[u8]) -> bool {
         match key {
             b"hold" => self.calls.hold.wait(),
-            b"one" => self.calls.one.wait(),
-            b"two" => self.calls.two.wait(),
+            [b'o', b'n', b'e', ..] => self.calls.one.wait(),
+            [b't', b'w', b'o', ..] => self.calls.two.wait(),
             _ => true,
         }
     }
@@ -60,25 +60,46 @@ fn ask_all(alloc: Global, stream: &TcpStream, targets: &[&str]) -> bool {
         && send(stream, text.as_slice())
 }
 
+// Adds a request for the key of a try.
+fn add_ask(text: &mut Vec<u8>, name: &[u8], attempt: [u8; 2]) -> Result<(), AllocError> {
+    text.extend_from_slice(b"GET /_groupcache/echo/")?;
+    text.extend_from_slice(name)?;
+    text.extend_from_slice(&attempt)?;
+    text.extend_from_slice(b" HTTP/1.1\r\nHost: h\r\n\r\n")
+}
+
+// Asks for two values in one text. No other try has their keys: whoever asks for a key again right behind its reply may join the
+// flight of that reply, for which no source is called once more.
+fn ask_for_pair(alloc: Global, stream: &TcpStream, attempt: [u8; 2]) -> bool {
+    let mut text = Vec::new(alloc);
+    add_ask(&mut text, b"one", attempt).is_ok()
+        && add_ask(&mut text, b"two", attempt).is_ok()
+        && send(stream, text.as_slice())
+}
+
 // Whether a client gets six small replies: behind so many it may ask for 64 values at once.
 fn has_small_replies(stream: &TcpStream) -> bool {
     (0..6).all(|_| is_answered(stream))
 }
 
 // Whether the source is called for the first of two values alone, until that came. Both come then.
-fn is_asked_for_one<H: AllocGlobal + Clock>(rt: &H, stream: &TcpStream, calls: &Calls) -> bool {
+fn is_asked_for_one<H: AllocGlobal + Clock>(
+    rt: &H,
+    stream: &TcpStream,
+    calls: &Calls,
+    attempt: [u8; 2],
+) -> bool {
     for call in [&calls.one, &calls.two] {
         call.called.store(false, SeqCst);
         call.open.store(false, SeqCst);
     }
-    let pair = ["/_groupcache/echo/one", "/_groupcache/echo/two"];
-    let asked = ask_all(rt.alloc(), stream, &pair) && await_call(rt, &calls.one.called);
+    let asked = ask_for_pair(rt.alloc(), stream, attempt) && await_call(rt, &calls.one.called);
     thread::sleep(rt, Duration::from_millis(250));
     let alone = !calls.two.called.load(SeqCst);
     calls.one.open.store(true, SeqCst);
     calls.two.open.store(true, SeqCst);
     let mut reader = stream;
-    let mut replies = [0; 162];
+    let mut replies = [0; 166];
     asked && reader.read_exact(&mut replies).is_ok() && alone
 }
 
@@ -88,7 +109,9 @@ fn is_soon_asked_for_one<H: AllocGlobal + Clock>(
     stream: &TcpStream,
     calls: &Calls,
 ) -> bool {
-    (0..30).any(|_| (0..4).all(|_| is_asked_for_one(rt, stream, calls)))
+    (b'a'..=b'z').any(|round| {
+        (b'0'..=b'3').all(|turn| is_asked_for_one(rt, stream, calls, [round, turn]))
+    })
 }
 
 // Whether a client is asked for one value at a time beside one that waits for three, of which two of 1 MiB came. That one has no

@@ -5,7 +5,7 @@ use super::loop_servers::{Outside, beside_loops, settings_of};
 use super::plans::plan_of;
 use super::servers::has_asked;
 use super::slow::{ASK_SLOW, Call, FOUND_SLOW, Slow, await_call};
-use peer_loop::{Settings, Stop};
+use peer_loop::{Fillers, Settings, Stop};
 use peer_source::DemoSource;
 use std::net::{Net, SocketAddr, TcpListener, TcpStream};
 use std::sync::Wait;
@@ -13,6 +13,7 @@ use std::sync::atomic::Ordering::SeqCst;
 use std::test::Fail;
 use std::thread;
 use std::time::{Clock, Duration};
+use stream_model::{ASK_K, FOUND_K};
 use test_support::Hooked;
 
 // Two idle clients, and one that waits for its value, while the server is told to end: whether all were connected, the
@@ -60,48 +61,118 @@ fn a_server_that_is_told_to_end_gives_the_values_that_are_waited_for(
     Ok(())
 }
 
-// The last request of a client, for a value of 1 MiB, and how many bytes its reply has.
-const ASK_LARGE_LAST: &[u8] =
-    b"GET /_groupcache/fill/1048576 HTTP/1.1\r\nHost: h\r\nConnection: close\r\n\r\n";
+// Requests for a value of 1 MiB, and how many bytes the reply to each has: the client is idle behind the first, and closes behind
+// the second.
+const ASKS_LARGE: [(&[u8], usize); 2] = [
+    (
+        b"GET /_groupcache/fill/1048576 HTTP/1.1\r\nHost: h\r\n\r\n",
+        1_048_662,
+    ),
+    (
+        b"GET /_groupcache/fill/1048576 HTTP/1.1\r\nHost: h\r\nConnection: close\r\n\r\n",
+        1_048_681,
+    ),
+];
 
-const LARGE_REPLY: usize = 1_048_681;
-
-// Whether a client that takes its last reply late, once the server was told to end, and which sends more before, gets all of it.
+// Whether a client that takes its reply late, once the server was told to end, and which sends more before, gets all of it.
 fn is_closed_well<H: AllocGlobal + Net<Listener = TcpListener, Stream = TcpStream> + Wait + Clock>(
     rt: &H,
     address: SocketAddr,
     stop: &Stop,
+    (request, length): (&[u8], usize),
 ) -> bool {
     let Some(stream) = connect(rt, address) else {
         return false;
     };
-    let asked = send(&stream, ASK_LARGE_LAST);
+    let asked = send(&stream, request);
     thread::sleep(rt, Duration::from_millis(500));
     stop.stop();
     thread::sleep(rt, Duration::from_millis(200));
     let sent = send(&stream, b"G");
     thread::sleep(rt, Duration::from_millis(100));
     match receive(rt.alloc(), &stream) {
-        Some(reply) => asked && sent && reply.len() == LARGE_REPLY,
+        Some(reply) => asked && sent && reply.len() == length,
         None => false,
     }
 }
 
 #[test]
 fn a_server_that_is_told_to_end_cuts_no_close_short(rt: HostRuntime) -> Result<(), Fail> {
+    for ask in ASKS_LARGE {
+        let outside = Outside::new();
+        let plan = plan_of(&rt, 1, 10, 1)?;
+        let settings = Settings {
+            accepts: None,
+            ..settings_of(&outside, &plan)
+        };
+        let (report, well) = beside_loops(&rt, DemoSource, &settings, |address| {
+            let well = is_closed_well(&rt, address, &outside.stop, ask);
+            outside.stop.stop();
+            well
+        })?;
+        let length = ask.1;
+        assert!(rt; well, "with {length} bytes");
+        assert!(rt; has_asked(&report, 1), "with {length} bytes");
+    }
+    Ok(())
+}
+
+// Waits until so many connections were accepted, for some seconds at most.
+fn await_accepts<H: Clock>(rt: &H, outside: &Outside, accepts: u64) -> bool {
+    for _ in 0..5_000 {
+        if outside.counters.read().accepts.accepted >= accepts {
+            return true;
+        }
+        thread::sleep(rt, Duration::from_millis(1));
+    }
+    false
+}
+
+// Whether those have their replies who asked before the server was told to end, while its one loop stood still: a client that was
+// there, and one that had just come.
+fn have_their_replies<
+    H: AllocGlobal + Net<Listener = TcpListener, Stream = TcpStream> + Wait + Clock,
+>(rt: &H, address: SocketAddr, call: &Call, outside: &Outside) -> bool {
+    let (Some(slow), Some(other)) = (connect(rt, address), served_client(rt, address)) else {
+        return false;
+    };
+    let stands_still = send(&slow, ASK_SLOW) && await_call(rt, &call.called);
+    let Some(new) = connect(rt, address) else {
+        return false;
+    };
+    let asked = send(&other, ASK_K) && send(&new, ASK_K) && await_accepts(rt, outside, 3);
+    // By then the new one was given to the loop.
+    thread::sleep(rt, Duration::from_millis(100));
+    outside.stop.stop();
+    // By then the loop was told.
+    thread::sleep(rt, Duration::from_millis(100));
+    call.open.store(true, SeqCst);
+    let alloc = rt.alloc();
+    let served = receives(alloc, &other, FOUND_K) && receives(alloc, &new, FOUND_K);
+    stands_still && asked && served && receives(alloc, &slow, FOUND_SLOW)
+}
+
+#[test]
+fn those_who_asked_before_a_stop_have_their_replies(rt: HostRuntime) -> Result<(), Fail> {
+    let call = Call::new();
     let outside = Outside::new();
     let plan = plan_of(&rt, 1, 10, 1)?;
     let settings = Settings {
+        fillers: Fillers::Loops,
         accepts: None,
         ..settings_of(&outside, &plan)
     };
-    let (report, well) = beside_loops(&rt, DemoSource, &settings, |address| {
-        let well = is_closed_well(&rt, address, &outside.stop);
+    let source = Hooked {
+        hook: Slow { call: &call },
+    };
+    let (report, served) = beside_loops(&rt, source, &settings, |address| {
+        let served = have_their_replies(&rt, address, &call, &outside);
+        call.open.store(true, SeqCst);
         outside.stop.stop();
-        well
+        served
     })?;
-    assert!(rt; well);
-    assert!(rt; has_asked(&report, 1));
+    assert!(rt; served);
+    assert!(rt; has_asked(&report, 4));
     Ok(())
 }
 

@@ -1,6 +1,6 @@
 //! Clients that wait for their values: for longer than one may be silent, and beside one that goes away.
 
-use super::clients::{connect, is_served, send};
+use super::clients::{connect, is_answered, is_served, send};
 use super::loop_servers::{Outside, beside_loops, settings_of};
 use super::plans::{patient, plan_of};
 use super::servers::has_asked;
@@ -43,7 +43,9 @@ fn is_answered_each_time<
     let Some(stream) = connect(rt, address) else {
         return false;
     };
-    (0..VALUES).all(|_| is_answered_late(rt, &stream, call))
+    // The worker is asked for another key between two of them: whoever asks for a key again right behind its reply may join the
+    // flight of that reply, for which no source is called once more.
+    (0..VALUES).all(|_| is_answered_late(rt, &stream, call) && is_answered(&stream))
 }
 
 // A tick is so short that it often falls into the turn in which the value has come, and is not yet sent.
@@ -67,14 +69,14 @@ fn a_client_that_waits_is_not_silent(rt: HostRuntime) -> Result<(), Fail> {
         answered
     })?;
     assert!(rt; answered);
-    assert!(rt; has_asked(&report, VALUES));
+    assert!(rt; has_asked(&report, 2 * VALUES));
     Ok(())
 }
 
-// Has a client wait for its value with all but a byte of another reply unread, so that it resets its connection as it goes.
-fn waits_with_a_reply_unread(stream: &TcpStream) -> bool {
+// Has a client wait for a value with all but a byte of another reply unread, so that it resets its connection as it goes.
+fn waits_with_a_reply_unread(stream: &TcpStream, request: &[u8]) -> bool {
     let mut reader = stream;
-    send(stream, ASK_K) && reader.read_exact(&mut [0]).is_ok() && send(stream, ASK_SLOW)
+    send(stream, ASK_K) && reader.read_exact(&mut [0]).is_ok() && send(stream, request)
 }
 
 // Whether two of three clients get the value for which all wait, where the one between them resets its connection. That this
@@ -93,7 +95,7 @@ fn others_have_it<H: AllocGlobal + Net<Listener = TcpListener, Stream = TcpStrea
     };
     let asked = send(&first, ASK_SLOW)
         && await_call(rt, &call.called)
-        && waits_with_a_reply_unread(&second)
+        && waits_with_a_reply_unread(&second, ASK_SLOW)
         && send(&third, ASK_SLOW);
     // By then the three are listed.
     thread::sleep(rt, Duration::from_millis(50));
@@ -119,5 +121,40 @@ fn a_client_that_waits_resets_between_others(rt: HostRuntime) -> Result<(), Fail
     })?;
     assert!(rt; answered);
     assert!(rt; has_asked(&report, 7));
+    Ok(())
+}
+
+// The last request of a client, for the key `slow`: behind it the server reads nothing more.
+const ASK_SLOW_LAST: &[u8] =
+    b"GET /_groupcache/echo/slow HTTP/1.1\r\nHost: h\r\nConnection: close\r\n\r\n";
+
+// Whether a client that resets its connection while its last value is looked up leaves its place to another one.
+fn leaves_its_place<
+    H: AllocGlobal + Net<Listener = TcpListener, Stream = TcpStream> + Wait + Clock,
+>(rt: &H, address: SocketAddr, call: &Call) -> bool {
+    let Some(stream) = connect(rt, address) else {
+        return false;
+    };
+    let asked = waits_with_a_reply_unread(&stream, ASK_SLOW_LAST) && await_call(rt, &call.called);
+    drop(stream);
+    asked && is_served(rt, address)
+}
+
+#[test]
+fn a_client_that_resets_behind_its_last_request_is_let_go(rt: HostRuntime) -> Result<(), Fail> {
+    let call = Call::new();
+    let outside = Outside::new();
+    let plan = plan_of(&rt, 2, 1, 2)?;
+    let settings = settings_of(&outside, &plan);
+    let source = Hooked {
+        hook: Slow { call: &call },
+    };
+    let (report, left) = beside_loops(&rt, source, &settings, |address| {
+        let left = leaves_its_place(&rt, address, &call);
+        call.open.store(true, SeqCst);
+        left
+    })?;
+    assert!(rt; left);
+    assert!(rt; has_asked(&report, 3));
     Ok(())
 }

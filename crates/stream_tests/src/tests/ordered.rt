@@ -33,7 +33,7 @@ impl Holding {
 }
 
 impl Gate for Holding {
-    fn before_call<R: Wait>(&self, _rt: &R, _group: GroupId, key: &[u8]) {
+    fn after_take<R: Wait>(&self, _rt: &R, _group: GroupId, key: &[u8]) {
         if key == b"a".as_slice() {
             self.for_a.fetch_add(1, SeqCst);
             self.put.wait();

@@ -21,7 +21,7 @@ use test_support::open_pool;
 struct Slow;
 
 impl Gate for Slow {
-    fn before_call<R: Wait>(&self, _rt: &R, _group: GroupId, _key: &[u8]) {
+    fn after_take<R: Wait>(&self, _rt: &R, _group: GroupId, _key: &[u8]) {
         for _ in 0..1_000_000 {
             spin_loop();
         }

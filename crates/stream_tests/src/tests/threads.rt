@@ -149,7 +149,7 @@ struct Holding {
 }
 
 impl Gate for Holding {
-    fn before_call<R: Wait>(&self, _rt: &R, _group: GroupId, key: &[u8]) {
+    fn after_take<R: Wait>(&self, _rt: &R, _group: GroupId, key: &[u8]) {
         if key == b"9000".as_slice() {
             self.full.wait();
         }

@@ -1,5 +1,5 @@
 use Rattle.std.proofs.Common.{ap, map, ◌∙◌}
-use Rattle.peer_origin.specs.Endpoints.{asked_at}
+use Rattle.peer_origin.specs.Endpoints.{reached_at}
 use Rattle.peer_groups.proofs.FetchedLemmas.{allows_origins, as_many}
 use Rattle.peer_groups.proofs.fetched.fetched_of.Goals as goal
 
@@ -8,7 +8,7 @@ returns-clause-first g c = c.group_count-first.ensures ∙ ap g.A.Source.count (
 
 pub returns-clause-each : goal.returns-clause-each
 returns-clause-each g c = c.in-Ok.ensures
-    ∙ ap (λ s. map (λ o. asked_at o.endpoint) s.origins.items) (c.second.ensures ∙ ap (λ s. s.second) c.first-services.ensures)
+    ∙ ap (λ s. map (λ o. reached_at o.endpoint) s.origins.items) (c.second.ensures ∙ ap (λ s. s.second) c.first-services.ensures)
 
 pub returns-clause-allows : goal.returns-clause-allows
 returns-clause-allows g c =

@@ -25,7 +25,7 @@ struct Counting {
 }
 
 impl Gate for Counting {
-    fn before_call<R: Wait>(&self, _rt: &R, _group: GroupId, _key: &[u8]) {
+    fn after_take<R: Wait>(&self, _rt: &R, _group: GroupId, _key: &[u8]) {
         let _ = self.before.fetch_add(1, SeqCst);
     }
 

@@ -37,7 +37,7 @@ struct Meddling<'a, L: Ledger> {
 }
 
 impl<'a, L: Ledger + Send + Sync> Gate for Meddling<'a, L> {
-    fn before_call<R: Wait>(&self, _rt: &R, _group: GroupId, _key: &[u8]) {}
+    fn after_take<R: Wait>(&self, _rt: &R, _group: GroupId, _key: &[u8]) {}
 
     fn after_put<R: Wait>(&self, rt: &R, _number: u64, _group: GroupId, key: &[u8]) {
         self.asker.lock(rt).ask(rt, key);
@@ -93,16 +93,17 @@ fn meddle<L: Ledger + Send + Sync, R: Wait>(rt: &R, desk: Desk<Numbering, L>) ->
 }
 
 // Two connections ask for one key, and the second asks again by the gate of the worker: whether both claims show the
-// value of the source's first call, and what was counted. The caches keep nothing.
+// value of the source's first call, and what was counted. Each cache keeps so many bytes.
 fn seen<L: Ledger + Send + Sync, R: Wait>(
     rt: &R,
     alloc: Global,
+    cache_bytes: u64,
     blank: Blank,
 ) -> Option<([bool; 2], Counts)>
     requires name { blank.name ≡ L.name }
     requires parts { (blank.parts ≡ L.parts) × (blank.parts ≡ 16) }
 {
-    let mut desk = Desk::<Numbering, L>::open(alloc, Numbering::new(2, 0, 0), 0, blank)?;
+    let mut desk = Desk::<Numbering, L>::open(alloc, Numbering::new(2, 0, 0), cache_bytes, blank)?;
     let claims = ask_both(rt, &mut desk);
     let counts = meddle(rt, desk);
     let shown = [
@@ -115,11 +116,24 @@ fn seen<L: Ledger + Send + Sync, R: Wait>(
 
 #[test]
 fn a_flight_is_open_until_its_fill_was_put(rt: HostRuntime) {
-    let seen = seen::<Brand, HostRuntime>(&rt, rt.alloc(), Blank::new(16));
+    let seen = seen::<Brand, HostRuntime>(&rt, rt.alloc(), 0, Blank::new(16));
     let counts = Counts {
         hits: 0,
         led: 0,
         joined: 2,
+        calls: 1,
+        rehits: 0,
+    };
+    assert_eq!(rt; seen, Some(([true; 2], counts)));
+}
+
+#[test]
+fn a_value_is_in_its_cache_before_its_fill_is_put(rt: HostRuntime) {
+    let seen = seen::<Brand, HostRuntime>(&rt, rt.alloc(), 6, Blank::new(16));
+    let counts = Counts {
+        hits: 1,
+        led: 0,
+        joined: 1,
         calls: 1,
         rehits: 0,
     };

@@ -34,7 +34,7 @@ enum Slow {
 }
 
 impl Gate for Slow {
-    fn before_call<R: Wait>(&self, _rt: &R, _group: GroupId, key: &[u8]) {
+    fn after_take<R: Wait>(&self, _rt: &R, _group: GroupId, key: &[u8]) {
         let is_slow = match self {
             Slow::Never => false,
             Slow::AtZero => key.last() == Some(&0),
