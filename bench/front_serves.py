@@ -7,8 +7,9 @@
 The first who asks for a key leads, those who ask while it is looked up join, and those who ask once a cache has it hit;
 connections are counted as they come and go; and each failure of a service is counted as what it is, also where a reply of another
 status than 200 begins and its rest is late. `--loops`, `--workers` and
-`--fetchers` are as many threads; no more connections are open than by `--connections`; `--timeout` is how long a value may take; a
-value above `--cache` is not kept, and one below it is; and above `--memory` a client is asked for one value at a time.
+`--fetchers` are as many threads; no more connections are open than by `--connections`, and where all are taken, silent clients are
+let go until a sixteenth is free, and those who came last are not the next to go; `--timeout` is how long a value may take; a value
+above `--cache` is not kept, and one below it is; and above `--memory` a client is asked for one value at a time.
 
 Its last line is `rows N failures 0`; where a row fails, so does the program.
 """
@@ -19,6 +20,7 @@ import threading
 import time
 import urllib.request
 from concurrent.futures import ThreadPoolExecutor
+from contextlib import ExitStack
 
 from common import Listening, Service, ask, free_port, hangs, run_rows
 
@@ -107,6 +109,32 @@ def connections_come_and_go():
         went = server.says(connections=1, connections_accepted_total=3)
         second.close()
         return came and went and server.says(connections=0, accept_failures_total=0)
+
+
+def is_open(stream):
+    """Whether the other end has not ended this connection."""
+    stream.setblocking(False)
+    try:
+        return stream.recv(1) != b""
+    except BlockingIOError:
+        return True
+    except OSError:
+        return False
+
+
+def silent_clients_go_in_turn():
+    with Counted("--demo", "--loops", "1", "--connections", "32") as server, ExitStack() as streams:
+
+        def connect(count):
+            return [streams.enter_context(socket.create_connection(server.address)) for _ in range(count)]
+
+        first = connect(32)
+        full = server.says(connections=30)
+        time.sleep(1.5)  # longer than the tick at which silent clients are let go
+        stayed = sum(map(is_open, first))
+        last = connect(2)
+        came = server.says(connections_accepted_total=34) and server.says(connections=30)
+        return full and stayed == 30 and came and all(map(is_open, last)) and sum(map(is_open, first)) == 28
 
 
 # What a service does, and the kind of failure that it is.
@@ -236,6 +264,7 @@ run_rows(
     [
         asks_are_told_apart,
         connections_come_and_go,
+        silent_clients_go_in_turn,
         each_failure_is_of_its_kind,
         a_status_is_told_where_its_rest_is_late,
         each_thread_is_asked_for,

@@ -6,9 +6,9 @@
 
 Connections are kept for a service that is asked now, also where others, asked before, leave as many as are kept; none is kept
 that a service has ended, nor any with `--connection-for-each`; where a host is gone without a word one value is late, and the next
-ones ask anew; of two services each value comes from its own, also where one ends its connections now and then, and in its time where the other one hangs, as a table's do beside a service that hangs; what comes on
-a kept connection without a request is no value; a reply that runs until its connection ends is no value where that is reset; and
-interim replies without end fill no memory.
+ones ask anew; of two services each value comes from its own, also where one ends its connections now and then, and in its time where
+the other one hangs, as a table's do beside a service that hangs; what comes on a kept connection without a request is no value; a
+reply that runs until its connection ends is no value where that is reset; and interim replies without end fill no memory.
 
 Its last line is `rows N failures 0`; where a row fails, so does the program.
 """
