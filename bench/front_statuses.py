@@ -59,6 +59,7 @@ ROWS = [
     (["--version"], 0, ""),
     (["--help"], 0, ""),
     ([], 1, "--listen <ADDR>"),
+    (HERE + ["--table", b"caf\xe9"], 1, "peer_front: a word is not UTF-8\n"),
     (HERE, 1, "peer_front: nothing to serve: give GROUP=URL, --table FILE or --demo\n"),
     (["--listen", "127.0.0.1", "--demo"], 1,
      "peer_front: --listen 127.0.0.1: an address and a port are needed, such as 127.0.0.1:8001\n"),
@@ -144,18 +145,21 @@ PREFIXES = [
 
 # how many files the program may open, the words, how many it would need, and what it serves then
 FEW_FILES = [
-    (1024, ["--demo"], 10100, "3 groups at ADDR, 924 connections at most, on 2 loops"),
-    (1024, ["g=" + URL], 12148,
-     "1 group at ADDR, 462 connections at most, on 2 loops, and fetches on 1 thread, 231 values under way on each"),
-    (4096, ["g=" + URL, "--fetchers", "4", "--connections", "65536"], 73828,
-     "1 group at ADDR, 2004 connections at most, on 2 loops, and fetches on 4 threads, 249 values under way on each"),
-    (60, ["--demo", "--loops", "1"], 10100, "3 groups at ADDR, 1 connection at most, on 1 loop"),
+    (1024, ["--demo"], 10150, "3 groups at ADDR, 874 connections at most, on 2 loops"),
+    (1024, ["g=" + URL], 12198,
+     "1 group at ADDR, 438 connections at most, on 2 loops, and fetches on 1 thread, 218 values under way on each"),
+    (4096, ["g=" + URL, "--fetchers", "4", "--connections", "65536"], 73878,
+     "1 group at ADDR, 1978 connections at most, on 2 loops, and fetches on 4 threads, 246 values under way on each"),
+    (60, ["--demo", "--loops", "1"], 10150, "3 groups at ADDR, 1 connection at most, on 1 loop"),
 ]
 
-# how many files the program may open, where its output goes, the status, and what standard error holds
+# how many files the program may open, where its output goes, the words, the status, and what standard error holds
+SERVED = HERE + ["--until-eof", "--demo"]
 REFUSED = [
-    (8, "/dev/null", 5, "peer_front: out of memory, threads or descriptors\n"),
-    (20000, "/dev/full", 4, "peer_front: standard output: "),
+    (8, "/dev/null", SERVED, 5, "peer_front: out of memory, threads or descriptors\n"),
+    (20000, "/dev/full", SERVED, 4, "peer_front: standard output: "),
+    (20000, "/dev/full", ["--version"], 4, "peer_front: standard output: "),
+    (20000, "/dev/full", ["--help"], 4, "peer_front: standard output: "),
 ]
 
 # other words that are taken: the program says that it listens
@@ -234,12 +238,12 @@ for files, words, needed, text in FEW_FILES:
         failures += 1
         print("files", files, "words", words, "status", ended, "told", repr(told), "wanted", repr(text))
 
-for files, output, status, text in REFUSED:
+for files, output, words, status, text in REFUSED:
     with open(output, "wb") as opened:
-        ended, told = ended_at_once(HERE + ["--until-eof", "--demo"], files, opened)
+        ended, told = ended_at_once(words, files, opened)
     if ended != status or text not in told:
         failures += 1
-        print("files", files, "output", output, "status", ended, "wanted", status, "told", repr(told))
+        print("files", files, "output", output, "words", words, "status", ended, "wanted", status, "told", repr(told))
 
 for words in TAKEN_WORDS:
     run = subprocess.Popen([PROGRAM] + ([] if "--listen" in words else HERE) + words, stdout=subprocess.PIPE, stderr=subprocess.DEVNULL)

@@ -96,6 +96,10 @@ CALLS_REFUSED = [
 CALLS_WITHOUT = ["without_views", "without_sinks", "without_devices", "without_sources", "without_caches", "without_heads",
                  "without_replies", "without_flights", "without_pool", "without_lane"]
 
+# the other names that --only takes
+OTHERS = ["peer_server_first", "refused_once", "peer_pipe", "peer_serve", "threads"]
+NAMES = {name for name, _ in CALLS_REFUSED} | set(CALLS_WITHOUT) | set(OTHERS)
+
 THREE = b"".join(b"GET /_groupcache/echo/%c HTTP/1.1\r\nHost: h\r\n\r\n" % key for key in b"abc")
 REPLIES = [b"HTTP/1.1 200 OK\r\nContent-Type: application/x-protobuf\r\nContent-Length: 3\r\n\r\n\n\x01%c" % key for key in b"abc"]
 wrong = []
@@ -515,6 +519,8 @@ def under_load(tools, seconds):
 def main():
     words = sys.argv[1:]
     only = words[words.index("--only") + 1] if "--only" in words else None
+    if only and only not in NAMES:
+        sys.exit(f"refused.py: no call {only}")
     load = float(words[words.index("--load") + 1]) if "--load" in words else 0
     for program in (CALLS, SERVER):
         if not os.path.exists(program):

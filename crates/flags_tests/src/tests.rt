@@ -151,14 +151,14 @@ fn few_files_leave_less_room(rt: HostRuntime) -> Result<(), Fail> {
     let fetchers = ["peer_front", "--listen", "127.0.0.1:1", "--fetchers", "4"];
     let mut right = true;
     for (words, files, has_services, connections, under_way, most) in [
-        (usual.as_slice(), 12_148, true, 10_000, 1_024, 12_148),
-        (usual.as_slice(), 12_147, true, 9_999, 1_024, 12_148),
-        (usual.as_slice(), 1_024, true, 462, 231, 12_148),
-        (usual.as_slice(), 1_024, false, 924, 1_024, 10_100),
-        (usual.as_slice(), 100, true, 1, 1, 12_148),
-        (usual.as_slice(), 10_100, false, 10_000, 1_024, 10_100),
-        (fetchers.as_slice(), 20_000, true, 10_000, 1_024, 18_292),
-        (fetchers.as_slice(), 1_024, true, 468, 57, 18_292),
+        (usual.as_slice(), 12_198, true, 10_000, 1_024, 12_198),
+        (usual.as_slice(), 12_197, true, 9_999, 1_024, 12_198),
+        (usual.as_slice(), 1_024, true, 438, 218, 12_198),
+        (usual.as_slice(), 1_024, false, 874, 1_024, 10_150),
+        (usual.as_slice(), 150, true, 1, 1, 12_198),
+        (usual.as_slice(), 10_150, false, 10_000, 1_024, 10_150),
+        (fetchers.as_slice(), 20_000, true, 10_000, 1_024, 18_342),
+        (fetchers.as_slice(), 1_024, true, 442, 54, 18_342),
     ] {
         let seen = room(rt.alloc(), words, files, has_services)?;
         let expected = Room {

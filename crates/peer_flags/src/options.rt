@@ -10,20 +10,20 @@ use std::fmt::{Display, Formatter};
 use std::time::Duration;
 use thiserror::Error;
 
-/// The most workers, and the most loops.
-pub const MAX_THREADS: u64 = 16;
+// The most workers, and the most loops.
+const MAX_THREADS: u64 = 16;
 
-/// The most threads that fetch values of services.
-pub const MAX_FETCHERS: u64 = 4;
+// The most threads that fetch values of services.
+const MAX_FETCHERS: u64 = 4;
 
-/// The most values of services that one of them has under way.
-pub const MAX_UNDER_WAY: u64 = 1024;
+// The most values of services that one of them has under way.
+const MAX_UNDER_WAY: u64 = 1024;
 
-/// The most connections.
-pub const MAX_CONNECTIONS: u64 = 65_536;
+// The most connections.
+const MAX_CONNECTIONS: u64 = 65_536;
 
-/// The most seconds for a value.
-pub const MAX_TIMEOUT: u64 = 3600;
+// The most seconds for a value.
+const MAX_TIMEOUT: u64 = 3600;
 
 // The flags that say how services are asked.
 const FOR_SERVICES: [&str; 4] = ["fetchers", "under-way", "timeout", "connection-for-each"];

@@ -4,8 +4,9 @@ ghost use Rattle.std.specs.Prelude.{◌≤◌};
 use crate::options::Options;
 use std::cmp::{max, min};
 
-// Files of the program's own: listeners, what its threads wait on, the standard streams.
-const OWN_FILES: usize = 100;
+// Files of the program's own, some 114 at most: two for each of 16 loops and 4 threads that fetch, 64 clients of the page of
+// counters, listeners, the standard streams.
+const OWN_FILES: usize = 150;
 
 // How many files a value under way takes at most: that of its connection, and that of one which is kept.
 const FILES_PER_VALUE: usize = 2;

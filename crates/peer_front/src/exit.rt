@@ -1,6 +1,7 @@
 //! How the program ends.
 
 use std::fmt::Display;
+use std::io;
 use std::process::ExitCode;
 
 /// How the program ends.
@@ -47,4 +48,10 @@ impl Exit {
 pub fn refuse<H: AllocGlobal + Eprint, T: Display>(rt: &H, why: &T, exit: Exit) -> Exit {
     let _ = eprintln!(rt; "peer_front: {why}");
     exit
+}
+
+/// Says that standard output failed.
+pub fn no_output<H: AllocGlobal + Eprint>(rt: &H, error: &io::Error) -> Exit {
+    let _ = eprintln!(rt; "peer_front: standard output: {error}");
+    NO_OUTPUT
 }

@@ -17,11 +17,11 @@ mod table;
 mod troubles;
 mod until_eof;
 
-use crate::exit::{BAD_WORD, DONE, Exit, OUT_OF_MEMORY, refuse};
+use crate::exit::{BAD_WORD, DONE, Exit, OUT_OF_MEMORY, no_output, refuse};
 use crate::serve::{check_flags, serve};
-use clap::ArgMatches;
+use clap::error::ErrorKind;
+use clap::{ArgMatches, Error};
 use peer_flags::{Options, command};
-use std::env;
 use std::fs::Files;
 use std::io::Read;
 use std::net::{Net, TcpListener, TcpStream};
@@ -30,26 +30,45 @@ use std::random::RandomSource;
 use std::sync::Wait;
 use std::thread::Threads;
 use std::time::Clock;
+use std::{env, io};
 
 fn main(rt: HostRuntime) -> ExitCode {
-    let Ok(args) = env::args(&rt) else {
-        return out_of_memory(&rt).code();
-    };
-    let Ok(words) = args.collect::<Vec<String>>(rt.alloc()) else {
-        return out_of_memory(&rt).code();
+    let words = match words_of(&rt) {
+        Ok(words) => words,
+        Err(exit) => return exit.code(),
     };
     let Ok(command) = command(rt.alloc()) else {
         return out_of_memory(&rt).code();
     };
     match command.try_get_matches_from(words.as_slice()) {
         Ok(matches) => run(&rt, &matches).code(),
-        Err(error) => {
-            let _ = error.print(&rt);
-            match error.exit_code() {
-                0 => DONE.code(),
-                _ => BAD_WORD.code(),
-            }
+        Err(error) => say_unmatched(&rt, &error).code(),
+    }
+}
+
+// The words that the program is called with, its name first.
+fn words_of(rt: &HostRuntime) -> Result<Vec<String>, Exit> {
+    let args = match env::args(rt) {
+        Ok(args) => args,
+        Err(error) if error.kind() == io::ErrorKind::InvalidData => {
+            return Err(refuse(rt, &"a word is not UTF-8", BAD_WORD));
         }
+        Err(_) => return Err(out_of_memory(rt)),
+    };
+    args.collect::<Vec<String>>(rt.alloc())
+        .map_err(|_| out_of_memory(rt))
+}
+
+// Says what the words ask to be told, or why they cannot be used.
+fn say_unmatched(rt: &HostRuntime, error: &Error) -> Exit {
+    let printed = error.print(rt);
+    if error.kind() == ErrorKind::OutOfMemory {
+        return OUT_OF_MEMORY;
+    }
+    match printed {
+        _ if error.use_stderr() => BAD_WORD,
+        Ok(()) => DONE,
+        Err(error) => no_output(rt, &error),
     }
 }
 

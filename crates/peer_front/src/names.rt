@@ -6,7 +6,7 @@ use peer_origin::Endpoint;
 use std::time::Duration;
 
 // The seconds between two look-ups of a name.
-const BETWEEN: u64 = 5;
+const LOOK_UP_SECONDS: u64 = 5;
 
 /// Whether the host of one of these endpoints is a name.
 pub fn has_names(endpoints: &[Endpoint]) -> bool {
@@ -29,7 +29,7 @@ fn look_up<H: AllocGlobal + Network>(rt: &H, endpoints: &[Endpoint], number: usi
 /// Looks the names up again and again, until the end is told.
 pub fn look_up_names<H: AllocGlobal + Network>(rt: &H, endpoints: &[Endpoint], end: &End) {
     for _ in rt.forever() {
-        end.wait(rt, Duration::from_secs(BETWEEN));
+        end.wait(rt, Duration::from_secs(LOOK_UP_SECONDS));
         if end.is_told() {
             return;
         }

@@ -29,7 +29,7 @@ fn bind<H: Net<Listener = TcpListener, Stream = TcpStream>>(
 pub fn page_of<H: AllocGlobal + Eprint + Net<Listener = TcpListener, Stream = TcpStream>>(
     rt: &H,
     options: &Options<'_>,
-    keys: RandomState,
+    seed: RandomState,
 ) -> Result<Option<Page>, Exit> {
     let Some(address) = options.stats else {
         return Ok(None);
@@ -41,7 +41,7 @@ pub fn page_of<H: AllocGlobal + Eprint + Net<Listener = TcpListener, Stream = Tc
             return Err(CANNOT_BIND);
         }
     };
-    match open_stats(rt, rt.alloc(), listener, keys) {
+    match open_stats(rt, rt.alloc(), listener, seed) {
         Some((server, end)) => {
             let _ = eprintln!(rt; "peer_front: serves /metrics and /healthz at {address}");
             Ok(Some(Page { server, end }))

@@ -2,7 +2,7 @@
 ghost use Rattle.std.specs.Prelude.{IfSome};
 ghost use Rattle.peer_fetch.specs.Threads.{Allows};
 
-use crate::exit::{BAD_WORD, CANNOT_BIND, DONE, Exit, NO_OUTPUT, NO_SEED, OUT_OF_MEMORY, refuse};
+use crate::exit::{BAD_WORD, CANNOT_BIND, DONE, Exit, NO_SEED, OUT_OF_MEMORY, no_output, refuse};
 use crate::files::within_files;
 use crate::page::{Page, page_of};
 use crate::running::{Service, serve_watched};
@@ -90,12 +90,6 @@ fn bind<H: AllocGlobal + Eprint + Net>(rt: &H, options: &Options<'_>) -> Result<
             Err(CANNOT_BIND)
         }
     }
-}
-
-// Says that standard output failed.
-fn no_output<H: AllocGlobal + Eprint>(rt: &H, error: &io::Error) -> Exit {
-    let _ = eprintln!(rt; "peer_front: standard output: {error}");
-    NO_OUTPUT
 }
 
 // How the program ends behind its server, and says so.

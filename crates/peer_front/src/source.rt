@@ -117,6 +117,7 @@ pub fn source_of<'a, H: AllocGlobal + Eprint + Files + Network + Sync>(
 ) -> Result<FrontSource<'a, H>, Exit> {
     let origins = match origins_of(rt, rt.alloc(), words) {
         Ok(origins) => origins,
+        Err(bad) if bad.fault.is_memory() => return Err(refuse(rt, &bad, OUT_OF_MEMORY)),
         Err(bad) => return Err(refuse(rt, &bad, BAD_WORD)),
     };
     let table = table_of(rt, options)?;

@@ -6,7 +6,7 @@ use std::sync::Wait;
 use std::time::{Clock, Duration};
 
 // The seconds between two looks.
-const BETWEEN: u64 = 1;
+const TICK_SECONDS: u64 = 1;
 
 // Tells of one kind of trouble, where there was more of it.
 fn tell<H: AllocGlobal + Eprint>(rt: &H, what: &str, before: u64, now: u64) {
@@ -53,7 +53,7 @@ pub fn tell_troubles<H: AllocGlobal + Eprint + Wait + Clock>(
 ) {
     let mut before = counters.read();
     for _ in rt.forever() {
-        end.wait(rt, Duration::from_secs(BETWEEN));
+        end.wait(rt, Duration::from_secs(TICK_SECONDS));
         let now = counters.read();
         tell_all(rt, &before, &now);
         before = now;

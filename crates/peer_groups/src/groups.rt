@@ -33,6 +33,16 @@ pub enum GroupFault {
     Memory,
 }
 
+impl GroupFault {
+    /// Whether memory was refused: then the word may be right.
+    pub fn is_memory(&self) -> bool {
+        matches!(
+            self,
+            GroupFault::Memory | GroupFault::Endpoint(EndpointFault::Memory)
+        )
+    }
+}
+
 /// A word that names no group, and why.
 #[derive(Clone, Copy, Debug, PartialEq, Eq, Error)]
 #[error("{word}: {fault}")]

@@ -103,6 +103,7 @@ fn all_go(alloc: Global, group: GroupId, limit: u64, steps: &[Step]) -> bool {
     for step in steps {
         all &= goes(alloc, &mut cache, *step);
     }
+    cache.law();
     all
 }
 

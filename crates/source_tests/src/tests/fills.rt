@@ -1,7 +1,7 @@
 //! The source for demonstrations, its fills and its names.
 use crate::tests::inputs::view_of;
 use peer_source::{DemoSource, Fill, GroupId, Names, Outcome, Source};
-use std::alloc::{AllocError, Global};
+use std::alloc::Global;
 use std::sync::atomic::AtomicU64;
 use std::sync::atomic::Ordering::SeqCst;
 use test_support::{Hook, Hooked};

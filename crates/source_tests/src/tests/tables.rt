@@ -98,6 +98,7 @@ fn answers_by_its_lines(rt: HostRuntime) {
     let alloc = rt.alloc();
     let pieces = [b"a\tk\to".as_slice(), b"ne\na\tj\t\nb", b"\tk\ttwo\n"];
     let table = table_of(alloc, &pieces).expect(&rt, "a table");
+    table.law();
     assert_eq!(rt; table.group_count(), 2);
     assert!(rt; has(alloc, &table, b"a", b"k", b"one", true));
     assert!(rt; has(alloc, &table, b"a", b"j", b"", true));

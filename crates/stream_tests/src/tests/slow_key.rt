@@ -1,4 +1,4 @@
-//! Two connections of one pool, served at the same moment, that wait for one slow key.
+//! Two connections of one pool, served at the same moment, that wait for one slow key, and how each of them can end.
 ghost use Rattle.std.specs.Prelude.{◌≡◌, All};
 ghost use Rattle.peer_fill.specs.Pools.{IsConnSeatOf, IsFillSeatOf};
 
@@ -30,26 +30,52 @@ impl Gate for Slow {
     fn after_put<R: Wait>(&self, _rt: &R, _number: u64, _group: GroupId, _key: &[u8]) {}
 }
 
-// Whether a connection gets the reply.
-fn is_answered<S: FunctionalSource, L: Ledger + Send + Sync>(
+// What a connection reads, and how its reader and its writer fail; what it writes then, and how it ends.
+#[derive(Clone, Copy)]
+struct Case {
+    text: &'static [u8],
+    // Whether the read behind the text fails, and whether it is not made.
+    fails: bool,
+    spent: bool,
+    // How many bytes the writer takes.
+    limit: Option<usize>,
+    told: &'static [u8],
+    end: End,
+}
+
+// A request that is answered, and the end is told behind it.
+const ANSWERED: Case = Case {
+    text: ASK_K,
+    fails: false,
+    spent: false,
+    limit: None,
+    told: FOUND_K,
+    end: End::Clean,
+};
+
+// Whether a connection writes what it is to, and ends so.
+fn is_as_told<S: FunctionalSource, L: Ledger + Send + Sync>(
     rt: &(impl Abort + AllocGlobal + Threads + Wait + Sync),
     pool: &Pool<S, L>,
     seat: ConnSeat<S, L>,
+    case: Case,
 ) -> bool
     requires { IsConnSeatOf pool.now seat }
 {
     let alloc = rt.alloc();
-    let reader = MemReader::new(whole(rt, ASK_K), false);
-    let writer = MemWriter::new(alloc, 4096, None);
-    let (served, _seat) = serve_connection_functional(rt, alloc, pool, seat, reader, writer, READS);
-    is_told(&served, FOUND_K, End::Clean)
+    let reader = MemReader::new(whole(rt, case.text), case.fails);
+    let writer = MemWriter::new(alloc, 4096, case.limit);
+    let reads = if case.spent { 1 } else { READS };
+    let (served, _seat) = serve_connection_functional(rt, alloc, pool, seat, reader, writer, reads);
+    is_told(&served, case.told, case.end)
 }
 
-// Whether two connections get the reply from one worker.
-fn are_answered<S: FunctionalSource, L: Ledger + Send + Sync>(
+// Whether two connections of a pool with one worker are.
+fn are_as_told<S: FunctionalSource, L: Ledger + Send + Sync>(
     rt: &(impl Abort + AllocGlobal + Threads + Wait + Sync),
     pool: &Pool<S, L>,
     lists: &mut Seats<S, L>,
+    case: Case,
 ) -> (bool, bool)
     requires fills { All (IsFillSeatOf pool.now) lists.old.fills.items }
     requires conns { All (IsConnSeatOf pool.now) lists.old.conns.items }
@@ -70,10 +96,10 @@ fn are_answered<S: FunctionalSource, L: Ledger + Send + Sync>(
                 rt,
                 move || -> bool
                     requires { IsConnSeatOf pool.now one }
-                { is_answered(rt, pool, one) },
+                { is_as_told(rt, pool, one, case) },
                 move || -> bool
                     requires { IsConnSeatOf pool.now two }
-                { is_answered(rt, pool, two) },
+                { is_as_told(rt, pool, two, case) },
             );
             pool.stop();
             answered
@@ -85,6 +111,7 @@ fn are_answered<S: FunctionalSource, L: Ledger + Send + Sync>(
 // A pool of its own, and its two connections.
 fn round<L: Ledger + Send + Sync, H: Abort + AllocGlobal + Threads + Wait + Sync>(
     rt: &H,
+    case: Case,
     blank: Blank,
 ) -> (bool, bool)
     requires name { blank.name ≡ L.name }
@@ -92,14 +119,58 @@ fn round<L: Ledger + Send + Sync, H: Abort + AllocGlobal + Threads + Wait + Sync
 {
     let opened = open_pool::<DemoSource, L>(rt.alloc(), DemoSource, 0, 1, 2, blank);
     let (pool, mut lists) = opened.expect(rt, "a pool");
-    are_answered(rt, &pool, &mut lists)
+    are_as_told(rt, &pool, &mut lists, case)
+}
+
+// Whether both connections of a pool of its own are as told.
+fn ends_so<H: Abort + AllocGlobal + Threads + Wait + Sync>(rt: &H, case: Case) -> bool {
+    round::<Brand, H>(rt, case, Blank::new(16)) == (true, true)
 }
 
 #[test]
 fn all_who_wait_for_a_slow_key_are_answered(rt: HostRuntime) {
     let mut all = true;
     for _ in 0..20 {
-        all &= round::<Brand, HostRuntime>(&rt, Blank::new(16)) == (true, true);
+        all &= ends_so(&rt, ANSWERED);
     }
     assert!(rt; all);
+}
+
+// The end is told inside a head.
+const CUT: Case = Case {
+    text: b"GET /_groupcache/echo/k HTTP/1.1\r\nHost: h\r\n\r",
+    told: b"",
+    end: End::Cut,
+    ..ANSWERED
+};
+
+const READ_FAULT: Case = Case {
+    fails: true,
+    end: End::ReadFault,
+    ..ANSWERED
+};
+
+const SPENT: Case = Case {
+    spent: true,
+    end: End::Spent,
+    ..ANSWERED
+};
+
+const WRITE_FAULT: Case = Case {
+    limit: Some(10),
+    told: b"HTTP/1.1 2",
+    end: End::WriteFault,
+    ..ANSWERED
+};
+
+// Refused memory is tried in the program `refused`, and used up numbers take 2^56 asks.
+#[test]
+fn each_other_end_is_told(rt: HostRuntime) {
+    let ends = [
+        ends_so(&rt, CUT),
+        ends_so(&rt, READ_FAULT),
+        ends_so(&rt, SPENT),
+        ends_so(&rt, WRITE_FAULT),
+    ];
+    assert_eq!(rt; ends, [true; 4]);
 }

@@ -2,6 +2,7 @@
 
 use super::{Led, fill_of, lead, lead_and_join, put_shows, wanted};
 use crate::tests::values::{ECHO, shows};
+use peer_flight::laws::{every_interleaving, one_answer};
 use peer_flight::{Claim, FillRight, Flight};
 use peer_source::{DemoSource, Fill};
 use std::alloc::{AllocError, Global};
@@ -82,4 +83,31 @@ fn notes_of_one_flight_agree(rt: HostRuntime) {
     let fill = fill_of(alloc, ECHO, b"k").expect(&rt, "memory");
     let right = led.right;
     assert_eq!(rt; notes_see(&led.flight, right, fill), Ok([true, true]));
+}
+
+// Whether two claims of a flight show its fill, of which the laws of flights say that it is one.
+fn claims_see(
+    flight: Flight<DemoSource>,
+    right: FillRight<DemoSource>,
+    fill: Fill<DemoSource>,
+) -> Result<[bool; 2], AllocError> {
+    let other = Claim::Pending(flight.share()?);
+    let one = Claim::Pending(flight);
+    let (mut first, mut second) = (one.note(), other.note());
+    let _put = right.put(fill);
+    let seen = [
+        shows(one.look(&mut first), b"k"),
+        shows(other.look(&mut second), b"k"),
+    ];
+    one_answer(&one, &other, &mut first, &mut second);
+    every_interleaving::<DemoSource>();
+    Ok(seen)
+}
+
+#[test]
+fn claims_of_one_flight_have_one_answer(rt: HostRuntime) {
+    let alloc = rt.alloc();
+    let led = lead(alloc, ECHO, b"k").expect(&rt, "memory");
+    let fill = fill_of(alloc, ECHO, b"k").expect(&rt, "memory");
+    assert_eq!(rt; claims_see(led.flight, led.right, fill), Ok([true, true]));
 }

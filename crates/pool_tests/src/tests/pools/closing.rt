@@ -1,13 +1,15 @@
 //! How a pool is closed: with seats missing it comes back, and with all seats it tells what three asks for a key counted.
+ghost use Rattle.std.specs.Prelude.{◌≡◌};
 
-use super::desk::{Desk, Steps, run};
+use super::desk::Desk;
 use crate::tests::values::{ECHO, is_shown_by};
-use peer_fill::{NoGate, Report};
+use peer_fill::Report;
 use std::alloc::Global;
+use std::marker::Brand;
 use std::sync::Wait;
 use std::sync::atomic::AtomicU64;
 use std::sync::atomic::Ordering::SeqCst;
-use std::sync::ledger::Ledger;
+use std::sync::ledger::{Blank, Ledger};
 use test_support::{Hook, Hooked, all_called};
 
 // Counts the calls of a source.
@@ -23,40 +25,37 @@ impl<'a> Hook for Counting<'a> {
     }
 }
 
-/// Both connections ask for a key, the worker runs, and one of them asks again: whether the claims of both show the key.
-#[derive(Clone, Copy)]
-struct AskThrice<'a> {
-    calls: &'a AtomicU64,
+// Both connections ask for a key, the pool is stopped, its worker runs, and the first asks again: whether the claims of both show
+// the key, and the report of the pool, whose calls are counted.
+fn ask_thrice<L: Ledger, R: Wait>(
+    rt: &R,
+    alloc: Global,
+    calls: &AtomicU64,
+    blank: Blank,
+) -> Option<([bool; 2], Report)>
+    requires name { blank.name ≡ L.name }
+    requires parts { (blank.parts ≡ L.parts) × (blank.parts ≡ 16) }
+{
+    let source = Hooked {
+        hook: Counting { calls },
+    };
+    let mut desk = Desk::<Hooked<Counting<'_>>, L>::open(alloc, source, 0, blank)?;
+    let first = desk.ask(rt, ECHO, b"k");
+    desk.change_seats();
+    let second = desk.ask(rt, ECHO, b"k");
+    desk.change_seats();
+    let mut desk = desk.run_worker(rt);
+    let shown = [is_shown_by(&first, b"k"), is_shown_by(&second, b"k")];
+    drop(first);
+    drop(second);
+    drop(desk.ask(rt, ECHO, b"k"));
+    let report = desk.close(rt)?;
+    Some((shown, report))
 }
 
-impl<'a> AskThrice<'a> {
-    // What was seen, and the report of a pool over the source for demonstrations, whose calls are counted.
-    fn run<R: Wait>(&self, rt: &R, alloc: Global) -> Option<([bool; 2], Report)> {
-        let hook = Counting { calls: self.calls };
-        run(rt, alloc, Hooked { hook }, 0, self)
-    }
-}
-
-impl<'a> Steps for AskThrice<'a> {
-    type Source = Hooked<Counting<'a>>;
-
-    type Seen = [bool; 2];
-
-    fn take<L: Ledger, R: Wait>(
-        &self,
-        rt: &R,
-        desk: &mut Desk<Hooked<Counting<'a>>, L>,
-    ) -> Option<[bool; 2]> {
-        let first = desk.ask(rt, ECHO, b"k");
-        desk.change_seats();
-        let second = desk.ask(rt, ECHO, b"k");
-        desk.work(rt, 2, &NoGate);
-        let shown = [is_shown_by(&first, b"k"), is_shown_by(&second, b"k")];
-        drop(first);
-        drop(second);
-        drop(desk.ask(rt, ECHO, b"k"));
-        Some(shown)
-    }
+// The same over a pool of its own.
+fn asked_thrice<R: Wait>(rt: &R, alloc: Global, calls: &AtomicU64) -> Option<([bool; 2], Report)> {
+    ask_thrice::<Brand, R>(rt, alloc, calls, Blank::new(16))
 }
 
 // The report of the three asks. The third one led a flight whose job was left.
@@ -73,14 +72,14 @@ fn report_of_three() -> Report {
 #[test]
 fn a_pool_that_lacks_seats_comes_back_and_is_closed_with_all(rt: HostRuntime) {
     let calls = AtomicU64::new(0);
-    let seen = AskThrice { calls: &calls }.run(&rt, rt.alloc());
+    let seen = asked_thrice(&rt, rt.alloc(), &calls);
     assert_eq!(rt; seen, Some(([true; 2], report_of_three())));
 }
 
 #[test]
 fn two_seats_share_one_call(rt: HostRuntime) {
     let calls = AtomicU64::new(0);
-    let seen = AskThrice { calls: &calls }.run(&rt, rt.alloc());
+    let seen = asked_thrice(&rt, rt.alloc(), &calls);
     let shown = seen.map(|(shown, _report)| shown);
     assert_eq!(rt; (shown, calls.load(SeqCst)), (Some([true; 2]), 1));
 }

@@ -2,7 +2,9 @@
 ghost use Rattle.std.specs.Prelude.{◌≡◌, ◌<◌, All, IfSome};
 ghost use Rattle.peer_fill.specs.Pools.{source_of, IsConnSeatOf, IsFillSeatOf};
 
-use peer_fill::{CloseFault, ConnSeat, FillSeat, Gate, Pool, Report, Seats, TakenJob, pop_seat};
+use peer_fill::{
+    CloseFault, ConnSeat, FillSeat, Gate, NoGate, Pool, Report, Seats, TakenJob, pop_seat,
+};
 use peer_flight::Claim;
 use peer_source::{GroupId, Source};
 use std::alloc::Global;
@@ -131,6 +133,16 @@ impl<S: Source, L: Ledger> Desk<S, L> {
         requires { group.number < 2 }
     {
         ask_in(rt, self.alloc, &self.pool, &mut self.seats.conn, group, key)
+    }
+
+    /// The same once the pool was stopped and its worker ran.
+    pub fn run_worker<R: Wait>(self, rt: &R) -> Desk<S, L> {
+        let Desk { alloc, pool, seats } = self;
+        let DeskSeats { conn, other, fill } = seats;
+        pool.stop();
+        let fill = pool.run_worker(rt, alloc, fill, &NoGate);
+        let seats = DeskSeats { conn, other, fill };
+        Desk { alloc, pool, seats }
     }
 
     /// How many jobs the worker filled, of so many at most.
