@@ -46,7 +46,7 @@ impl<S: Source> Model for Connection<S> {
 impl<S: Source> Connection<S> {
     ghost use Rattle.peer_flight.specs.Tables.{IsWorn, state_of};
 
-    // One at which nothing arrived.
+    /// One at which nothing arrived.
     pub(crate) fn new(alloc: Global) -> Connection<S>
         ensures { result ≡ new_connection }
     {
@@ -69,7 +69,7 @@ impl<S: Source> Connection<S> {
             && self.arrived.iter().all(|wish| !wish.is_closing())
     }
 
-    // A wish with a place arrives at the empty hand, and joins or leads a flight.
+    /// A wish with a place arrives at the empty hand, and joins or leads a flight.
     pub(crate) fn want(
         &mut self,
         alloc: Global,
@@ -118,7 +118,7 @@ impl<S: Source> Connection<S> {
         self.hand = hand;
     }
 
-    // Takes the right out of the hand, and leaves the ticket.
+    /// Takes the right out of the hand, and leaves the ticket.
     pub(crate) fn take_right(&mut self) -> Option<u64>
         ensures { MatchOption result ((self.new ≡ self.old) × ((t : Ticket) → (m : ℕ) → self.old.hand ≢ WithRight t m))
             (λ number. (t : Ticket) × (self.old.hand ≡ WithRight t number) × (self.new ≡ record self.old { hand = WithTicket t })) }
@@ -135,7 +135,7 @@ impl<S: Source> Connection<S> {
         }
     }
 
-    // Lane put, of the ticket in the hand.
+    /// Lane put, of the ticket in the hand.
     pub(crate) fn put_ticket(&mut self) -> Result<bool, AllocError>
         ensures put { IfOk result (λ put. WhereAllowed put PutsHand self.old self.new) }
         ensures refused { OnErr result (self.new ≡ self.old) }
@@ -156,7 +156,7 @@ impl<S: Source> Connection<S> {
         }
     }
 
-    // Lane put, of a wish that is a fault or a hit.
+    /// Lane put, of a wish that is a fault or a hit.
     pub(crate) fn put_ready(&mut self, wish: Wish) -> Result<bool, AllocError>
         ensures put { IfOk result (λ put. WhereAllowed put (PutsReady wish) self.old self.new) }
         ensures refused { OnErr result (self.new ≡ self.old) }
@@ -172,7 +172,7 @@ impl<S: Source> Connection<S> {
         Ok(true)
     }
 
-    // Lane taken: a ticket that names a flight waits, and a ready one is answered at once.
+    /// Lane taken: a ticket that names a flight waits, and a ready one is answered at once.
     pub(crate) fn take_ticket(&mut self) -> Result<bool, AllocError>
         ensures took { IfOk result (λ took. WhereAllowed took TakesTicket self.old self.new) }
         ensures refused { OnErr result (self.new ≡ self.old) }
@@ -193,7 +193,7 @@ impl<S: Source> Connection<S> {
         Ok(true)
     }
 
-    // Outcome seen, of the first ticket that waits: the reply is written, or the writer ends for want of memory.
+    /// Outcome seen, of the first ticket that waits: the reply is written, or the writer ends for want of memory.
     pub(crate) fn see_outcome(&mut self, flights: &[FlightEntry<S>]) -> Result<bool, AllocError>
         ensures seen { IfOk result (λ seen. MatchBool seen (SeesOutcome flights.now self.old self.new)
             ((self.new ≡ self.old) × SeesNone flights.now self.old)) }
@@ -222,7 +222,7 @@ impl<S: Source> Connection<S> {
     }
 }
 
-// So many connections at which nothing arrived.
+/// So many connections at which nothing arrived.
 pub(crate) fn new_connections<S: Source>(
     alloc: Global,
     count: usize,

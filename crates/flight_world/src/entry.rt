@@ -37,7 +37,7 @@ impl<S: Source> Model for FlightEntry<S> {
 }
 
 impl<S: Source> FlightEntry<S> {
-    // A flight that was just led.
+    /// A flight that was just led.
     pub(crate) fn new(flight: Flight<S>) -> FlightEntry<S>
         ensures { result ≡ new_flight flight.place }
     {
@@ -57,14 +57,14 @@ impl<S: Source> FlightEntry<S> {
         self.flight.place()
     }
 
-    // Whether the fill is of its place.
+    /// Whether the fill is of its place.
     pub(crate) fn is_of(&self, fill: &Fill<S>) -> bool
         ensures { IsTrue result ↔ (self.now.place ≡ place_of fill.now.group fill.now.key) }
     {
         fill.group() == self.flight.group() && fill.key() == self.flight.key()
     }
 
-    // Spends its right for this fill.
+    /// Spends its right for this fill.
     pub(crate) fn spend(&mut self, fill: Fill<S>)
         ensures { self.new ≡ record self.old { outcome = outcome_by fill.answer; spent = true } }
     {
@@ -73,7 +73,7 @@ impl<S: Source> FlightEntry<S> {
     }
 }
 
-// What the flight of this ticket brought.
+/// What the flight of this ticket brought.
 pub(crate) fn brought<'a, S: Source>(
     ticket: &Ticket,
     flights: &'a [FlightEntry<S>],

@@ -53,7 +53,7 @@ impl Wish {
         self.closing
     }
 
-    // The same wish, which shares the key.
+    /// The same wish, which shares the key.
     pub(crate) fn share(&self) -> Result<Wish, AllocError>
         ensures { IfOk result (λ wish. wish ≡ self.now) }
     {

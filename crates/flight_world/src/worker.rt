@@ -35,7 +35,7 @@ impl Worker {
         matches!(self.hands, Hands::Empty)
     }
 
-    // The flight whose right it has.
+    /// The flight whose right it has.
     pub(crate) fn filling(&self) -> Option<u64>
         ensures { MatchOption result ((m : ℕ) → self.now ≢ Filling m) (λ number. self.now ≡ Filling number) }
     {
@@ -45,7 +45,7 @@ impl Worker {
         }
     }
 
-    // The flight that it has, whose right is spent.
+    /// The flight that it has, whose right is spent.
     pub(crate) fn landing(&self) -> Option<u64>
         ensures { MatchOption result ((m : ℕ) → self.now ≢ Landing m) (λ number. self.now ≡ Landing number) }
     {
@@ -56,7 +56,7 @@ impl Worker {
     }
 }
 
-// So many workers with empty hands.
+/// So many workers with empty hands.
 pub(crate) fn idle_workers(alloc: Global, count: usize) -> Result<Vec<Worker>, AllocError>
     ensures { IfOk result (λ workers. workers.items ≡ replicate count Idle) }
 {

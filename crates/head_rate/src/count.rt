@@ -5,7 +5,7 @@ ghost use Rattle.peer_head.specs.Blocks.{IsUnfinished};
 use peer_head::{FieldPlaces, HeadBuf, Look};
 use peer_view::{PeerRead, ReadFailed};
 
-/// How many reads are made at most.
+// How many reads are made at most.
 const READS: u64 = 1_000_000;
 
 /// Why no further head is counted.

@@ -33,6 +33,11 @@ impl Waits {
             .poll(&mut self.events, Some(Duration::ZERO))
             .is_ok()
     }
+
+    // Whether as many events were reported as can be at once, so that more may be there.
+    fn is_full(&self) -> bool {
+        self.events.iter().count() >= MAX_EVENTS
+    }
 }
 
 /// A loop and its clients.
@@ -78,20 +83,23 @@ impl<'a, S: Source, F: Facts<S>> EventLoop<'a, S, F> {
         }
     }
 
-    // Notes what was reported. Whether more may be.
-    fn note(&mut self, waits: &Waits) -> bool {
+    // Notes what was reported.
+    fn note(&mut self, waits: &Waits) {
         for event in waits.events.iter() {
             if event.token() != WOKEN {
                 self.turns.clients.note(event);
             }
         }
-        waits.events.iter().count() >= MAX_EVENTS
     }
 
     // Notes all that is there by now.
     fn note_all(&mut self, waits: &mut Waits) {
         for _ in 0..=self.turns.clients.each.len() / MAX_EVENTS {
-            if !waits.poll_now() || !self.note(waits) {
+            if !waits.poll_now() {
+                return;
+            }
+            self.note(waits);
+            if !waits.is_full() {
                 return;
             }
         }
@@ -191,7 +199,7 @@ impl<'a, S: Source, F: Facts<S>> EventLoop<'a, S, F> {
             thread::sleep(rt, self.turns.shared.site.limits.pause);
             return;
         }
-        let _ = self.note(waits);
+        self.note(waits);
     }
 
     // One turn of the loop: it waits for events, and serves those whom they concern.

@@ -7,6 +7,7 @@
 //! and how long a call waits, no contract can say.
 #![tactic(auto)]
 
+mod chain;
 mod client;
 mod client_list;
 mod client_state;

@@ -19,7 +19,7 @@ use Rattle.peer_conn.specs.declared.end.Served.{Served}
 use Rattle.peer_conn.specs.declared.end.ReaderStop.{ReaderStop}
 
 module _ {S L R W : Type 0} {g : Source.Ghosts S} {k : Read.Ghosts R} {m : Write.Ghosts W} where
-  -- the sides of one lane, where nothing was put, taken or made good yet
+  -- the sides of one lane, where nothing was put, taken or refilled yet
   abbrev pub AreNewSides : ReaderSide S L R g k → WriterSide S W g m → Type 0
   AreNewSides reader writer = IsLane reader.lane writer.lane × (tickets_put reader.lane ≡ [])
       × (tickets_taken writer.lane ≡ []) × (writer.strangers ≡ 0)

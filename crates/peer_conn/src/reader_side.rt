@@ -17,7 +17,6 @@ use peer_lane::{Body, LaneIn, Signal, Ticket};
 use peer_reply::{Wish, WishBody};
 use peer_source::{Names, Source};
 use peer_view::PeerRead;
-use std::alloc::Global;
 use std::sync::Wait;
 use std::sync::ledger::Ledger;
 

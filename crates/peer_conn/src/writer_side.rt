@@ -42,7 +42,7 @@ pub(crate) struct WriterSide<S: Source, W: PeerWrite + Drop> {
     pub(crate) alloc: Global,
     pub(crate) lane: LaneOut<S>,
     pub(crate) responses: Responses<W>,
-    /// The tickets that were made good, since the fill that came was of another group or key than was asked for.
+    /// How many tickets were refilled, since the fill that came was of another group or key than was asked for.
     pub(crate) strangers: u64,
     ghost strangers_fit: { strangers < 2 ^ 64 },
 }
@@ -57,7 +57,7 @@ impl<S: Source, W: PeerWrite + Drop> WriterSide<S, W> {
     ghost use Rattle.peer_conn.specs.WriterSides.{AnswersTickets, AnswersLeft, KeepsTickets};
     ghost use Rattle.peer_conn.specs.Strangers.{CountsFill};
 
-    /// No ticket was made good yet.
+    /// No ticket was refilled yet.
     pub(crate) fn new(alloc: Global, lane: LaneOut<S>, responses: Responses<W>) -> WriterSide<S, W>
         ensures lane { result.lane ≡ lane }
         ensures responses { result.responses ≡ responses }

@@ -10,7 +10,7 @@ use Rattle.peer_exchange.specs.Answering.{AnswersClaim, AnswersFilled}
 use Rattle.peer_exchange.specs.declared.outgoing.Answered.{Answered}
 use Rattle.peer_exchange.specs.declared.outgoing.Answered.TheVariants as answered
 
--- only the fill of a flight may be made good
+-- only the fill of a flight may be refilled
 pub answers_filled : {S E : Type 0} (answers : ℕ → List ℕ → Answer → Type 0) (c : Claim S) (fill : Filled) (form : ReplyForm) (old new : List ℕ) (r : Result Answered E) →
     Looked c None (Some fill) (Some fill) → AnswersFilled answers c fill form old new r → AnswersClaim answers c form old new r
 answers_filled answers c fill form old new (Ok (answered.Put false)) came h = (h.0, tt)

@@ -41,8 +41,8 @@ module _ {S : Type 0} where
   waits_on_flight (ticket.Fault f) = false
   waits_on_flight (ticket.Claim c) = is_pending c
 
-  -- this fill came for the claim, and a reply to the claim's wish was put: it was made good exactly where the fill is of
-  -- another place; or memory was refused
+  -- this fill came for the claim, and a reply to the claim's wish was put: it was refilled exactly where the fill is of another
+  -- place; or memory was refused
   abbrev pub AnswersFilled : {E : Type 0} → (ℕ → List ℕ → Answer → Type 0) → Claim S → Filled → ReplyForm → List ℕ → List ℕ
       → Result Answered E → Type 0
   AnswersFilled answers c fill form old new (Ok (answered.Put refilled)) = IsReplyPut answers (claim_wish c form) old new
@@ -50,7 +50,7 @@ module _ {S : Type 0} where
   AnswersFilled answers c fill form old new (Ok answered.Waits) = ⊥
   AnswersFilled answers c fill form old new (Err fault) = new ≡ old
 
-  -- a reply to the wish of this claim was put, and made good only where it is a flight; or its fill is not there yet, or
+  -- a reply to the wish of this claim was put, and refilled only where it is a flight; or its fill is not there yet, or
   -- memory was refused
   abbrev pub AnswersClaim : {E : Type 0} → (ℕ → List ℕ → Answer → Type 0) → Claim S → ReplyForm → List ℕ → List ℕ
       → Result Answered E → Type 0
@@ -59,8 +59,7 @@ module _ {S : Type 0} where
   AnswersClaim answers c form old new (Ok answered.Waits) = (new ≡ old) × (is_pending c ≡ true)
   AnswersClaim answers c form old new (Err fault) = new ≡ old
 
-  -- a reply to this ticket was put, and made good only where it is of a flight; or its fill is not there yet, or memory was
-  -- refused
+  -- a reply to this ticket was put, and refilled only where it is of a flight; or its fill is not there yet, or memory was refused
   abbrev pub Answers : {E : Type 0} → (ℕ → List ℕ → Answer → Type 0) → Ticket S → List ℕ → List ℕ → Result Answered E → Type 0
   Answers answers t old new (Ok (answered.Put refilled)) = IsReplyPut answers (wish_by t) old new
       × OnTrue refilled (waits_on_flight t.body ≡ true)

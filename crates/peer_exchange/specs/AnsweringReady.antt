@@ -1,4 +1,4 @@
--- What an exchange answered: the first tickets that waited, and those among them that were made good.
+-- What an exchange answered: the first tickets that waited, and those among them that were refilled.
 use Rattle.std.specs.Prelude.{◌≡◌, ◌≤◌, ℕ, ◌+◌, ◌^◌, ◌⊎◌, min, length, true, cond, List, [], ◌∷◌, ◌++◌, Result, Ok, Err, OnOk}
 use Rattle.std.specs.VecDeque.{deque_len}
 use Rattle.peer_fill.specs.declared.counts.AskCounts.{AskCounts}
@@ -15,8 +15,8 @@ use Rattle.peer_exchange.specs.declared.exchange_state.ExchangeState.{ExchangeSt
 use Rattle.peer_exchange.specs.declared.intake.GivenUp.{GivenUp}
 
 -- so many strangers more, up to the most that a seat counts
-abbrev pub CountsMadeGood : ℕ → AskCounts → AskCounts → Type 0
-CountsMadeGood n old new = new ≡ record old { strangers = min (old.strangers + n) (2 ^ 56) }
+abbrev pub CountsRefilled : ℕ → AskCounts → AskCounts → Type 0
+CountsRefilled n old new = new ≡ record old { strangers = min (old.strangers + n) (2 ^ 56) }
 
 module _ {S : Type 0} where
   -- no ticket waits, or nothing is put until output was sent, or the first ticket waits on a flight
@@ -30,12 +30,12 @@ module _ {S : Type 0} where
     pub taken : old.waiting.items ≡ ticket ∷ new.waiting.items
     pub len : deque_len old.waiting ≡ deque_len new.waiting + 1
     pub flight : strangers ≤ flights_in_body ticket.body
-    pub counted : CountsMadeGood strangers asks asks'
+    pub counted : CountsRefilled strangers asks asks'
     pub reply : List ℕ
     pub put : unsent new ≡ unsent old ++ reply
     pub window : new.window.tickets ≡ window_after (length reply) old.window.tickets
 
-  -- the first ticket was answered, and a stranger counted exactly where it was made good; or it waits, or it was given up
+  -- the first ticket was answered, and a stranger counted exactly where it was refilled; or it waits, or it was given up
   abbrev pub AnswersFirst : ExchangeState S → ExchangeState S → AskCounts → AskCounts → Result Answered GivenUp → Type 0
   AnswersFirst old new asks asks' (Ok (answered.Put refilled)) =
       AnswersTicket (cond refilled 1 0) old new asks asks' × (new.intake.stage ≡ old.intake.stage)
@@ -53,7 +53,7 @@ module _ {S : Type 0} where
     pub wait : OnOk result (new.waiting.items ≡ left)
     pub strangers : ℕ
     pub flights : strangers ≤ flights_in answered
-    pub counted : CountsMadeGood strangers asks asks'
+    pub counted : CountsRefilled strangers asks asks'
     pub replies : List (List ℕ)
     pub one_each : length replies ≡ length answered
     pub put : OnOk result (unsent new ≡ unsent old ++ join replies)

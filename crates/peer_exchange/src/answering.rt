@@ -15,7 +15,7 @@ use std::alloc::AllocError;
 use std::collections::VecDeque;
 use std::sync::ledger::Ledger;
 
-/// How many tickets have room that is kept while none waits.
+// How many tickets have room that is kept while none waits.
 const KEPT_TICKETS: usize = 4;
 
 // Drops the first ticket.
@@ -63,7 +63,7 @@ impl<S: Source> ExchangeState<S> {
     }
 
     // Puts the reply of the first ticket, where its fill is there and little output waits, and counts a stranger where it
-    // was made good. `Waits` also where there is no ticket.
+    // was refilled. `Waits` also where there is no ticket.
     fn answer_first<L: Ledger>(
         &mut self,
         pool: &Pool<S, L>,

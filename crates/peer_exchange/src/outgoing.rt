@@ -130,7 +130,7 @@ impl Outgoing {
         self.put_filled(pool, claim, fill, form)
     }
 
-    // Puts the reply of a claim whose fill came, which is made good where the fill is of another place than the claim's.
+    // Puts the reply of a claim whose fill came, which is refilled where that is of another place than the claim's.
     fn put_filled<S: Source, L: Ledger>(
         &mut self,
         pool: &Pool<S, L>,

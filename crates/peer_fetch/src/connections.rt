@@ -229,10 +229,7 @@ impl<'a, S: Source> Connections<'a, S> {
     fn sweep(&mut self) {
         self.next_due = None;
         for key in 0..self.links.capacity() {
-            let due = match self.links.get(key) {
-                Some(link) => link.due(),
-                None => None,
-            };
+            let due = self.links.get(key).and_then(|link| link.due());
             self.next_due = earlier(self.next_due, due);
             if let Some(due) = due {
                 if due <= self.now {

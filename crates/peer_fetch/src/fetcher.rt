@@ -37,8 +37,9 @@ pub struct Fetcher<'a, S: Source> {
 }
 
 impl<'a, S: Source> Fetcher<'a, S> {
-    ghost use Rattle.std.specs.Prelude.{◌≡◌, ◌↔◌, IsTrue};
+    ghost use Rattle.std.specs.Prelude.{◌↔◌, IsTrue};
     ghost use Rattle.peer_fetch.specs.Fetchers.{HasNothing, MayTakeJob};
+    ghost use Rattle.peer_value.specs.Endpoints.{IsOfGroup};
 
     /// Nothing is under way.
     pub fn new(alloc: Global, settings: FetchThreadSettings, room: Room) -> Fetcher<'a, S> {
@@ -139,13 +140,13 @@ impl<'a, S: Source> Fetcher<'a, S> {
         job: TakenJob<S>,
     ) -> Option<Done<'a, S>>
         requires room { MayTakeJob self.old }
-        requires own { at.group.number ≡ job.place.group }
+        requires own { IsOfGroup at job.place.group }
     {
         let due = self
             .connections
             .now()
             .saturating_add(self.settings.fetch.value);
-        let service = self.shares.service(at.number);
+        let service = self.shares.service(at.number());
         match UnderWay::begin(self.alloc, at, job, due) {
             Ok(under) if self.shares.has_room(service) => self.start(system, under),
             Ok(under) => self.waiting.push(service, under),
@@ -238,9 +239,7 @@ impl<'a, S: Source> Fetcher<'a, S> {
     /// Gives a connection its turn. A value that is done is given back.
     pub fn turn<H: Network>(&mut self, system: &System<'_, H>, key: usize) -> Option<Done<'a, S>> {
         let now = self.connections.now();
-        let Some(link) = self.connections.get_mut(key) else {
-            return None;
-        };
+        let link = self.connections.get_mut(key)?;
         let service = self.shares.service(link.number);
         let turn = link.turn(&mut self.buffer, now);
         match turn {

@@ -165,9 +165,7 @@ impl<'a, S: Source> Link<'a, S> {
 
     /// When its value is given up, or its address.
     pub fn due(&self) -> Option<Duration> {
-        let Some(under) = &self.under else {
-            return None;
-        };
+        let under = self.under.as_ref()?;
         match self.connect_due {
             Some(due) if due < under.due() => Some(due),
             _ => Some(under.due()),

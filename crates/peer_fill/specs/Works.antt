@@ -7,7 +7,7 @@ use Rattle.peer_fill.specs.declared.counts.FillCounts.{FillCounts}
 use Rattle.peer_fill.specs.declared.making.Made.{Made}
 use Rattle.peer_fill.specs.declared.making.Made.TheVariants.{Called, Rehit}
 
--- the fill of this group and key: a value that was found before, or an answer of the source that was called
+-- the fill of this group and key: a value that was found, or an answer of the source that was called
 abbrev pub IsMadeFor : {S : Type 0} → (ℕ → List ℕ → Answer → Type 0) → ℕ → List ℕ → Made S → Type 0
 IsMadeFor answers group key (Called fill) = (fill.group ≡ group) × (fill.key ≡ key) × IfSome fill.answer (answers group key)
 IsMadeFor answers group key (Rehit fill) = IsFoundFor group key fill

@@ -36,7 +36,7 @@ pub enum Found {
 }
 
 impl AskCounts {
-    // Nothing was asked.
+    /// Nothing was asked.
     pub(crate) fn none() -> AskCounts
         ensures { result ≡ no_asks }
     {
@@ -49,7 +49,7 @@ impl AskCounts {
         }
     }
 
-    // Counts an ask that found this.
+    /// Counts an ask that found this.
     pub(crate) fn count(&mut self, found: Found)
         requires asked { self.old.asked < 2 ^ 56 }
         requires within { self.old.hits + self.old.joined ≤ self.old.asked }
@@ -62,7 +62,7 @@ impl AskCounts {
         }
     }
 
-    // Both together.
+    /// Both together.
     pub(crate) fn plus(self, other: AskCounts) -> AskCounts
         requires asked { self.asked + other.asked < 2 ^ 64 }
         requires hits { self.hits + other.hits < 2 ^ 64 }
@@ -82,7 +82,7 @@ impl AskCounts {
 }
 
 impl FillCounts {
-    // No job was taken.
+    /// No job was taken.
     pub(crate) fn none() -> FillCounts
         ensures { result ≡ no_fills }
     {

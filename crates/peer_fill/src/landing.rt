@@ -42,7 +42,7 @@ impl<S: Source, L: Ledger> Pool<S, L> {
         lock(rt, &self.table).land(&put);
     }
 
-    // Sets the fill of a flight with this right, and lands it.
+    /// Sets the fill of a flight with this right, and lands it.
     pub(crate) fn put_and_land<R: Wait, G: Gate>(
         &self,
         rt: &R,
@@ -56,10 +56,11 @@ impl<S: Source, L: Ledger> Pool<S, L> {
         self.land(rt, put);
     }
 
-    // Tells who waits for room, each time that a worker has made so many fills.
-    pub(crate) fn tell_of_room(&self, fills: &FillCounts)
+    /// Tells the gate what a seat has counted; and, each time that so many fills were made, one who waits for room.
+    pub(crate) fn tell_counts<G: Gate>(&self, fills: &FillCounts, gate: &G)
         requires { taken_of fills.now ≤ 2 ^ 56 }
     {
+        gate.after_count(fills.calls, fills.rehits);
         if (fills.calls + fills.rehits) % JOBS_PER_NOTICE == 0 {
             self.signals.room.notify_one();
         }

@@ -25,7 +25,7 @@ pub(crate) enum Made<S: Source> {
 impl<S: Source> Made<S> {
     ghost use Rattle.peer_fill.specs.Works.{fill_made};
 
-    // The fill, however it was made.
+    /// The fill, however it was made.
     pub(crate) fn into_fill(self) -> Fill<S>
         ensures { result ≡ fill_made self }
     {
@@ -40,7 +40,7 @@ impl FillCounts {
     ghost use Rattle.peer_fill.specs.Counts.{taken_of};
     ghost use Rattle.peer_fill.specs.Works.{CountsMade};
 
-    // One job more, whose fill was made so.
+    /// One job more, whose fill was made so.
     pub(crate) fn count<S: Source>(&mut self, made: &Made<S>)
         requires { taken_of self.old < 2 ^ 56 }
         ensures { CountsMade made.now self.old self.new }
@@ -58,7 +58,7 @@ impl<S: Source, L: Ledger> Pool<S, L> {
     ghost use Rattle.peer_fill.specs.Works.{IsMadeFor, call_count};
     ghost use Rattle.peer_fill.specs.declared.making.Made.TheVariants.{Rehit};
 
-    // The fill of the value that the group's cache keeps for the key. Where memory refuses it, there is none.
+    /// The fill of the value that the group's cache keeps for the key. Where memory refuses it, there is none.
     pub(crate) fn cached_fill<R: Wait>(
         &self,
         rt: &R,
@@ -73,8 +73,8 @@ impl<S: Source, L: Ledger> Pool<S, L> {
         }
     }
 
-    // Keeps a value that was found in the cache of its group, unless memory refuses that. What is evicted for it is let go
-    // once the caches are unlocked, where the list has room for it.
+    /// Keeps a value that was found in the cache of its group, unless memory refuses that. What is evicted for it is let go
+    /// once the caches are unlocked, where the list has room for it.
     pub(crate) fn keep<R: Wait>(&self, rt: &R, fill: &Fill<S>, evicted: &mut Evicted)
         ensures empty { evicted.new.items ≡ [] }
     {
@@ -82,7 +82,7 @@ impl<S: Source, L: Ledger> Pool<S, L> {
         evicted.clear();
     }
 
-    // The fill that a cache keeps, where it keeps one, and else what a call of the source gives.
+    /// The fill that a cache keeps, where it keeps one, and else what a call of the source gives.
     pub(crate) fn make(
         &self,
         alloc: Global,
@@ -101,7 +101,7 @@ impl<S: Source, L: Ledger> Pool<S, L> {
         Made::Called(Fill::run(alloc, &self.source, group, key))
     }
 
-    // Keeps a value that the source gave, unless memory refuses that.
+    /// Keeps a value that the source gave, unless memory refuses that.
     pub(crate) fn keep_made<R: Wait>(&self, rt: &R, made: &Made<S>, evicted: &mut Evicted)
         requires { evicted.old.items ≡ [] }
         ensures { evicted.new.items ≡ [] }

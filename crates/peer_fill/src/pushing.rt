@@ -20,7 +20,7 @@ impl<S: Source, L: Ledger> Pool<S, L> {
     ghost use Rattle.peer_fill.specs.Claiming.{KeepsSeat};
     ghost use Rattle.peer_fill.specs.Pools.{IsConnSeatOf};
 
-    // Pushes the job, unless the queue is full: then the job comes back.
+    /// Pushes the job, unless the queue is full: then the job comes back.
     pub(crate) fn push<R: Wait>(
         &self,
         rt: &R,
@@ -60,7 +60,7 @@ impl<S: Source, L: Ledger> Pool<S, L> {
         is_put
     }
 
-    // Waits until no job is left with the seat.
+    /// Waits until no job is left with the seat.
     pub(crate) fn put_all<R: Wait>(&self, rt: &R, seat: &mut ConnSeat<S, L>)
         requires seat { IsConnSeatOf self.now seat.old }
         ensures seat { KeepsSeat self.now seat.old seat.new }

@@ -58,7 +58,7 @@ impl<S: Source, L: Ledger> ConnSeat<S, L> {
     ghost use Rattle.peer_fill.specs.Seats.{asks_of, conn_parts, left_of, IsSameConn};
     ghost use Rattle.peer_fill.specs.Counts.{with_found};
 
-    // A seat that has asked nothing.
+    /// A seat that has asked nothing.
     pub(crate) fn new(pass: Pass<Job<S>, PassLog>, share: Share<L>, parts: u64) -> ConnSeat<S, L>
         requires parts { (0 < parts) × (parts ≤ 16) }
         requires pass { view pass ≡ pass_log parts [] [] }
@@ -120,7 +120,7 @@ impl<S: Source, L: Ledger> ConnSeat<S, L> {
         self.asks.strangers
     }
 
-    // Counts an ask that found this.
+    /// Counts an ask that found this.
     pub(crate) fn count(&mut self, found: Found)
         requires { (asks_of self.old).asked < 2 ^ 56 }
         ensures counts { asks_of self.new ≡ with_found found (asks_of self.old) }
@@ -148,7 +148,7 @@ impl<S: Source, L: Ledger> ConnSeat<S, L> {
 impl<S: Source, L: Ledger> FillSeat<S, L> {
     ghost use Rattle.peer_fill.specs.Seats.{fills_of, fill_parts};
 
-    // A seat that has taken no job.
+    /// A seat that has taken no job.
     pub(crate) fn new(alloc: Global, pass: Pass<Job<S>, PassLog>, parts: u64) -> FillSeat<S, L>
         requires parts { (0 < parts) × (parts ≤ 16) }
         requires pass { view pass ≡ pass_log parts [] [] }
@@ -165,8 +165,8 @@ impl<S: Source, L: Ledger> FillSeat<S, L> {
         }
     }
 
-    // Makes room for what one addition to a cache evicts, where there is none yet. Where memory is refused, it is let go
-    // under the lock of the caches.
+    /// Makes room for what one addition to a cache evicts, where there is none yet. Where memory is refused, it is let go
+    /// under the lock of the caches.
     pub(crate) fn make_room(&mut self)
         ensures pass { self.new.pass ≡ self.old.pass }
         ensures parts { fill_parts self.new ≡ fill_parts self.old }
@@ -177,7 +177,7 @@ impl<S: Source, L: Ledger> FillSeat<S, L> {
         }
     }
 
-    // Whether it has taken fewer jobs than a seat counts.
+    /// Whether it has taken fewer jobs than a seat counts.
     pub(crate) fn may_take(&self) -> bool
         ensures { IsTrue result ↔ (taken_of (fills_of self.now) < 2 ^ 56) }
     {

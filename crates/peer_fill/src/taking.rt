@@ -24,7 +24,7 @@ pub(crate) enum Take {
 }
 
 impl<S: Source, L: Ledger> Pool<S, L> {
-    // The oldest job, where there is one. Where there is none, all who wait for room are told.
+    /// The oldest job, where there is one. Where there is none, all who wait for room are told.
     pub(crate) fn pop_job<R: Wait>(
         &self,
         rt: &R,
@@ -66,7 +66,7 @@ impl<S: Source, L: Ledger> Pool<S, L> {
         unreachable!()
     }
 
-    // The oldest job, where there is one or once there is one.
+    /// The oldest job, where there is one or once there is one.
     pub(crate) fn take<R: Wait>(
         &self,
         rt: &R,

@@ -50,7 +50,7 @@ fn count_left<S: Source>(left: Option<Job<S>>) -> u64
 impl<S: Source, L: Ledger> Totals<S, L> {
     ghost use Rattle.peer_fill.specs.Gatherings.{AddsConn, AddsFill};
 
-    // The totals of one seat.
+    /// The totals of one seat.
     pub(crate) fn of(seat: ConnSeat<S, L>) -> Totals<S, L>
         ensures pass { result.pass ≡ seat.pass }
         ensures conn_parts { result.conn_parts ≡ conn_parts seat }
@@ -76,7 +76,7 @@ impl<S: Source, L: Ledger> Totals<S, L> {
         }
     }
 
-    // Takes in a connection's seat.
+    /// Takes in a connection's seat.
     pub(crate) fn add_conn(&mut self, jobs: &Jobs<S>, seat: ConnSeat<S, L>)
         requires pass { IsPassOf jobs.now self.old.pass × IsPassOf jobs.now seat.pass }
         requires room { self.old.conn_parts + conn_parts seat ≤ 16 }
@@ -90,7 +90,7 @@ impl<S: Source, L: Ledger> Totals<S, L> {
         self.left += count_left(seat.left);
     }
 
-    // Takes in a worker's seat.
+    /// Takes in a worker's seat.
     pub(crate) fn add_fill(&mut self, jobs: &Jobs<S>, seat: FillSeat<S, L>)
         requires pass { IsPassOf jobs.now self.old.pass × IsPassOf jobs.now seat.pass }
         requires room { self.old.fill_parts + fill_parts seat ≤ 16 }

@@ -160,7 +160,7 @@ impl<S: Source> Flight<S> {
         })
     }
 
-    // A new flight with its right.
+    /// A new flight with its right.
     pub(crate) fn lead(
         alloc: Global,
         number: u64,

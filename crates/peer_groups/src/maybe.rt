@@ -1,7 +1,5 @@
 //! A source that may be missing.
-ghost use Rattle.std.specs.Prelude.{◌≡◌, IfSome, Err};
-ghost use Rattle.peer_source.specs.Reports.{reported};
-ghost use Rattle.peer_groups.specs.Maybes.{AllowsMaybe, AnswersMaybe, count_maybe, no_group, number_maybe};
+ghost use Rattle.peer_groups.specs.Maybes.{AllowsMaybe, AnswersMaybe, count_maybe, number_maybe};
 ghost use Rattle.peer_groups.specs.Maybes.{maybe_answered, maybe_limited, maybe_numbered, maybe_within};
 
 use peer_source::{GetFault, GetResult, GroupId, Source};
@@ -12,16 +10,6 @@ use std::alloc::Global;
 #[derive(Drop)]
 pub struct Maybe<S> {
     pub source: Option<S>,
-}
-
-// The error of a group that a missing source has not.
-fn no_group_fault(alloc: Global, sink: &AllocSink) -> GetFault
-    ensures { IfSome (reported (Err result) sink.now) (λ a. a ≡ no_group) }
-{
-    match b"no such group".to_vec(alloc) {
-        Ok(text) => GetFault::Text(text),
-        Err(_) => GetFault::Memory,
-    }
 }
 
 impl<S: Source> Source for Maybe<S> {
@@ -50,7 +38,7 @@ impl<S: Source> Source for Maybe<S> {
     fn get(&self, alloc: Global, group: GroupId, key: &[u8], sink: &mut AllocSink) -> GetResult {
         match &self.source {
             Some(source) => source.get(alloc, group, key, sink),
-            None => Err(no_group_fault(alloc, sink)),
+            None => Err(GetFault::with_text(alloc, b"no such group")),
         }
     }
 

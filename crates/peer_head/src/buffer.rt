@@ -108,7 +108,7 @@ impl HeadBuf {
     }
 }
 
-/// Moves the bytes from `start` up to `end` to the front.
+// Moves the bytes from `start` up to `end` to the front.
 fn move_to_front(bytes: &mut Vec<u8>, start: usize, end: usize)
     requires ordered { start ≤ end }
     requires in_range { end ≤ length bytes.old.items }

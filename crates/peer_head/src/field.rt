@@ -45,7 +45,7 @@ pub fn asks_close(value: &[u8]) -> bool
     value.split(|b| *b == b',').any(|element| is_close(element))
 }
 
-/// Whether the element of a list is `close`.
+// Whether the element of a list is `close`.
 fn is_close(element: &[u8]) -> bool
     ensures { result ≡ is_close element.now }
 {
@@ -59,7 +59,7 @@ pub fn is_digits(value: &[u8]) -> bool
     !value.is_empty() && all_digits(value)
 }
 
-/// Whether each byte is a digit.
+// Whether each byte is a digit.
 fn all_digits(value: &[u8]) -> bool
     ensures { result ≡ list_all is_ascii_digit value.now }
 {
@@ -73,7 +73,7 @@ pub fn is_zero(value: &[u8]) -> bool
     value.iter().all(|b| *b == b'0')
 }
 
-/// The value without the spaces and tabs at its ends.
+// The value without the spaces and tabs at its ends.
 fn trim(value: &[u8]) -> &[u8]
     ensures { result.now ≡ trim_ows value.now }
 {

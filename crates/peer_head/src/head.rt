@@ -111,7 +111,7 @@ pub(crate) fn is_bare(method: &[u8]) -> bool
     method == b"HEAD".as_slice()
 }
 
-/// The name and the value that the spans cover.
+// The name and the value that the spans cover.
 fn field_at<'b>(block: &'b [u8], fields: &[HeaderSpan], i: usize) -> (&'b [u8], &'b [u8])
     requires i_in_range { i < length fields.now }
     requires within { All (IsHeaderWithin (length block.now)) fields.now }

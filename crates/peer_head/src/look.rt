@@ -45,7 +45,7 @@ pub fn look_at<'b>(text: &'b [u8], places: &'b mut [HeaderSpan]) -> (Look<'b>, u
     }
 }
 
-/// Reads a block, and asks the rules on heads.
+// Reads a block, and asks the rules on heads.
 fn look_at_block<'b>(block: &'b [u8], places: &'b mut [HeaderSpan]) -> Look<'b>
     requires { length places.old ≡ MAX_FIELDS }
     ensures { (text rest : List ℕ) → Begins text block.now rest → LooksAs text result }
@@ -56,7 +56,7 @@ fn look_at_block<'b>(block: &'b [u8], places: &'b mut [HeaderSpan]) -> Look<'b>
     }
 }
 
-/// Asks the rules on heads of a block that is one.
+// Asks the rules on heads of a block that is one.
 fn judge<'b>(block: &'b [u8], spans: RequestSpans, fields: &'b [HeaderSpan]) -> Look<'b>
     requires head { IsHeadAt block.now fields.now spans }
     requires few { length fields.now ≡ MAX_FIELDS }

@@ -33,12 +33,12 @@ pub fn parse_head(block: &[u8], fields: &mut [HeaderSpan]) -> Option<RequestSpan
     }
 }
 
-/// How many bytes are compared with the next at once.
+// How many bytes are compared with the next at once.
 const STEP: usize = 32;
 
-/// Whether each CR and each LF stands in a pair CR LF.
-///
-/// The last bytes are compared once more, so that a compiler has none left to compare alone.
+// Whether each CR and each LF stands in a pair CR LF.
+//
+// The last bytes are compared once more, so that a compiler has none left to compare alone.
 fn is_paired(bytes: &[u8]) -> bool
     ensures { IsTrue result ↔ IsPaired bytes.now }
 {
@@ -58,9 +58,9 @@ fn is_paired(bytes: &[u8]) -> bool
     is_matching(bytes, 0, last / STEP * STEP) & is_matching(bytes, last - STEP, STEP)
 }
 
-/// Whether each of so many bytes from a place on is a CR exactly where the next is an LF.
-///
-/// It has no early way out, so that a compiler may compare many bytes at once.
+// Whether each of so many bytes from a place on is a CR exactly where the next is an LF.
+//
+// It has no early way out, so that a compiler may compare many bytes at once.
 fn is_matching(bytes: &[u8], from: usize, count: usize) -> bool
     requires { from + count < length bytes.now }
     ensures { IsTrue result ↔ NeighboursMatch bytes.now from (from + count) }
@@ -72,7 +72,7 @@ fn is_matching(bytes: &[u8], from: usize, count: usize) -> bool
     matching
 }
 
-/// Whether each byte is visible ASCII, again with no early way out.
+// Whether each byte is visible ASCII, again with no early way out.
 fn is_visible(bytes: &[u8]) -> bool
     ensures { IsTrue result ↔ All IsVisible bytes.now }
 {

@@ -22,7 +22,7 @@ pub enum Lengths<'b> {
 }
 
 impl<'b> Lengths<'b> {
-    /// With one value more.
+    // With one value more.
     fn with(self, value: &'b [u8]) -> Lengths<'b>
         ensures { (values : List (List ℕ)) → IsLengthsOf values self.entry → IsLengthsOf (values ++ value.now ∷ []) result }
     {
@@ -44,7 +44,7 @@ impl<'b> Lengths<'b> {
     }
 }
 
-/// What a value says that stands alone.
+// What a value says that stands alone.
 fn first_length(value: &[u8]) -> Lengths<'_>
     ensures { IsLengthsOf (value.now ∷ []) result }
 {
@@ -55,7 +55,7 @@ fn first_length(value: &[u8]) -> Lengths<'_>
     }
 }
 
-/// What a value says behind others.
+// What a value says behind others.
 fn next_length<'b>(first: &'b [u8], value: &[u8]) -> Lengths<'b>
     ensures { (values : List (List ℕ)) → AgreesOn values first.now → IsLengthsOf (values ++ value.now ∷ []) result }
 {
@@ -66,7 +66,7 @@ fn next_length<'b>(first: &'b [u8], value: &[u8]) -> Lengths<'b>
     }
 }
 
-/// Content is announced by any number but 0.
+// Content is announced by any number but 0.
 fn content_fault(number: &[u8]) -> Option<HeadFault>
     ensures { (values : List (List ℕ)) → AgreesOn values number.now → result ≡ length_fault values }
 {
@@ -86,7 +86,7 @@ pub enum Hosts {
 }
 
 impl Hosts {
-    /// With one host more.
+    // With one host more.
     fn with_one(self) -> Hosts
         ensures { (count : ℕ) → IsHostsOf count self → IsHostsOf (count + 1) result }
     {
@@ -117,7 +117,7 @@ pub struct FieldSummary<'b> {
 }
 
 impl<'b> FieldSummary<'b> {
-    /// With one field more.
+    // With one field more.
     fn with(self, name: &[u8], value: &'b [u8]) -> FieldSummary<'b>
         ensures { (fields : List HeadField) → IsSummaryOf fields self.entry
             → IsSummaryOf (fields ++ record { name = name.now; value = value.now } ∷ []) result }

@@ -12,7 +12,7 @@ use std::alloc::Global;
 // How many pieces are taken at once.
 const PIECES: u64 = 4_000_000;
 
-// What was taken of a body.
+/// What was taken of a body.
 #[derive(Clone, Copy)]
 pub(crate) enum Taken {
     Piece,

@@ -14,7 +14,7 @@ use httparse::spans::{HeaderSpan, ResponseSpans};
 // How many heads are taken at once.
 const HEADS: u64 = 4_000_000;
 
-// What was found of the heads of a reply.
+/// What was found of the heads of a reply.
 #[derive(Clone, Copy)]
 pub(crate) enum Found {
     // The head of the final reply, and its status.

@@ -30,7 +30,7 @@ impl Signal {
         self.changed.notify_all();
     }
 
-    // One end's wait for the other.
+    /// One end's wait for the other.
     pub(crate) fn waiter(&self) -> Waiter<'_> {
         Waiter::new(&self.changed)
     }

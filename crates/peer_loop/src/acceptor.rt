@@ -7,9 +7,9 @@ use crate::listening::Listening;
 use crate::stop::Stop;
 use mio::net::TcpStream;
 use peer_host::Host;
+use peer_poll::would_block;
 use peer_site::Site;
-use std::io::ErrorKind;
-use std::thread;
+use std::{io, thread};
 
 /// Where a server gets its clients.
 #[derive(Drop)]
@@ -17,7 +17,7 @@ pub struct Acceptor<'a> {
     pub listening: Listening,
     pub site: Site<'a>,
     pub stop: &'a Stop,
-    /// How many connections are accepted yet, none where there is no end.
+    /// How many more connections are accepted, none where there is no end.
     pub left: Option<u64>,
 }
 
@@ -60,8 +60,8 @@ impl<'a> Acceptor<'a> {
     }
 
     // Waits for clients where there was none, and else for some time.
-    fn wait_behind<H: Host>(&mut self, rt: &H, kind: ErrorKind) {
-        if kind == ErrorKind::WouldBlock {
+    fn wait_behind<H: Host>(&mut self, rt: &H, error: &io::Error) {
+        if would_block(error) {
             self.wait(rt);
         } else {
             self.site.counters.accepts().count_failed();
@@ -72,7 +72,7 @@ impl<'a> Acceptor<'a> {
     // Accepts one stream, or waits, and says whether there was one.
     fn accept<H: Host>(&mut self, rt: &H, turn: usize) -> bool {
         if self.site.occupancy.is_full() {
-            self.site.occupancy.want_room();
+            self.site.occupancy.await_place();
             if self.site.occupancy.is_full() {
                 self.wait(rt);
             }
@@ -87,7 +87,7 @@ impl<'a> Acceptor<'a> {
                 true
             }
             Err(error) => {
-                self.wait_behind(rt, error.kind());
+                self.wait_behind(rt, &error);
                 false
             }
         }

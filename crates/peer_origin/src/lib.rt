@@ -13,7 +13,6 @@ mod deadline;
 mod endpoint;
 mod exchange;
 mod fault;
-mod line;
 mod origin;
 mod settings;
 mod sockets;

@@ -11,6 +11,7 @@ use crate::settings::FetchSettings;
 use crate::stream::{StreamReader, StreamWriter};
 use peer_host::Network;
 use std::alloc::Global;
+use std::cmp::min;
 use std::io::ErrorKind;
 use std::net::TcpStream;
 use std::sync::Arc;
@@ -44,8 +45,7 @@ fn connect<H: Network>(
         let Some(left) = deadline.left() else {
             return Err(FetchFault::Late);
         };
-        let wait = if left < within { left } else { within };
-        if let Ok(stream) = TcpStream::connect_timeout(rt, address, wait) {
+        if let Ok(stream) = TcpStream::connect_timeout(rt, address, min(left, within)) {
             let _ = stream.set_nodelay(true);
             return Ok(stream);
         }

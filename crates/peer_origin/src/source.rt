@@ -12,7 +12,6 @@ use crate::fault::{FetchFault, get_fault};
 use crate::origin::Origin;
 use crate::settings::FetchSettings;
 use crate::sockets::Sockets;
-use bytes::Bytes;
 use peer_host::Network;
 use peer_source::{GetFault, GetResult, GroupId, Source};
 use peer_stats::FailureSlots;
@@ -66,10 +65,10 @@ impl<'a, H> OriginSource<'a, H> {
 fn put(value: Vec<u8>, sink: &mut AllocSink) -> Result<(), GetFault>
     ensures { IfSome (reported result sink.new) IsOriginAnswer }
 {
-    let Ok(bytes) = Bytes::from_vec(value) else {
+    let Ok(view) = ByteView::from_vec(value) else {
         return Err(GetFault::Memory);
     };
-    match sink.set_view(&ByteView::from_shared(bytes)) {
+    match sink.set_view(&view) {
         Ok(()) => Ok(()),
         Err(SinkFault::TooLong) => Err(GetFault::TooLong),
         Err(SinkFault::Memory) => Err(GetFault::Memory),

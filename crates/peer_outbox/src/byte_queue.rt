@@ -6,12 +6,11 @@ ghost use Rattle.std.specs.Prelude.{◌≡◌, ◌==◌, ◌≤◌, [], ◌+◌,
 ghost use Rattle.peer_reply.specs.Texts.{joined};
 
 use crate::parts::part_at;
-use bytes::Bytes;
 use peer_view::{ByteView, cut_front};
 use std::alloc::{AllocError, Global};
 use std::marker::Model;
 
-/// How much memory is kept while no byte is there.
+// How much memory is kept while no byte is there.
 const KEPT: usize = 2048;
 
 /// A queue of bytes. Those that went lie before the others for a while.
@@ -145,8 +144,5 @@ fn view_of(alloc: Global, bytes: &[u8], parts: &[&[u8]]) -> Result<ByteView, All
     let mut all = Vec::new(alloc);
     all.extend_from_slice(bytes)?;
     append_parts(&mut all, parts)?;
-    match Bytes::from_vec(all) {
-        Ok(bytes) => Ok(ByteView::from_shared(bytes)),
-        Err(_) => Err(AllocError),
-    }
+    ByteView::from_vec(all)
 }

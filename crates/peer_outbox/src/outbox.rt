@@ -20,7 +20,7 @@ use std::marker::Model;
 /// Up to so many bytes are copied, to be sent with others. A longer value is lent from where it lies.
 pub const MAX_COPIED: usize = 8192;
 
-/// How many pieces have room that is kept while none is there.
+// How many pieces have room that is kept while none is there.
 const KEPT_PIECES: usize = 4;
 
 /// Pieces, and bytes behind them. The first piece goes when it was sent.

@@ -41,7 +41,7 @@ use std::thread::Threads;
 use std::time::Clock;
 use std::{env, io};
 
-/// How many bytes of keys and values the cache of each group keeps.
+// How many bytes of keys and values the cache of each group keeps.
 const CACHE_BYTES: u64 = 1_048_576;
 
 fn main(rt: HostRuntime) -> ExitCode {

@@ -4,7 +4,7 @@ use crate::mailbox::slot_of;
 use crate::mailboxes::Mailboxes;
 use peer_fill::Gate;
 use peer_source::GroupId;
-use peer_stats::{Counters, WorkerCounts, WorkerSlot};
+use peer_stats::{Counters, FillerCounts, FillerSlot};
 use std::sync::Wait;
 
 /// The gate of one thread that fills.
@@ -12,7 +12,7 @@ use std::sync::Wait;
 pub struct FillGate<'a> {
     mailboxes: &'a Mailboxes,
     // Where this thread publishes, and no other.
-    slot: &'a WorkerSlot,
+    slot: &'a FillerSlot,
 }
 
 impl<'a> FillGate<'a> {
@@ -20,7 +20,7 @@ impl<'a> FillGate<'a> {
     pub fn new(mailboxes: &'a Mailboxes, counters: &'a Counters, number: usize) -> FillGate<'a> {
         FillGate {
             mailboxes,
-            slot: counters.of_worker(number),
+            slot: counters.of_filler(number),
         }
     }
 }
@@ -35,6 +35,6 @@ impl<'a> Gate for FillGate<'a> {
     }
 
     fn after_count(&self, calls: u64, rehits: u64) {
-        self.slot.publish(WorkerCounts { calls, rehits });
+        self.slot.publish(FillerCounts { calls, rehits });
     }
 }

@@ -15,6 +15,7 @@
 //! The same two steps hold for room in the queue of jobs (`wants_room` in the place of the bit, the try to push a job in
 //! the place of the look, the taking of a job in the place of the fill). Streams and the end are told by a wake-up each
 //! time. A loop that fills jobs itself tells itself in the same way, awake. All orders are SeqCst.
+ghost use Rattle.std.specs.Prelude.{◌<◌};
 
 use crossbeam_queue::ArrayQueue;
 use mio::Poll;
@@ -40,6 +41,13 @@ pub const SLOTS: usize = 512;
 /// The slot of the flight with this number.
 pub fn slot_of(number: u64) -> usize {
     (number % SLOTS as u64) as usize
+}
+
+// The word of a slot.
+fn word_of(slot: usize) -> usize
+    ensures { result < 8 }
+{
+    slot / SLOTS_OF_WORD % WORDS
 }
 
 // The bit of a slot in its word.
@@ -93,7 +101,7 @@ impl Mailbox {
 
     /// The loop wants to be told of fills at the slot. It looks at the fill behind this.
     pub fn want(&self, slot: usize) {
-        self.wanted[slot / SLOTS_OF_WORD % WORDS].fetch_or(bit_of(slot), SeqCst);
+        self.wanted[word_of(slot)].fetch_or(bit_of(slot), SeqCst);
     }
 
     /// The loop wants to be told that the queue of jobs has room. It tries to push its job behind this.
@@ -110,7 +118,7 @@ impl Mailbox {
 
     /// A fill of the slot was set.
     pub fn tell(&self, slot: usize) {
-        let word = slot / SLOTS_OF_WORD % WORDS;
+        let word = word_of(slot);
         let bit = bit_of(slot);
         if self.wanted[word].fetch_and(!bit, SeqCst) & bit != 0 {
             self.told[word].fetch_or(bit, SeqCst);

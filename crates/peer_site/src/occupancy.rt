@@ -71,8 +71,8 @@ impl Occupancy {
         self.held.load(SeqCst) > self.most_held
     }
 
-    /// The thread that accepts wants to be woken once there is room. It looks behind this.
-    pub fn want_room(&self) {
+    /// The thread that accepts is about to wait for a place: it is woken once one is left. It looks behind this.
+    pub fn await_place(&self) {
         self.waker.fall_asleep();
     }
 }

@@ -58,7 +58,7 @@ impl<'a, H: Clock> Client<'a, H> {
     }
 
     /// Whether all seats of the server are taken.
-    pub fn is_crowded(&self) -> bool {
+    pub fn is_full(&self) -> bool {
         self.occupancy.is_full()
     }
 

@@ -39,8 +39,7 @@ impl<'a, H: Clock> Input<'a, H> {
         let limits = self.client.limits();
         match self.client.since(begun) {
             Some(time) => {
-                time >= limits.silence
-                    || self.client.is_crowded() && time >= limits.silence_when_full
+                time >= limits.silence || self.client.is_full() && time >= limits.silence_when_full
             }
             None => true,
         }
@@ -67,7 +66,7 @@ impl<'a, H: Clock> Input<'a, H> {
         let begun = self.client.now()?;
         let mut stream = self.client.stream();
         for _ in 0..u64::MAX {
-            if self.client.is_crowded() && self.is_slow() {
+            if self.client.is_full() && self.is_slow() {
                 return None;
             }
             match stream.read(room) {

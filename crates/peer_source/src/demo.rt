@@ -1,6 +1,6 @@
 //! The source for demonstrations: `echo`, `square` and `fill`.
-ghost use Rattle.std.specs.Prelude.{◌≡◌, ◌⊎◌, ◌<◌, ◌≤◌, ℕ, [], None, Some, Ok, Err, IfSome, IfOk, refl, replicate};
-ghost use Rattle.peer_source.specs.Answers.{Failed, found_within};
+ghost use Rattle.std.specs.Prelude.{◌≡◌, ◌<◌, ◌≤◌, ℕ, None, Some, Ok, Err, IfSome, IfOk, refl, replicate};
+ghost use Rattle.peer_source.specs.Answers.{found_within};
 ghost use Rattle.peer_source.specs.Demo.{DemoAnswers, demo_number, demo_answer, square_answer, fill_answer, number_in};
 ghost use Rattle.peer_source.specs.Demo.{demo_answered, demo_numbered};
 ghost use Rattle.peer_source.specs.DemoLaws.{demo_limited};
@@ -9,7 +9,6 @@ ghost use Rattle.peer_source.specs.Reports.{reported};
 use crate::functional::FunctionalSource;
 use crate::group::GroupId;
 use crate::source::{GetFault, GetResult, Source};
-use bytes::Bytes;
 use itoa::Buffer;
 use peer_view::{AllocSink, ByteView, MAX_VALUE, SinkFault};
 use std::alloc::{AllocError, Global};
@@ -41,16 +40,6 @@ fn number_of(text: &[u8], most: usize) -> Option<u64>
     Some(number)
 }
 
-// The source's own error with this text.
-fn error(alloc: Global, text: &[u8]) -> GetFault
-    ensures { (reported (Err result) [] ≡ Some (Failed text.now)) ⊎ (reported (Err result) [] ≡ None) }
-{
-    match text.to_vec(alloc) {
-        Ok(text) => GetFault::Text(text),
-        Err(_) => GetFault::Memory,
-    }
-}
-
 // What a sink's refusal is for a source.
 fn refusal(fault: SinkFault) -> GetFault
     ensures too_long { fault ≡ SinkFault.TooLong → result ≡ GetFault.TooLong }
@@ -79,7 +68,7 @@ fn square(alloc: Global, key: &[u8], sink: &mut AllocSink) -> Result<(), GetFaul
             Buffer::new().format(number * number).as_bytes(),
             sink,
         ),
-        None => Err(error(alloc, b"not a number")),
+        None => Err(GetFault::with_text(alloc, b"not a number")),
     }
 }
 
@@ -89,7 +78,7 @@ fn fill(alloc: Global, key: &[u8], sink: &mut AllocSink) -> Result<(), GetFault>
 {
     match number_of(key, 7) {
         Some(number) if number <= MAX_FILL => find_letters(alloc, number as usize, sink),
-        _ => Err(error(alloc, b"not a size")),
+        _ => Err(GetFault::with_text(alloc, b"not a size")),
     }
 }
 
@@ -112,7 +101,7 @@ fn letters(alloc: Global, count: usize) -> Result<ByteView, AllocError>
 {
     let mut bytes = Vec::new(alloc);
     bytes.resize(count, b'x')?;
-    Ok(ByteView::from_shared(Bytes::from_vec(bytes)?))
+    ByteView::from_vec(bytes)
 }
 
 impl Source for DemoSource {
@@ -146,7 +135,7 @@ impl Source for DemoSource {
             0 => find(alloc, key, sink),
             1 => square(alloc, key, sink),
             2 => fill(alloc, key, sink),
-            _ => Err(error(alloc, b"no group")),
+            _ => Err(GetFault::with_text(alloc, b"no group")),
         }
     }
 

@@ -15,10 +15,10 @@ use std::alloc::{AllocError, Global};
 use std::hash::RandomState;
 use std::num::NonZeroUsize;
 
-// The entries of a cache, the most recently used first.
+/// The entries of a cache, the most recently used first.
 pub(crate) type Entries = LruCache<ByteView, Kept, RandomState>;
 
-// No entries, and room for none yet. The seed is that of the map.
+/// No entries, and room for none yet. The seed is that of the map.
 pub(crate) fn no_entries(
     alloc: Global,
     most: NonZeroUsize,
@@ -31,14 +31,14 @@ pub(crate) fn no_entries(
     Ok(entries)
 }
 
-// What a look-up found: a value, and whether its entry is the first.
+/// What a look-up found: a value, and whether its entry is the first.
 #[derive(Clone, Copy)]
 pub(crate) struct Found<'a> {
     pub(crate) kept: &'a Kept,
     pub(crate) in_front: bool,
 }
 
-// The value of the entry with this key. That of the first entry is found without a hash.
+/// The value of the entry with this key. That of the first entry is found without a hash.
 pub(crate) fn look_up<'a>(entries: &'a Entries, key: &[u8]) -> Option<Found<'a>>
     ensures none { IfNone result (lookup (bytes_eq key.now) entries.now.entries ≡ None) }
     ensures value { IfSome result (λ found. Some found.kept.now ≡ lookup (bytes_eq key.now) entries.now.entries) }
@@ -59,7 +59,7 @@ pub(crate) fn look_up<'a>(entries: &'a Entries, key: &[u8]) -> Option<Found<'a>>
     })
 }
 
-// Brings the entry with this key to the front, where it is not there already.
+/// Brings the entry with this key to the front, where it is not there already.
 pub(crate) fn bring_to_front(entries: &mut Entries, key: &[u8], in_front: bool)
     requires { IsTrue in_front → IsFirst key.now entries.old.entries }
     ensures { entries.new ≡ lru_cache (promoted (bytes_eq key.now) entries.old.entries) entries.old.cap }
@@ -69,7 +69,7 @@ pub(crate) fn bring_to_front(entries: &mut Entries, key: &[u8], in_front: bool)
     }
 }
 
-// What an entry leaves of the limit, if it is not larger.
+/// What an entry leaves of the limit, if it is not larger.
 pub(crate) fn room_beside(limit: u64, key: &ByteView, value: &ByteView) -> Option<u64>
     ensures room { IfSome result (λ room. room + bytes_of (key.now, value.now) ≡ limit) }
     ensures larger { IfNone result (limit < bytes_of (key.now, value.now)) }
@@ -100,7 +100,7 @@ fn bytes_without(bytes: u64, entry: (ByteView, Kept), evicted: &mut Evicted) -> 
     rest
 }
 
-// Puts an entry before the others, and says how many bytes these take.
+/// Puts an entry before the others, and says how many bytes these take.
 pub(crate) fn put_in_front(
     entries: &mut Entries,
     bytes: u64,
@@ -125,7 +125,7 @@ pub(crate) fn put_in_front(
     }
 }
 
-// Removes entries from the end until those behind the first fit the room, and says how many bytes these take.
+/// Removes entries from the end until those behind the first fit the room, and says how many bytes these take.
 pub(crate) fn evict(entries: &mut Entries, mut others: u64, room: u64, evicted: &mut Evicted) -> u64
     requires others { others ≡ bytes_in (drop 1 entries.old.entries) }
     ensures entries { entries.new ≡ lru_cache (take 1 entries.old.entries ++ fitting room (drop 1 entries.old.entries)) entries.old.cap }
@@ -141,7 +141,7 @@ pub(crate) fn evict(entries: &mut Entries, mut others: u64, room: u64, evicted: 
     others
 }
 
-// Removes all entries.
+/// Removes all entries.
 pub(crate) fn remove_all(entries: &mut Entries, evicted: &mut Evicted)
     ensures { entries.new ≡ lru_cache [] entries.old.cap }
 {

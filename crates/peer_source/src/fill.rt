@@ -62,8 +62,8 @@ fn failure_of(text: Vec<u8>) -> Outcome
     ensures answer { (answer_of result ≡ Some (Failed text.items)) ⊎ (answer_of result ≡ None) }
     ensures within { IsWithinLimit (answer_of result) }
 {
-    match Bytes::from_vec(text) {
-        Ok(bytes) => Outcome::Failed(ByteView::from_shared(bytes)),
+    match ByteView::from_vec(text) {
+        Ok(text) => Outcome::Failed(text),
         Err(_) => Outcome::NoMemory,
     }
 }
@@ -135,7 +135,7 @@ impl<S: Source> Fill<S> {
         }
     }
 
-    // The fill of a value that the type of the source allows.
+    /// The fill of a value that the type of the source allows.
     pub(crate) fn of_value(group: GroupId, key: ByteView, value: ByteView) -> Fill<S>
         requires { IsAnswer S.allowed group.number (key, value) }
         ensures { result ≡ found_fill group.number key value }

@@ -17,6 +17,22 @@ pub enum GetFault {
     Memory,
 }
 
+impl GetFault {
+    ghost use Rattle.std.specs.Prelude.{Err};
+    ghost use Rattle.peer_source.specs.Answers.{Failed};
+    ghost use Rattle.peer_source.specs.Reports.{reported};
+
+    /// The source's own error with this text, or refused memory.
+    pub fn with_text(alloc: Global, text: &[u8]) -> GetFault
+        ensures { (value : List ℕ) → IfSome (reported (Err result) value) (λ a. a ≡ Failed text.now) }
+    {
+        match text.to_vec(alloc) {
+            Ok(text) => GetFault::Text(text),
+            Err(_) => GetFault::Memory,
+        }
+    }
+}
+
 /// What a `get` came to: the sink has the value, or there is none.
 pub type GetResult = Result<(), GetFault>;
 

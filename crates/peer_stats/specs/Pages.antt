@@ -1,7 +1,7 @@
 -- The page of numbers, in Prometheus' text format 0.0.4.
 use Rattle.std.specs.Prelude.{◌≡◌, ℕ, List, [], ◌++◌, codes, decimal}
 use Rattle.peer_stats.specs.declared.counts.LoopCounts.{LoopCounts}
-use Rattle.peer_stats.specs.declared.counts.WorkerCounts.{WorkerCounts}
+use Rattle.peer_stats.specs.declared.counts.FillerCounts.{FillerCounts}
 use Rattle.peer_stats.specs.declared.counts.AcceptCounts.{AcceptCounts}
 use Rattle.peer_stats.specs.declared.counts.FailureCounts.{FailureCounts}
 use Rattle.peer_stats.specs.declared.counts.Counts.{Counts}
@@ -36,9 +36,9 @@ loops_text c =
     ++ counter_text (codes "joined_total") c.joined (codes "Asks that joined a flight under way.")
     ++ counter_text (codes "strangers_total") c.strangers (codes "Fills of another key than was asked for.")
 
--- what workers have counted
-abbrev pub workers_text : WorkerCounts → List ℕ
-workers_text c =
+-- what fillers have counted
+abbrev pub fillers_text : FillerCounts → List ℕ
+fillers_text c =
     counter_text (codes "calls_total") c.calls (codes "Flights for which a source was called.")
     ++ counter_text (codes "rehits_total") c.rehits (codes "Flights whose value a cache had by then.")
 
@@ -72,5 +72,5 @@ process_text cached seconds =
 -- the whole page
 abbrev pub page_text : Counts → ℕ → List ℕ
 page_text c seconds =
-    loops_text c.loops ++ workers_text c.workers ++ connections_text c.loops.connections c.accepts
+    loops_text c.loops ++ fillers_text c.fillers ++ connections_text c.loops.connections c.accepts
     ++ failures_text c.failures ++ process_text c.cache_bytes seconds

@@ -1,7 +1,7 @@
 -- Sums of counts, modulo 2^64.
 use Rattle.std.specs.Prelude.{◌≡◌, ℕ, ◌+◌, ◌^◌, ◌%◌}
 use Rattle.peer_stats.specs.declared.counts.LoopCounts.{LoopCounts}
-use Rattle.peer_stats.specs.declared.counts.WorkerCounts.{WorkerCounts}
+use Rattle.peer_stats.specs.declared.counts.FillerCounts.{FillerCounts}
 
 -- two counts together
 abbrev pub sum_of : ℕ → ℕ → ℕ
@@ -18,6 +18,6 @@ loop_sum a b = record {
   connections = sum_of a.connections b.connections;
 }
 
--- what two workers have counted together
-abbrev pub worker_sum : WorkerCounts → WorkerCounts → WorkerCounts
-worker_sum a b = record { calls = sum_of a.calls b.calls; rehits = sum_of a.rehits b.rehits }
+-- what two fillers have counted together
+abbrev pub filler_sum : FillerCounts → FillerCounts → FillerCounts
+filler_sum a b = record { calls = sum_of a.calls b.calls; rehits = sum_of a.rehits b.rehits }

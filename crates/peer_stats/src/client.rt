@@ -10,9 +10,9 @@ use std::io;
 use std::io::ErrorKind;
 use std::time::Duration;
 
-// How often a client is read from and written to in one turn: more than a head of the longest length has bytes. One that
-// is not done by then is let go.
-const MAX_ROUNDS: u32 = 100_000;
+// How often a client is read from or written to in one turn: a head of the longest length and the page take some ten times. One
+// that is not done by then is let go.
+const MAX_ROUNDS: u32 = 256;
 
 // How long a client may take for its request and its reply, so that with a tick of a second none is there for more than 5 s.
 const MAX_AGE_SECONDS: u64 = 4;
@@ -30,14 +30,14 @@ pub struct StatsClient {
 
 impl StatsClient {
     /// A client that came at this time since the start.
-    pub fn new(alloc: Global, keys: RandomState, stream: TcpStream, now: Duration) -> StatsClient {
+    pub fn new(alloc: Global, seed: RandomState, stream: TcpStream, now: Duration) -> StatsClient {
         let config = Config {
             max_body_len: MAX_CONTENT,
             ..Config::default()
         };
         StatsClient {
             stream,
-            connection: Connection::new(alloc, keys, config),
+            connection: Connection::new(alloc, seed, config),
             came: now,
         }
     }

@@ -1,20 +1,20 @@
 //! What all threads of a server share to count.
 
-use crate::counts::{Counts, LoopCounts, WorkerCounts};
-use crate::slots::{AcceptSlot, FailureSlots, LoopSlot, WorkerSlot};
+use crate::counts::{Counts, FillerCounts, LoopCounts};
+use crate::slots::{AcceptSlot, FailureSlots, FillerSlot, LoopSlot};
 use crossbeam_utils::CachePadded;
 use std::sync::atomic::AtomicU64;
 use std::sync::atomic::Ordering::SeqCst;
 
-/// How many slots there are of each kind: the most seats of a kind that a pool has.
-pub const MAX_SLOTS: usize = 16;
+// How many slots there are of each kind: the most seats of a kind that a pool has.
+const MAX_SLOTS: usize = 16;
 
 /// The slots of a server. No two threads write the same line of memory, but where origins fail and where the bytes of the
 /// caches are published.
 #[derive(Drop)]
 pub struct Counters {
     loops: [CachePadded<LoopSlot>; MAX_SLOTS],
-    workers: [CachePadded<WorkerSlot>; MAX_SLOTS],
+    fillers: [CachePadded<FillerSlot>; MAX_SLOTS],
     accepts: CachePadded<AcceptSlot>,
     failures: CachePadded<FailureSlots>,
     cache_bytes: CachePadded<AtomicU64>,
@@ -25,7 +25,7 @@ impl Counters {
     pub fn new() -> Counters {
         Counters {
             loops: Default::default(),
-            workers: Default::default(),
+            fillers: Default::default(),
             accepts: Default::default(),
             failures: Default::default(),
             cache_bytes: Default::default(),
@@ -37,9 +37,9 @@ impl Counters {
         &self.loops[number % MAX_SLOTS]
     }
 
-    /// The slot of the worker with this number. Numbers from 16 on have that of the number modulo 16.
-    pub fn of_worker(&self, number: usize) -> &WorkerSlot {
-        &self.workers[number % MAX_SLOTS]
+    /// The slot of the filler with this number. Numbers from 16 on have that of the number modulo 16.
+    pub fn of_filler(&self, number: usize) -> &FillerSlot {
+        &self.fillers[number % MAX_SLOTS]
     }
 
     /// The slot of the thread that accepts.
@@ -66,10 +66,10 @@ impl Counters {
         sum
     }
 
-    // What all workers have published.
-    fn read_workers(&self) -> WorkerCounts {
-        let mut sum = WorkerCounts::NONE;
-        for slot in &self.workers {
+    // What all fillers have published.
+    fn read_fillers(&self) -> FillerCounts {
+        let mut sum = FillerCounts::NONE;
+        for slot in &self.fillers {
             sum = sum.plus(slot.read());
         }
         sum
@@ -79,7 +79,7 @@ impl Counters {
     pub fn read(&self) -> Counts {
         Counts {
             loops: self.read_loops(),
-            workers: self.read_workers(),
+            fillers: self.read_fillers(),
             accepts: self.accepts.read(),
             failures: self.failures.read(),
             cache_bytes: self.cache_bytes.load(SeqCst),

@@ -1,6 +1,6 @@
 //! Numbers that were counted, as a reader sees them.
 ghost use Rattle.std.specs.Prelude.{◌≡◌};
-ghost use Rattle.peer_stats.specs.Sums.{loop_sum, worker_sum};
+ghost use Rattle.peer_stats.specs.Sums.{filler_sum, loop_sum};
 
 /// What one loop has counted, or all of them. Each but the last is what a getter of its seat gives.
 #[derive(Clone, Copy, Debug, PartialEq, Eq)]
@@ -14,9 +14,9 @@ pub struct LoopCounts {
     pub connections: u64,
 }
 
-/// What one worker has counted, or all of them.
+/// What one thread that fills has counted, or all of them.
 #[derive(Clone, Copy, Debug, PartialEq, Eq)]
-pub struct WorkerCounts {
+pub struct FillerCounts {
     pub calls: u64,
     pub rehits: u64,
 }
@@ -46,7 +46,7 @@ pub struct FailureCounts {
 #[derive(Clone, Copy, Debug, PartialEq, Eq)]
 pub struct Counts {
     pub loops: LoopCounts,
-    pub workers: WorkerCounts,
+    pub fillers: FillerCounts,
     pub accepts: AcceptCounts,
     pub failures: FailureCounts,
     /// The bytes of keys and values in all caches.
@@ -79,18 +79,18 @@ impl LoopCounts {
     }
 }
 
-impl WorkerCounts {
+impl FillerCounts {
     /// Nothing was counted.
-    pub const NONE: WorkerCounts = WorkerCounts {
+    pub const NONE: FillerCounts = FillerCounts {
         calls: 0,
         rehits: 0,
     };
 
-    /// What two workers have counted together.
-    pub fn plus(self, other: WorkerCounts) -> WorkerCounts
-        ensures { result ≡ worker_sum self other }
+    /// What two fillers have counted together.
+    pub fn plus(self, other: FillerCounts) -> FillerCounts
+        ensures { result ≡ filler_sum self other }
     {
-        WorkerCounts {
+        FillerCounts {
             calls: self.calls.wrapping_add(other.calls),
             rehits: self.rehits.wrapping_add(other.rehits),
         }

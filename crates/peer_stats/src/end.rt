@@ -4,8 +4,8 @@ use mio::{Poll, Token, Waker};
 use std::sync::atomic::AtomicBool;
 use std::sync::atomic::Ordering::SeqCst;
 
-/// The token under which the server is woken.
-pub const ENDED: Token = Token(usize::MAX);
+// The token under which the server is woken.
+const ENDED: Token = Token(usize::MAX);
 
 /// Ends a server of the page. Threads share it.
 #[derive(Drop)]
@@ -15,7 +15,7 @@ pub struct StatsEnd {
 }
 
 impl StatsEnd {
-    // The end of the server that has this poll. None where the system refuses it.
+    /// The end of the server that has this poll. None where the system refuses it.
     pub(crate) fn new(poll: &Poll) -> Option<StatsEnd> {
         Some(StatsEnd {
             ended: AtomicBool::new(false),
@@ -29,7 +29,7 @@ impl StatsEnd {
         let _ = self.waker.wake();
     }
 
-    // Whether it is to end.
+    /// Whether it is to end.
     pub(crate) fn is_set(&self) -> bool {
         self.ended.load(SeqCst)
     }

@@ -16,10 +16,10 @@ mod server;
 mod service;
 mod slots;
 
-pub use counters::{Counters, MAX_SLOTS};
-pub use counts::{AcceptCounts, Counts, FailureCounts, LoopCounts, WorkerCounts};
+pub use counters::Counters;
+pub use counts::{AcceptCounts, Counts, FailureCounts, FillerCounts, LoopCounts};
 pub use end::StatsEnd;
 pub use failure::OriginFailure;
 pub use page::metrics_page;
 pub use server::{StatsServer, open_stats};
-pub use slots::{AcceptSlot, FailureSlots, LoopSlot, WorkerSlot};
+pub use slots::{AcceptSlot, FailureSlots, FillerSlot, LoopSlot};

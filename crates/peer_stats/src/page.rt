@@ -1,9 +1,9 @@
 //! The page that Prometheus reads, in its text format 0.0.4.
 ghost use Rattle.std.specs.Prelude.{◌≡◌, ◌++◌, codes, decimal, IfOk, OnOk};
 ghost use Rattle.peer_stats.specs.Pages.{counter_text, family_text, gauge_text, kind_text, number_text, sample_text};
-ghost use Rattle.peer_stats.specs.Pages.{connections_text, failures_text, loops_text, page_text, process_text, workers_text};
+ghost use Rattle.peer_stats.specs.Pages.{connections_text, failures_text, fillers_text, loops_text, page_text, process_text};
 
-use crate::counts::{AcceptCounts, Counts, FailureCounts, LoopCounts, WorkerCounts};
+use crate::counts::{AcceptCounts, Counts, FailureCounts, FillerCounts, LoopCounts};
 use itoa::Buffer;
 use std::alloc::{AllocError, Global};
 
@@ -100,9 +100,9 @@ fn put_loops(page: &mut Vec<u8>, counts: &LoopCounts) -> Result<(), AllocError>
     Ok(())
 }
 
-// Appends what workers have counted.
-fn put_workers(page: &mut Vec<u8>, counts: &WorkerCounts) -> Result<(), AllocError>
-    ensures { OnOk result (page.new.items ≡ page.old.items ++ workers_text counts.now) }
+// Appends what fillers have counted.
+fn put_fillers(page: &mut Vec<u8>, counts: &FillerCounts) -> Result<(), AllocError>
+    ensures { OnOk result (page.new.items ≡ page.old.items ++ fillers_text counts.now) }
 {
     put_counter(
         page,
@@ -202,7 +202,7 @@ pub fn metrics_page(alloc: Global, counts: &Counts, seconds: u64) -> Result<Vec<
 {
     let mut page = Vec::new(alloc);
     put_loops(&mut page, &counts.loops)?;
-    put_workers(&mut page, &counts.workers)?;
+    put_fillers(&mut page, &counts.fillers)?;
     put_connections(&mut page, counts.loops.connections, &counts.accepts)?;
     put_failures(&mut page, &counts.failures)?;
     put_process(&mut page, counts.cache_bytes, seconds)?;

@@ -30,7 +30,7 @@ const TICK_SECONDS: u64 = 1;
 // The pause behind a wait for events that failed.
 const PAUSE_MILLIS: u64 = 100;
 
-/// What a server of the page waits by.
+// What a server of the page waits by.
 #[derive(Drop)]
 struct Waits {
     poll: Poll,
@@ -43,7 +43,7 @@ pub struct StatsServer {
     alloc: Global,
     listener: TcpListener,
     waits: Waits,
-    keys: RandomState,
+    seed: RandomState,
 }
 
 // The server while it runs.
@@ -51,10 +51,10 @@ pub struct StatsServer {
 struct Running<'a> {
     alloc: Global,
     listener: TcpListener,
-    keys: RandomState,
+    seed: RandomState,
     clients: Slab<StatsClient>,
     service: StatsService<'a>,
-    // An accept failed, and is to be tried again.
+    // An accept failed, or a client was refused: more may wait, of which no event tells.
     failed: bool,
 }
 
@@ -63,7 +63,7 @@ pub fn open_stats<H: Net>(
     rt: &H,
     alloc: Global,
     listener: net::TcpListener,
-    keys: RandomState,
+    seed: RandomState,
 ) -> Option<(StatsServer, StatsEnd)> {
     let poll = Poll::new(rt).ok()?;
     let events = Events::with_capacity(alloc, MAX_EVENTS).ok()?;
@@ -77,7 +77,7 @@ pub fn open_stats<H: Net>(
         alloc,
         listener,
         waits: Waits { poll, events },
-        keys,
+        seed,
     };
     Some((server, end))
 }
@@ -86,14 +86,16 @@ impl<'a> Running<'a> {
     // Adds a client, unless memory or the system refuses that.
     fn add(&mut self, poll: &Poll, stream: TcpStream) {
         if self.clients.reserve(1).is_err() {
+            self.failed = true;
             drop(stream);
             return;
         }
         let token = Token(self.clients.vacant_key());
-        let mut client = StatsClient::new(self.alloc, self.keys, stream, self.service.uptime);
+        let mut client = StatsClient::new(self.alloc, self.seed, stream, self.service.uptime);
         if client.register(poll.registry(), token).is_ok() {
             drop(self.clients.insert(client));
         } else {
+            self.failed = true;
             drop(client);
         }
     }
@@ -175,12 +177,12 @@ impl StatsServer {
             alloc,
             listener,
             mut waits,
-            keys,
+            seed,
         } = self;
         let mut running = Running {
             alloc,
             listener,
-            keys,
+            seed,
             clients: Slab::new(alloc),
             service: StatsService {
                 alloc,

@@ -1,10 +1,10 @@
 //! Where threads publish what they have counted.
 //!
-//! The slot of a loop or of a worker has one writer: the thread that it was dealt to. So a publish is a store of each number
-//! that changed. What several threads count, accepts and failures of origins, is added in one step. What a loop asks is told
-//! last, and read first: a reader never sees more asked than hit, led and joined together.
+//! The slot of a loop, or of a thread that fills, has one writer: the thread that it was dealt to. So a publish is a store of
+//! each number that changed. Failures of origins, which several threads count, are added in one step, and so are accepts. What
+//! a loop asks is told last, and read first: a reader never sees more asked than hit, led and joined together.
 
-use crate::counts::{AcceptCounts, FailureCounts, LoopCounts, WorkerCounts};
+use crate::counts::{AcceptCounts, FailureCounts, FillerCounts, LoopCounts};
 use crate::failure::OriginFailure;
 use std::sync::atomic::AtomicU64;
 use std::sync::atomic::Ordering::SeqCst;
@@ -52,23 +52,23 @@ impl LoopSlot {
     }
 }
 
-/// Where one worker publishes.
+/// Where one thread that fills publishes.
 #[derive(Default, Drop)]
-pub struct WorkerSlot {
+pub struct FillerSlot {
     calls: AtomicU64,
     rehits: AtomicU64,
 }
 
-impl WorkerSlot {
-    /// The worker has counted so much by now.
-    pub fn publish(&self, counts: WorkerCounts) {
+impl FillerSlot {
+    /// The thread has counted so much by now.
+    pub fn publish(&self, counts: FillerCounts) {
         publish(&self.calls, counts.calls);
         publish(&self.rehits, counts.rehits);
     }
 
-    /// What the worker published.
-    pub fn read(&self) -> WorkerCounts {
-        WorkerCounts {
+    /// What the thread published.
+    pub fn read(&self) -> FillerCounts {
+        FillerCounts {
             calls: self.calls.load(SeqCst),
             rehits: self.rehits.load(SeqCst),
         }

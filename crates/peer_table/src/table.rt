@@ -1,6 +1,6 @@
 //! The source whose answers are the lines of a text.
-ghost use Rattle.std.specs.Prelude.{◌≡◌, ℕ, ◌+◌, ◌-◌, ◌^◌, ◌<◌, ◌≤◌, List, [], ◌∷◌, ◌++◌, length, Some, None, Ok, Err};
-ghost use Rattle.std.specs.Prelude.{◌⊎◌, refl, IfOk, IfErr, IfSome, IsErr, All};
+ghost use Rattle.std.specs.Prelude.{◌≡◌, ℕ, ◌+◌, ◌-◌, ◌^◌, ◌<◌, ◌≤◌, List, ◌∷◌, ◌++◌, length, Some, None, Ok, Err};
+ghost use Rattle.std.specs.Prelude.{refl, IfOk, IfErr, IfSome, IsErr, All};
 ghost use Rattle.peer_table.specs.Holds.{Holds};
 ghost use Rattle.peer_table.specs.Reads.{IsFirstBad, ReadsAs};
 ghost use Rattle.peer_view.specs.ReadWrite.{reading};
@@ -9,11 +9,10 @@ ghost use Rattle.peer_table.specs.Tables.{number_below, number_in, table_allowed
 ghost use Rattle.peer_source.specs.Answers.{Failed};
 ghost use Rattle.peer_source.specs.Reports.{reported};
 
-use crate::fault::TableFault;
+use crate::fault::{TableFault, memory_fault};
 use crate::fields::next_of;
 use crate::index::{Index, add_line, find};
 use crate::intake::read_all;
-use bytes::Bytes;
 use peer_source::{GetFault, GetResult, GroupId, Source};
 use peer_view::{AllocSink, ByteView, PeerRead, SinkFault};
 use std::alloc::{AllocError, Global};
@@ -71,10 +70,7 @@ impl TableSource {
         ensures { ReadsAs (reading R.PeerRead reader.old reader.new) reads result }
     {
         let bytes = read_all(alloc, reader, reads)?;
-        let text = match Bytes::from_vec(bytes) {
-            Ok(bytes) => ByteView::from_shared(bytes),
-            Err(_) => return Err(TableFault::Memory),
-        };
+        let text = ByteView::from_vec(bytes).map_err(memory_fault)?;
         let index = index_of(alloc, &text)?;
         Ok(TableSource { text, index })
     }
@@ -93,12 +89,9 @@ impl TableSource {
 
 // The error of a key that no line has.
 fn missing_key_fault(alloc: Global) -> GetFault
-    ensures { (reported (Err result) [] ≡ Some (Failed no_such_key)) ⊎ (reported (Err result) [] ≡ None) }
+    ensures { (value : List ℕ) → IfSome (reported (Err result) value) (λ a. a ≡ Failed no_such_key) }
 {
-    match b"no such key".to_vec(alloc) {
-        Ok(text) => GetFault::Text(text),
-        Err(_) => GetFault::Memory,
-    }
+    GetFault::with_text(alloc, b"no such key")
 }
 
 // Puts what was found into the sink.

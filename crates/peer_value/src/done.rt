@@ -10,7 +10,6 @@ ghost use Rattle.peer_value.specs.Fetchings.{request_at};
 ghost use Rattle.peer_value.specs.Values.{AnswersBy, IsValueOf};
 
 use crate::fetching::Fetching;
-use bytes::Bytes;
 use peer_fill::TakenJob;
 use peer_origin::{Endpoint, FetchFault, get_fault};
 use peer_source::{GetFault, Outcome, Source, too_long_text};
@@ -33,8 +32,8 @@ pub struct Done<'a, S: Source> {
 fn failed(text: Vec<u8>) -> Outcome
     ensures { AnswersBy (Failed text.items) (answer_of result) }
 {
-    match Bytes::from_vec(text) {
-        Ok(bytes) => Outcome::Failed(ByteView::from_shared(bytes)),
+    match ByteView::from_vec(text) {
+        Ok(text) => Outcome::Failed(text),
         Err(_) => Outcome::NoMemory,
     }
 }
@@ -43,8 +42,8 @@ fn failed(text: Vec<u8>) -> Outcome
 fn found(value: Vec<u8>) -> Outcome
     ensures { AnswersBy (Found value.items) (answer_of result) }
 {
-    match Bytes::from_vec(value) {
-        Ok(bytes) => Outcome::Found(ByteView::from_shared(bytes)),
+    match ByteView::from_vec(value) {
+        Ok(value) => Outcome::Found(value),
         Err(_) => Outcome::NoMemory,
     }
 }

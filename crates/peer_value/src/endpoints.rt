@@ -1,6 +1,6 @@
 //! Which groups are fetched for, and where.
 ghost use Rattle.std.specs.Prelude.{◌≡◌, ◌↔◌, ◌+◌, ◌≤◌, IfNone, IfSome, IsTrue, Some, length, slice_get};
-ghost use Rattle.peer_value.specs.Endpoints.{HasEndpoint};
+ghost use Rattle.peer_value.specs.Endpoints.{HasEndpoint, IsOfGroup};
 
 use peer_origin::Endpoint;
 use peer_source::GroupId;
@@ -16,12 +16,21 @@ pub struct Endpoints<'a> {
     pub groups: usize,
 }
 
-/// The endpoint of a group, and its number among the endpoints.
+/// The endpoint of a group, and its number among the endpoints: what `Endpoints::of` finds.
 #[derive(Clone, Copy)]
 pub struct Numbered<'a> {
-    pub number: usize,
-    pub endpoint: &'a Endpoint,
-    pub group: GroupId,
+    pub(crate) number: usize,
+    pub(crate) endpoint: &'a Endpoint,
+    pub(crate) group: GroupId,
+}
+
+impl<'a> Numbered<'a> {
+    /// The endpoint's number.
+    pub fn number(&self) -> usize
+        ensures { result ≡ self.now.number }
+    {
+        self.number
+    }
 }
 
 impl<'a> Endpoints<'a> {
@@ -36,7 +45,7 @@ impl<'a> Endpoints<'a> {
     pub fn of(&self, group: GroupId) -> Option<Numbered<'a>>
         ensures number { IfSome result (λ numbered. self.now.first + numbered.number ≡ group.number) }
         ensures endpoint { IfSome result (λ numbered. slice_get self.now.each.now numbered.number ≡ Some numbered.endpoint.now) }
-        ensures own { IfSome result (λ numbered. numbered.group ≡ group) }
+        ensures own { IfSome result (λ numbered. IsOfGroup numbered group.number) }
         ensures none { IfNone result (¬ (HasEndpoint self.now.first self.now.each.now group.number)) }
         ensures has { IfSome result (λ numbered. HasEndpoint self.now.first self.now.each.now group.number) }
     {

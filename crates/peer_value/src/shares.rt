@@ -3,7 +3,8 @@
 //! It stands on vectors. It promises when there is room: a service that is not alone may have as many of its values under way as
 //! are free besides, so that one whose values all hang leaves half of the room to the others, and a second one a quarter. A
 //! service is alone where it has all groups of the source: a thread that has no room takes no job of another group either.
-ghost use Rattle.std.specs.Prelude.{All, ◌≡◌, ◌≢◌, ◌↔◌, ◌+◌, ◌-◌, ◌^◌, ◌<◌, ◌≤◌, ℕ, IfOk, IfSome, IsTrue, Some, length, replicate, slice_get, unwrap_or};
+ghost use Rattle.std.specs.Prelude.{All, ◌≡◌, ◌≢◌, ◌↔◌, ◌+◌, ◌-◌, ◌^◌, ◌<◌, ◌≤◌, ℕ};
+ghost use Rattle.std.specs.Prelude.{IfOk, IfSome, IsTrue, Some, length, replicate, slice_get, unwrap_or};
 ghost use Rattle.peer_value.specs.Shares.{AreServices, HasRoom, IsAlone, IsFirstThere, IsOfSame};
 
 use crate::endpoints::Endpoints;

@@ -3,6 +3,7 @@ ghost use Rattle.std.specs.Prelude.{◌≡◌, ◌≢◌, ◌+◌, ◌≤◌, �
 ghost use Rattle.std.specs.Prelude.{Err, IfErr, IfOk, IfSome, IsErr, IsTrue};
 ghost use Rattle.peer_origin.specs.declared.exchange.Failure.TheVariants as fail;
 ghost use Rattle.peer_origin.specs.declared.fault.FetchFault.TheVariants as fault;
+ghost use Rattle.peer_value.specs.Endpoints.{IsOfGroup};
 ghost use Rattle.peer_value.specs.Fetchings.{request_at, use_by};
 ghost use Rattle.peer_value.specs.Values.{uses_of, IsFree, IsRefusedFor, IsSameTry, IsSecondTry, IsValueOf};
 
@@ -22,7 +23,7 @@ pub struct UnderWay<'a, S: Source> {
     job: TakenJob<S>,
     fetching: Fetching,
     due: Duration,
-    ghost own: { at.group.number ≡ job.place.group },
+    ghost own: { IsOfGroup at job.place.group },
     ghost asks: { fetching.request.items ≡ request_at at.endpoint.now job.place.key },
 }
 
@@ -36,7 +37,7 @@ impl<'a, S: Source> UnderWay<'a, S> {
         job: TakenJob<S>,
         due: Duration,
     ) -> Result<UnderWay<'a, S>, Done<'a, S>>
-        requires { at.group.number ≡ job.place.group }
+        requires { IsOfGroup at job.place.group }
         ensures kept { IfOk result (λ u. (u.at ≡ at.entry) × (u.job ≡ job) × (u.due ≡ due)) }
         ensures unused { IfOk result (λ u. uses_of u.fetching ≡ use_by u.fetching.request.items 0 [] false ∷ []) }
         ensures given_back { IfErr result (λ d. (d.endpoint ≡ at.entry.endpoint) × (d.job ≡ job) × IsErr d.got) }

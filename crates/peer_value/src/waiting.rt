@@ -1,7 +1,8 @@
 //! The values that wait until another one of their service may be under way.
 //!
 //! It stands on the value of each (`UnderWay`). It promises that those of a service come out in the order in which they came in.
-ghost use Rattle.std.specs.Prelude.{◌≡◌, ◌≢◌, ◌≤◌, ◌-◌, ◌^◌, ℕ, [], ◌∷◌, ◌++◌, min, IfErr, IfNone, IfSome, MatchOption, OnOk, option_map, slice_get};
+ghost use Rattle.std.specs.Prelude.{◌≡◌, ◌≢◌, ◌≤◌, ◌-◌, ◌^◌, ℕ, [], ◌∷◌, ◌++◌, min};
+ghost use Rattle.std.specs.Prelude.{IfErr, IfNone, IfSome, MatchOption, OnOk, option_map, slice_get};
 ghost use Rattle.peer_value.specs.UnderWays.{due_of};
 ghost use Rattle.peer_value.specs.Waitings.{IsRefused, count_of, line_of};
 

@@ -1,7 +1,7 @@
 //! Copying what fits into the front of a room, and forgetting the front of bytes.
 ghost use Rattle.std.specs.Prelude.{◌≡◌, ◌≤◌, ◌++◌, length, take, drop, min};
 
-// Copies what fits into the front of the room, and says how many bytes. The rest of the room stays.
+/// Copies what fits into the front of the room, and says how many bytes. The rest of the room stays.
 pub(crate) fn copy_front(room: &mut [u8], from: &[u8]) -> usize
     ensures count { result ≡ min (length room.old) (length from.now) }
     ensures copied { take result room.new ≡ take result from.now }

@@ -35,7 +35,7 @@ impl Model for MemReader {
     } };
 }
 
-/// How far a list of pieces was given: the index of a piece, and how much of it was given.
+// How far a list of pieces was given: the index of a piece, and how much of it was given.
 #[derive(Clone, Copy)]
 struct Cursor {
     index: usize,

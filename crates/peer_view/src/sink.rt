@@ -57,7 +57,7 @@ pub trait Sink {
         ensures same { (room self.new ≡ room self.old) × (loan self.new ≡ loan self.old) };
 }
 
-// A view of a copy of the bytes, for a sink to hold.
+/// A view of a copy of the bytes, for a sink to hold.
 pub(crate) fn copy_for_sink(alloc: Global, bytes: &[u8]) -> Result<ByteView, SinkFault>
     ensures ok { IfOk result (λ v. v ≡ bytes.now) }
     ensures fits { OnOk result (length bytes.now ≤ MAX_VALUE) }
@@ -69,7 +69,7 @@ pub(crate) fn copy_for_sink(alloc: Global, bytes: &[u8]) -> Result<ByteView, Sin
     ByteView::copy_of(alloc, bytes).map_err(memory_fault)
 }
 
-// A second view of the bytes, for a sink to hold.
+/// A second view of the bytes, for a sink to hold.
 pub(crate) fn share_for_sink(view: &ByteView) -> Result<ByteView, SinkFault>
     ensures ok { IfOk result (λ v. v ≡ view.now) }
     ensures fits { OnOk result (length view.now ≤ MAX_VALUE) }

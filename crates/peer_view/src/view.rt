@@ -58,6 +58,14 @@ impl ByteView {
         ByteView { bytes }
     }
 
+    /// A view of these bytes, which it takes over.
+    pub fn from_vec(bytes: Vec<u8>) -> Result<ByteView, AllocError>
+        ensures { IfOk result (λ v. v ≡ bytes.items) }
+    {
+        let bytes = Bytes::from_vec(bytes)?;
+        Ok(ByteView { bytes })
+    }
+
     /// A second view of the same bytes.
     pub fn share(&self) -> Result<ByteView, AllocError>
         ensures { IfOk result (λ v. v ≡ self.now) }

@@ -3,7 +3,7 @@
 use std::hint::spin_loop;
 use std::sync::{Mutex, MutexGuard, Wait};
 
-/// Looks before a sleep, some 3 microseconds: about as long as a few others hold the lock.
+// Looks before a sleep, some 3 microseconds: about as long as a few others hold the lock.
 const LOOKS: u32 = 64;
 
 /// Takes the lock. It looks 64 times before it sleeps, also where others sleep already: a lock on which one thread sleeps

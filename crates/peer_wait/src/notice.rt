@@ -45,7 +45,7 @@ impl Notice {
         self.told_one.store(false, SeqCst);
     }
 
-    // Announces a sleep. What changes from now on is told; what changed before is found by the look behind it.
+    /// Announces a sleep. What changes from now on is told; what changed before is found by the look behind it.
     pub(crate) fn announce(&self) -> Key<'_> {
         let key = self.changed.prepare_wait();
         self.told_one.store(false, SeqCst);

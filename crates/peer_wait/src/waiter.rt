@@ -7,8 +7,8 @@ use std::hint::spin_loop;
 use std::marker::Model;
 use std::sync::Wait;
 
-/// Looks without a sleep. They last about as long as another processor needs for a small step, and less than a sleep
-/// and a wake-up. None of them yields: beside other work a yield can give the processor away for milliseconds.
+// Looks without a sleep. They last about as long as another processor needs for a small step, and less than a sleep
+// and a wake-up. None of them yields: beside other work a yield can give the processor away for milliseconds.
 const LOOKS: u32 = 16;
 
 /// What a thread keeps between two looks at something that others change, as in

@@ -11,7 +11,6 @@ use crate::talks::{Script, Talk};
 use crate::window;
 use peer_exchange::{End, Exchange, GivenUp};
 use peer_source::DemoSource;
-use std::alloc::Global;
 use std::cmp::min;
 use std::sync::Wait;
 use std::sync::ledger::Ledger;

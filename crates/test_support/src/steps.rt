@@ -4,8 +4,8 @@ use std::sync::atomic::AtomicBool;
 use std::sync::atomic::Ordering::SeqCst;
 use std::thread::yield_now;
 
-// Some seconds, so that a test that waits in vain ends.
-const LOOKS: u32 = 10_000_000;
+// A minute or two, so that a test that waits in vain ends.
+const LOOKS: u32 = 100_000_000;
 
 /// What one thread tells and another waits for.
 #[derive(Drop)]

@@ -193,8 +193,8 @@ pub fn prepare<H: Network>(rt: &H, alloc: Global, groups: Groups<'_>) -> Option<
     Some(Prepared { listener, origins })
 }
 
-// What a thread fetches by, from these endpoints.
-fn plan_of<'a>(
+/// What a thread fetches by, from these endpoints.
+pub fn plan_of<'a>(
     endpoints: &'a [Endpoint],
     settings: FetchThreadSettings,
     failures: &'a FailureSlots,

@@ -3,7 +3,7 @@ ghost use Rattle.peer_fetch.specs.Threads.{Allows};
 
 use super::lookup::LOOPBACK;
 use super::origin::{Told, serve};
-use super::running::{Prepared, patient, prepare};
+use super::running::{Prepared, patient, plan_of, prepare};
 use peer_fetch::FetchPlan;
 use peer_fill::Report;
 use peer_host::{Host, Network};
@@ -12,7 +12,6 @@ use peer_loop::{Fillers, Settings, Stop, serve_fetching};
 use peer_origin::OriginSource;
 use peer_source::Source;
 use peer_stats::Counters;
-use peer_value::Endpoints;
 use std::alloc::Global;
 use std::hash::RandomState;
 use std::io::{Read, Write};
@@ -151,15 +150,7 @@ fn serve_prepared<
     let source = OriginSource::new(rt, outside.counters.failures(), origins, patient().fetch);
     let endpoints = source.endpoints(rt.alloc()).ok()?;
     let fetched = Counters::new();
-    let plan = FetchPlan {
-        endpoints: Endpoints {
-            first: 0,
-            each: endpoints.as_slice(),
-            groups: endpoints.len(),
-        },
-        settings: patient(),
-        failures: fetched.failures(),
-    };
+    let plan = plan_of(endpoints.as_slice(), patient(), fetched.failures());
     let settings = Settings {
         fillers: Fillers::Threads(1),
         loops: 1,

@@ -3,12 +3,12 @@
 use super::clients::{connect, receive, send};
 use super::plans::{Kind, plan_of};
 use super::servers::{beside, beside_both, has_asked};
+use super::slow::Call;
 use std::alloc::Global;
 use std::hint::spin_loop;
 use std::io::Read;
 use std::net::{Net, SocketAddr, TcpListener, TcpStream};
 use std::sync::Wait;
-use std::sync::atomic::AtomicBool;
 use std::sync::atomic::Ordering::SeqCst;
 use std::test::Fail;
 use std::thread;
@@ -176,18 +176,12 @@ fn six_clients_ask_for_the_same_keys_at_once(rt: HostRuntime) -> Result<(), Fail
 // A source whose calls wait for the gate to be open, for some seconds at most.
 #[derive(Clone, Copy, Drop)]
 struct Gated<'a> {
-    open: &'a AtomicBool,
+    call: &'a Call,
 }
 
 impl Hook for Gated<'_> {
     fn may_call(&self, _alloc: Global, _key: &[u8]) -> bool {
-        for _ in 0..4_000_000_000u64 {
-            if self.open.load(SeqCst) {
-                return true;
-            }
-            spin_loop();
-        }
-        false
+        self.call.wait()
     }
 }
 
@@ -198,7 +192,7 @@ fn each_asks<H: AllocGlobal + Net<Listener = TcpListener, Stream = TcpStream> + 
     address: SocketAddr,
     count: u32,
     keys: u32,
-    open: &AtomicBool,
+    call: &Call,
 ) -> Option<bool> {
     let mut clients = Vec::new(rt.alloc());
     for number in 0..count {
@@ -210,7 +204,7 @@ fn each_asks<H: AllocGlobal + Net<Listener = TcpListener, Stream = TcpStream> + 
         clients.push(stream).ok()?;
     }
     thread::sleep(rt, Duration::from_millis(300));
-    open.store(true, SeqCst);
+    call.open.store(true, SeqCst);
     let length = (keys as usize).wrapping_mul(83).wrapping_add(98);
     Some(
         clients.iter().all(|stream| match receive(rt.alloc(), stream) {
@@ -227,13 +221,13 @@ fn more_clients_ask_than_the_queue_has_room_for(rt: HostRuntime) -> Result<(), F
         (Kind::Seats, 16u32, 40, 16 * 41),
         (Kind::Loops, 300u32, 8, 300 * 9),
     ] {
-        let open = AtomicBool::new(false);
+        let call = Call::new();
         let plan = plan_of(&rt, 1, clients as usize, 1)?;
         let source = Hooked {
-            hook: Gated { open: &open },
+            hook: Gated { call: &call },
         };
         let (report, answered) = beside(&rt, source, kind, &plan, |address| {
-            each_asks(&rt, address, clients, keys, &open)
+            each_asks(&rt, address, clients, keys, &call)
         })?;
         assert_eq!(rt;
             (answered, has_asked(&report, asked)),

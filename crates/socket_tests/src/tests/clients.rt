@@ -76,11 +76,16 @@ pub fn exchange_and_end<
     receive(rt.alloc(), &stream)
 }
 
-/// Whether a client gets the reply to one request.
-pub fn is_answered(stream: &TcpStream) -> bool {
+/// Whether a client gets the reply to a request that it has sent.
+pub fn has_reply(stream: &TcpStream) -> bool {
     let mut reader = stream;
     let mut reply = [0; 79];
-    send(stream, ASK_K) && reader.read_exact(&mut reply).is_ok() && reply.as_slice() == FOUND_K
+    reader.read_exact(&mut reply).is_ok() && reply.as_slice() == FOUND_K
+}
+
+/// Whether a client gets the reply to one request.
+pub fn is_answered(stream: &TcpStream) -> bool {
+    send(stream, ASK_K) && has_reply(stream)
 }
 
 /// A client that has asked once and has its reply.

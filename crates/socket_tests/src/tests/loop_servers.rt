@@ -2,15 +2,18 @@
 
 use super::plans::Plan;
 use super::servers::run_both;
+use super::slow::{Call, Slow};
 use peer_fill::Report;
 use peer_loop::{Fillers, Settings, Stop, serve_loops};
 use peer_source::Source;
 use peer_stats::Counters;
 use std::net::{Net, SocketAddr, TcpListener, TcpStream};
 use std::sync::Wait;
+use std::sync::atomic::Ordering::SeqCst;
 use std::test::Fail;
 use std::thread::Threads;
 use std::time::Clock;
+use test_support::Hooked;
 
 /// What a server has from outside.
 #[derive(Drop)]
@@ -58,4 +61,31 @@ where
 {
     let serve = move |listener| serve_loops(rt, rt.alloc(), source, listener, settings).ok();
     run_both(rt, serve, clients)
+}
+
+/// The same of a source whose call for the key `slow` waits until it may go on: behind the clients it may.
+pub fn beside_slow<
+    T,
+    C: FnOnce(SocketAddr) -> T,
+    H: Net<Listener = TcpListener, Stream = TcpStream> + Threads + Wait + Clock + Sync,
+>(rt: &H, call: &Call, settings: &Settings<'_>, clients: C) -> Result<(Option<Report>, T), Fail>
+where
+    H: AllocGlobal,
+    requires { C.IsAlwaysCallable clients }
+{
+    let source = Hooked {
+        hook: Slow { call },
+    };
+    beside_loops(
+        rt,
+        source,
+        settings,
+        move |address| -> T
+            requires { C.IsAlwaysCallable clients }
+        {
+            let seen = clients(address);
+            call.open.store(true, SeqCst);
+            seen
+        },
+    )
 }

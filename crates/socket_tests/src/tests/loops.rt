@@ -24,12 +24,12 @@ fn a_server_publishes_what_it_counts(rt: HostRuntime) -> Result<(), Fail> {
         exchange(&rt, address, ASK_TWICE)
     })?;
     let counts = outside.counters.read();
-    let (loops, workers) = (counts.loops, counts.workers);
+    let (loops, fillers) = (counts.loops, counts.fillers);
     let parts = loops
         .hits
         .wrapping_add(loops.led)
         .wrapping_add(loops.joined);
-    let jobs = workers.calls.wrapping_add(workers.rehits);
+    let jobs = fillers.calls.wrapping_add(fillers.rehits);
     assert!(rt; has_asked(&report, loops.asked));
     assert_eq!(rt;
         [

@@ -1,21 +1,19 @@
 //! A loop that stood still: those who asked meanwhile were not silent, however many they are.
 
-use super::clients::{connect, send, served_client};
-use super::loop_servers::{Outside, beside_loops, settings_of};
+use super::clients::{connect, has_reply, send, served_client};
+use super::loop_servers::{Outside, beside_slow, settings_of};
 use super::plans::{attentive, plan_of};
 use super::servers::has_asked;
-use super::slow::{ASK_SLOW, Call, Slow, await_call};
+use super::slow::{ASK_SLOW, Call, await_call};
 use peer_limits::Limits;
 use peer_loop::{Fillers, Settings};
-use std::io::Read;
 use std::net::{Net, SocketAddr, TcpListener, TcpStream};
 use std::sync::Wait;
 use std::sync::atomic::Ordering::SeqCst;
 use std::test::Fail;
 use std::thread;
 use std::time::{Clock, Duration};
-use stream_model::{ASK_K, FOUND_K};
-use test_support::Hooked;
+use stream_model::ASK_K;
 
 // How many clients ask while the loop stands still: more than one wait reports.
 const CROWD: usize = 300;
@@ -30,13 +28,6 @@ fn crowd_of<H: AllocGlobal + Net<Listener = TcpListener, Stream = TcpStream> + W
         crowd.push(served_client(rt, address)?).ok()?;
     }
     Some(crowd)
-}
-
-// Whether a client gets the reply for which it has asked.
-fn has_reply(stream: &TcpStream) -> bool {
-    let mut reader = stream;
-    let mut reply = [0; 79];
-    reader.read_exact(&mut reply).is_ok() && reply.as_slice() == FOUND_K
 }
 
 // Whether all have their replies who ask a loop that stands still for longer than a client may be silent.
@@ -69,13 +60,8 @@ fn those_who_ask_a_loop_that_stands_still_are_not_silent(rt: HostRuntime) -> Res
         accepts: Some(CROWD as u64 + 1),
         ..settings_of(&outside, &plan)
     };
-    let source = Hooked {
-        hook: Slow { call: &call },
-    };
-    let (report, answered) = beside_loops(&rt, source, &settings, |address| {
-        let answered = are_answered(&rt, address, &call);
-        call.open.store(true, SeqCst);
-        answered
+    let (report, answered) = beside_slow(&rt, &call, &settings, |address| {
+        are_answered(&rt, address, &call)
     })?;
     assert!(rt; answered);
     assert!(rt; has_asked(&report, 2 * (CROWD as u64) + 1));

@@ -1,10 +1,10 @@
 //! Servers that are told to end while clients are there.
 
 use super::clients::{connect, receive, receives, send, served_client};
-use super::loop_servers::{Outside, beside_loops, settings_of};
+use super::loop_servers::{Outside, beside_loops, beside_slow, settings_of};
 use super::plans::plan_of;
 use super::servers::has_asked;
-use super::slow::{ASK_SLOW, Call, FOUND_SLOW, Slow, await_call};
+use super::slow::{ASK_SLOW, Call, FOUND_SLOW, await_call};
 use peer_loop::{Fillers, Settings, Stop};
 use peer_source::DemoSource;
 use std::net::{Net, SocketAddr, TcpListener, TcpStream};
@@ -14,7 +14,6 @@ use std::test::Fail;
 use std::thread;
 use std::time::{Clock, Duration};
 use stream_model::{ASK_K, FOUND_K};
-use test_support::Hooked;
 
 // Two idle clients, and one that waits for its value, while the server is told to end: whether all were connected, the
 // idle ones are let go at once, one that comes then is refused at once, and the first gets its value.
@@ -47,12 +46,8 @@ fn a_server_that_is_told_to_end_gives_the_values_that_are_waited_for(
         accepts: None,
         ..settings_of(&outside, &plan)
     };
-    let source = Hooked {
-        hook: Slow { call: &call },
-    };
-    let (report, seen) = beside_loops(&rt, source, &settings, |address| {
+    let (report, seen) = beside_slow(&rt, &call, &settings, |address| {
         let seen = stop_beside(&rt, address, &call, &outside.stop);
-        call.open.store(true, SeqCst);
         outside.stop.stop();
         seen
     })?;
@@ -162,12 +157,8 @@ fn those_who_asked_before_a_stop_have_their_replies(rt: HostRuntime) -> Result<(
         accepts: None,
         ..settings_of(&outside, &plan)
     };
-    let source = Hooked {
-        hook: Slow { call: &call },
-    };
-    let (report, served) = beside_loops(&rt, source, &settings, |address| {
+    let (report, served) = beside_slow(&rt, &call, &settings, |address| {
         let served = have_their_replies(&rt, address, &call, &outside);
-        call.open.store(true, SeqCst);
         outside.stop.stop();
         served
     })?;

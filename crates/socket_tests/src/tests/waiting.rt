@@ -1,10 +1,10 @@
 //! Clients that wait for their values: for longer than one may be silent, and beside one that goes away.
 
 use super::clients::{connect, is_answered, is_served, send};
-use super::loop_servers::{Outside, beside_loops, settings_of};
+use super::loop_servers::{Outside, beside_slow, settings_of};
 use super::plans::{patient, plan_of};
 use super::servers::has_asked;
-use super::slow::{ASK_SLOW, Call, FOUND_SLOW, Slow, await_call};
+use super::slow::{ASK_SLOW, Call, FOUND_SLOW, await_call};
 use peer_limits::Limits;
 use std::io::Read;
 use std::net::{Net, SocketAddr, TcpListener, TcpStream};
@@ -14,7 +14,6 @@ use std::test::Fail;
 use std::thread;
 use std::time::{Clock, Duration};
 use stream_model::ASK_K;
-use test_support::Hooked;
 
 // How many values a client waits for, one after the other.
 const VALUES: u64 = 6;
@@ -60,13 +59,8 @@ fn a_client_that_waits_is_not_silent(rt: HostRuntime) -> Result<(), Fail> {
     };
     let plan = plan_of(&rt, 1, 1, 1)?.within(limits);
     let settings = settings_of(&outside, &plan);
-    let source = Hooked {
-        hook: Slow { call: &call },
-    };
-    let (report, answered) = beside_loops(&rt, source, &settings, |address| {
-        let answered = is_answered_each_time(&rt, address, &call);
-        call.open.store(true, SeqCst);
-        answered
+    let (report, answered) = beside_slow(&rt, &call, &settings, |address| {
+        is_answered_each_time(&rt, address, &call)
     })?;
     assert!(rt; answered);
     assert!(rt; has_asked(&report, 2 * VALUES));
@@ -111,13 +105,8 @@ fn a_client_that_waits_resets_between_others(rt: HostRuntime) -> Result<(), Fail
     let outside = Outside::new();
     let plan = plan_of(&rt, 2, 3, 2)?;
     let settings = settings_of(&outside, &plan);
-    let source = Hooked {
-        hook: Slow { call: &call },
-    };
-    let (report, answered) = beside_loops(&rt, source, &settings, |address| {
-        let answered = others_have_it(&rt, address, &call);
-        call.open.store(true, SeqCst);
-        answered
+    let (report, answered) = beside_slow(&rt, &call, &settings, |address| {
+        others_have_it(&rt, address, &call)
     })?;
     assert!(rt; answered);
     assert!(rt; has_asked(&report, 7));
@@ -146,13 +135,8 @@ fn a_client_that_resets_behind_its_last_request_is_let_go(rt: HostRuntime) -> Re
     let outside = Outside::new();
     let plan = plan_of(&rt, 2, 1, 2)?;
     let settings = settings_of(&outside, &plan);
-    let source = Hooked {
-        hook: Slow { call: &call },
-    };
-    let (report, left) = beside_loops(&rt, source, &settings, |address| {
-        let left = leaves_its_place(&rt, address, &call);
-        call.open.store(true, SeqCst);
-        left
+    let (report, left) = beside_slow(&rt, &call, &settings, |address| {
+        leaves_its_place(&rt, address, &call)
     })?;
     assert!(rt; left);
     assert!(rt; has_asked(&report, 3));

@@ -20,7 +20,7 @@ fn a_loop_fills_each_of_three_hundred_keys(rt: HostRuntime) -> Result<(), Fail> 
         ask_each(&rt, address, 300)
     })?;
     assert_eq!(rt; [asked, has_asked(&report, 300)], [true; 2]);
-    assert_eq!(rt; outside.counters.read().workers.calls, 300);
+    assert_eq!(rt; outside.counters.read().fillers.calls, 300);
     Ok(())
 }
 

@@ -1,7 +1,7 @@
 //! The page for worked numbers, and sums of slots.
 
 use peer_stats::{
-    AcceptCounts, Counters, Counts, FailureCounts, LoopCounts, OriginFailure, WorkerCounts,
+    AcceptCounts, Counters, Counts, FailureCounts, FillerCounts, LoopCounts, OriginFailure,
     metrics_page,
 };
 use std::test::Fail;
@@ -15,7 +15,7 @@ const COUNTS: Counts = Counts {
         strangers: 0,
         connections: 5,
     },
-    workers: WorkerCounts {
+    fillers: FillerCounts {
         calls: 17,
         rehits: 3,
     },
@@ -83,7 +83,7 @@ fn slots_are_added_up(rt: HostRuntime) {
     counters.of_loop(0).publish(one);
     counters.of_loop(1).publish(COUNTS.loops);
     counters.of_loop(1).publish(COUNTS.loops);
-    counters.of_worker(15).publish(COUNTS.workers);
+    counters.of_filler(15).publish(COUNTS.fillers);
     counters.accepts().count_accepted();
     counters.accepts().count_failed();
     counters.failures().count(OriginFailure::Late);
@@ -91,8 +91,8 @@ fn slots_are_added_up(rt: HostRuntime) {
     let counts = counters.read();
     let sum = one.plus(COUNTS.loops);
     assert_eq!(rt;
-        (counts.loops, counts.workers, counts.cache_bytes),
-        (sum, COUNTS.workers, 9)
+        (counts.loops, counts.fillers, counts.cache_bytes),
+        (sum, COUNTS.fillers, 9)
     );
     assert_eq!(rt;
         [

@@ -88,8 +88,8 @@ where
 {
     let listener = TcpListener::bind(rt, "127.0.0.1:0").ok()?;
     let address = listener.local_addr().ok()?;
-    let keys = RandomState::new(rt).ok()?;
-    let (server, end) = open_stats(rt, rt.alloc(), listener, keys)?;
+    let seed = RandomState::new(rt).ok()?;
+    let (server, end) = open_stats(rt, rt.alloc(), listener, seed)?;
     let (counters, end) = (&Counters::new(), &end);
     thread::scope(thread::scope_env(), rt, move |scope| {
         let run = move || server.run(rt, counters, end);
