@@ -8,12 +8,14 @@ The first who asks for a key leads, those who ask while it is looked up join, an
 connections are counted as they come and go; and each failure of a service is counted as what it is, also where a reply of another
 status than 200 begins and its rest is late. `--loops`, `--workers` and
 `--fetchers` are as many threads; no more connections are open than by `--connections`, and where all are taken, silent clients are
-let go until a sixteenth is free, and those who came last are not the next to go; `--timeout` is how long a value may take; a value
-above `--cache` is not kept, and one below it is; and above `--memory` a client is asked for one value at a time.
+let go until a sixteenth is free, and those who came last are not the next to go; where the system gives no more files, silent clients
+are let go too; `--timeout` is how long a value may take; a value above `--cache` is not kept, and one below it is; and above
+`--memory` a client is asked for one value at a time.
 
 Its last line is `rows N failures 0`; where a row fails, so does the program.
 """
 import os
+import resource
 import socket
 import sys
 import threading
@@ -135,6 +137,15 @@ def silent_clients_go_in_turn():
         last = connect(2)
         came = server.says(connections_accepted_total=34) and server.says(connections=30)
         return full and stayed == 30 and came and all(map(is_open, last)) and sum(map(is_open, first)) == 28
+
+
+def silent_clients_go_where_the_system_gives_no_more_files():
+    with Listening(PROGRAM, "--demo", "--loops", "1") as server, ExitStack() as streams:
+        silent = [streams.enter_context(socket.create_connection(server.address)) for _ in range(20)]
+        time.sleep(0.5)  # until all are accepted
+        files = len(os.listdir(f"/proc/{server.process.pid}/fd"))
+        resource.prlimit(server.process.pid, resource.RLIMIT_NOFILE, (files, files))
+        return ask(server.address, "echo/k").endswith(b"k") and 18 <= sum(map(is_open, silent)) < 20
 
 
 # What a service does, and the kind of failure that it is.
@@ -265,6 +276,7 @@ run_rows(
         asks_are_told_apart,
         connections_come_and_go,
         silent_clients_go_in_turn,
+        silent_clients_go_where_the_system_gives_no_more_files,
         each_failure_is_of_its_kind,
         a_status_is_told_where_its_rest_is_late,
         each_thread_is_asked_for,

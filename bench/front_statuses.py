@@ -63,6 +63,7 @@ ROWS = [
     (HERE, 1, "peer_front: nothing to serve: give GROUP=URL, --table FILE or --demo\n"),
     (["--listen", "127.0.0.1", "--demo"], 1,
      "peer_front: --listen 127.0.0.1: an address and a port are needed, such as 127.0.0.1:8001\n"),
+    (["--listen", "::1", "--demo"], 1, "peer_front: --listen ::1: an address and a port are needed, such as 127.0.0.1:8001\n"),
     (["--listen", TAKEN, "--demo"], 2, f"peer_front: cannot serve {TAKEN}: "),
     (HERE + ["--demo", "--nothing"], 1, "--nothing"),
     (HERE + ["--demo", "--workers", "17"], 1, f"peer_front: --workers 17: {WORKERS}\n"),
@@ -103,7 +104,6 @@ ROWS = [
     (HERE + ["--demo", "--stats"], 1, "--stats"),
     (HERE + ["--demo", "--until-eof=x"], 1, "--until-eof"),
     (HERE + ["--demo", "--until-eof"], 0, "peer_front: serves 3 groups at 127.0.0.1:"),
-    (HERE + ["--demo", "--until-eof", "--stats", "127.0.0.1:0"], 0, "peer_front: serves /metrics and /healthz at 127.0.0.1:0\n"),
     (HERE + ["--demo", "--timeout", "3601"], 1, "peer_front: --timeout 3601: a number from 1 to 3600 is needed\n"),
     (HERE + ["colors"], 1, "peer_front: colors: GROUP=URL is needed, such as thumbs=http://10.0.0.7/thumbs/\n"),
     (HERE + ["=" + URL], 1, f"peer_front: ={URL}: GROUP=URL is needed, such as thumbs=http://10.0.0.7/thumbs/\n"),
@@ -114,7 +114,7 @@ ROWS = [
     (HERE + ["a=" + URL, "a=" + URL], 1, f"peer_front: a={URL}: a group of this name is served already\n"),
     (HERE + ["--table", GOOD, "colors=" + URL], 1, f"peer_front: colors={URL}: a group of this name is served already\n"),
     (HERE + ["--demo", "echo=" + URL], 1, f"peer_front: echo={URL}: a group of this name is served already\n"),
-    (HERE + ["--demo", "--table", ECHO], 1, "peer_front: --demo: a group of this name is served already\n"),
+    (HERE + ["--demo", "--table", ECHO], 1, f"peer_front: --table {ECHO}: has a group of --demo, whose are echo, square and fill\n"),
     (HERE + [f"g{i}={URL}" for i in range(65)], 1, f"peer_front: g64={URL}: there are more than 64 groups\n"),
     (HERE + ["--table", "/nothing/here"], 1, "/nothing/here"),
     (HERE + ["--table", "/"], 3, "peer_front: --table /: read failed\n"),
@@ -126,6 +126,8 @@ ROWS = [
 # the words, and all that standard error holds where the program serves and is ended at once
 STARTS = [
     (["--demo"], "3 groups at ADDR, 10000 connections at most, on 2 loops"),
+    (["--demo", "--stats", "127.0.0.1:0"],
+     "/metrics and /healthz at ADDR\npeer_front: serves 3 groups at ADDR, 10000 connections at most, on 2 loops"),
     (["--table", GOOD, "--workers", "0"], "1 group at ADDR, 10000 connections at most, on 2 loops"),
     (["--demo", "--workers", "1", "--loops", "1"], "3 groups at ADDR, 10000 connections at most, on 1 loop and 1 worker"),
     (["--table", GOOD, "--workers", "16", "--loops", "16"], "1 group at ADDR, 10000 connections at most, on 16 loops and 16 workers"),

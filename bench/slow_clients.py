@@ -6,7 +6,8 @@
 
 One takes so little at a time that the system reports room for more only after longer than a client may take nothing. Others
 take all that there is while the server itself is stopped for longer than that. Of those who ask while it is stopped for longer than a
-client may be silent none is let go, and a value that comes meanwhile is given, whose time is over by then.
+client may be silent none is let go, nor one whose request comes whole only then; and a value that comes meanwhile is given, whose time
+is over by then.
 
 Its last line is `rows N failures 0`; where a row fails, so does the program.
 """
@@ -112,6 +113,18 @@ def those_who_asked_while_their_server_stood_still():
         return all(pool.map(have_replies_behind_a_stop, range(SERVERS)))
 
 
+def one_whose_request_came_whole_while_its_server_stood_still():
+    """For longer than it may send without a reply, where there is room for one."""
+    with Listening(PROGRAM, "--demo", "--connections", "1") as server, socket.create_connection(server.address, 10) as client:
+        client.sendall(request("echo/k")[:10])
+        time.sleep(0.5)
+        server.process.send_signal(signal.SIGSTOP)
+        time.sleep(11)
+        client.sendall(request("echo/k")[10:])
+        server.process.send_signal(signal.SIGCONT)
+        return client.recv(10000).endswith(b"\x0a\x01k")
+
+
 def is_given_behind_a_stop(_):
     """A value that comes while the server is stopped, until its time is over."""
     asked, may_answer = threading.Event(), threading.Event()
@@ -144,6 +157,7 @@ run_rows(
         one_that_takes_little_at_a_time,
         those_whose_server_stood_still,
         those_who_asked_while_their_server_stood_still,
+        one_whose_request_came_whole_while_its_server_stood_still,
         a_value_that_came_while_the_server_stood_still,
     ]
 )

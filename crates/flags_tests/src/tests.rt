@@ -102,7 +102,21 @@ fn sizes_are_numbers_with_a_unit(rt: HostRuntime) -> Result<(), Fail> {
 fn an_address_has_a_port(rt: HostRuntime) -> Result<(), Fail> {
     let alloc = rt.alloc();
     let mut right = true;
-    for word in ["127.0.0.1", ":80", "127.0.0.1:", "127.0.0.1:65536", "a:b"] {
+    for word in ["127.0.0.1:0", "name:65535", "[::1]:80"] {
+        let text = told(alloc, &["peer_front", "--listen", word])?;
+        right &= text.as_str().is_empty();
+    }
+    for word in [
+        "127.0.0.1",
+        ":80",
+        "127.0.0.1:",
+        "127.0.0.1:65536",
+        "127.0.0.1:+80",
+        "a:b",
+        "::1",
+        "fd00::10:20",
+        "[::1]",
+    ] {
         let text = told(alloc, &["peer_front", "--listen", word])?;
         right &= text.as_str().ends_with(
             ": an address and a port are needed, such as 127.0.0.1:8001",

@@ -53,9 +53,9 @@ impl<'a, S: Source, F: Facts<S>> EventLoop<'a, S, F> {
     ghost use Rattle.peer_clients.specs.Parts.{KeepsParts};
 
     /// A loop without clients.
-    pub fn new(alloc: Global, shared: LoopSite<'a>) -> EventLoop<'a, S, F> {
+    pub fn new(alloc: Global, site: LoopSite<'a>) -> EventLoop<'a, S, F> {
         EventLoop {
-            turns: Turns::new(alloc, shared),
+            turns: Turns::new(alloc, site),
             caches_published: Duration::ZERO,
         }
     }
@@ -63,23 +63,15 @@ impl<'a, S: Source, F: Facts<S>> EventLoop<'a, S, F> {
     // Publishes what the loop has counted.
     fn publish<L: Ledger>(&self, seat: &LoopSeat<'a, S, L, F>) {
         let counts = seat.counts(self.turns.clients.each.len());
-        self.turns
-            .shared
-            .site
-            .counters
-            .of_loop(self.turns.shared.number)
-            .publish(counts);
+        self.turns.site.slot().publish(counts);
     }
 
     // Publishes how many bytes the caches have, where a tick is over, or the loop has no clients.
     fn publish_caches<L: Ledger, H: Wait>(&mut self, rt: &H, seat: &LoopSeat<'a, S, L, F>) {
         if self.caches_published != self.turns.swept || self.turns.clients.each.is_empty() {
             self.caches_published = self.turns.swept;
-            self.turns
-                .shared
-                .site
-                .counters
-                .publish_cache_bytes(seat.cached_bytes(rt));
+            let counters = self.turns.site.shared.counters;
+            counters.publish_cache_bytes(seat.cached_bytes(rt));
         }
     }
 
@@ -148,12 +140,15 @@ impl<'a, S: Source, F: Facts<S>> EventLoop<'a, S, F> {
 
     // Whether there is something to do by now.
     fn is_awake<L: Ledger>(&self, seat: &LoopSeat<'a, S, L, F>) -> bool {
-        self.turns.clients.has_ready() || self.turns.shared.mailbox.is_told() || seat.has_jobs()
+        self.turns.clients.has_ready()
+            || self.turns.site.mailbox.is_told()
+            || self.turns.is_to_stop()
+            || seat.has_jobs()
     }
 
     // Whether nothing is left to do, and nothing comes any more.
     fn is_done<L: Ledger>(&self, seat: &LoopSeat<'a, S, L, F>) -> bool {
-        self.turns.shared.mailbox.is_over()
+        self.turns.site.mailbox.is_over()
             && self.turns.clients.each.is_empty()
             && !seat.has_left()
             && !seat.has_jobs()
@@ -180,7 +175,7 @@ impl<'a, S: Source, F: Facts<S>> EventLoop<'a, S, F> {
             }
             spin_loop();
         }
-        self.turns.shared.mailbox.fall_asleep();
+        self.turns.site.mailbox.fall_asleep();
         self.turns.push_left(rt, seat);
         if self.is_awake(seat) || self.is_done(seat) {
             Some(Duration::ZERO)
@@ -194,9 +189,9 @@ impl<'a, S: Source, F: Facts<S>> EventLoop<'a, S, F> {
     // Waits for events so long, and notes what was reported.
     fn wait<H: Host>(&mut self, rt: &H, time: Option<Duration>, waits: &mut Waits) {
         let waited = waits.poll.poll(&mut waits.events, time);
-        self.turns.shared.mailbox.stay_awake();
+        self.turns.site.mailbox.stay_awake();
         if waited.is_err() {
-            thread::sleep(rt, self.turns.shared.site.limits.pause);
+            thread::sleep(rt, self.turns.site.shared.limits.pause);
             return;
         }
         self.note(waits);

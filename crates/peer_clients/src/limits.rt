@@ -14,6 +14,9 @@ pub const MAX_EVENTS: usize = 256;
 /// them. One that is fetched does not, and the loop looks once.
 pub const LOOKS: u32 = 64;
 
+/// For how many ticks a loop has not looked at its clients that stood still: a busy one looks at them later than it is to, too.
+pub const STILL_TICKS: u32 = 4;
+
 /// How many bytes a client may hold that are not counted among what all of them hold: those of its replies and of the values
 /// of its tickets.
 pub const MAX_UNCOUNTED: usize = 65_536;

@@ -35,7 +35,7 @@ fn run_known<S: Source, L: Ledger, F: Facts<S>, H: Host>(
         alloc,
         seats,
         buffer,
-        filling: Filling::new(site.site.wakers, site.site.gate(site.number)),
+        filling: Filling::new(site.shared.wakers, site.shared.gate(site.number)),
         of: PhantomData,
     };
     let mut serving = EventLoop::new(alloc, site);

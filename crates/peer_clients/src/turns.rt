@@ -7,6 +7,7 @@ use crate::client::Client;
 use crate::client_state::ClientState;
 use crate::clients::Clients;
 use crate::facts::Facts;
+use crate::limits::STILL_TICKS;
 use crate::seat::LoopSeat;
 use mio::Registry;
 use peer_site::{LoopSite, MAX_ARRIVED, SLOTS_OF_WORD, WORDS, slot_of};
@@ -19,7 +20,7 @@ use std::time::Duration;
 /// The clients of a loop, and what their turns need beside the seats.
 #[derive(Drop)]
 pub struct Turns<'a, S: Source, F: Facts<S>> {
-    pub shared: LoopSite<'a>,
+    pub site: LoopSite<'a>,
     pub clients: Clients<'a, S, F>,
     // Whether its clients were stopped.
     stopped: bool,
@@ -37,9 +38,9 @@ impl<'a, S: Source, F: Facts<S>> Turns<'a, S, F> {
     ghost use Rattle.peer_clients.specs.Parts.{KeepsParts};
 
     /// No client is there.
-    pub fn new(alloc: Global, shared: LoopSite<'a>) -> Turns<'a, S, F> {
+    pub fn new(alloc: Global, site: LoopSite<'a>) -> Turns<'a, S, F> {
         Turns {
-            shared,
+            site,
             clients: Clients::new(alloc),
             stopped: false,
             now: Duration::ZERO,
@@ -48,7 +49,8 @@ impl<'a, S: Source, F: Facts<S>> Turns<'a, S, F> {
         }
     }
 
-    /// Takes in the streams that were given. Once the server was told to end, they are let go.
+    /// Takes in the streams that were given. Once the server was told to end, they are let go. One that memory or the system has no
+    /// place for is let go too, and counted as an accept that failed.
     pub fn take_streams<L: Ledger, H: Wait>(
         &mut self,
         rt: &H,
@@ -56,12 +58,15 @@ impl<'a, S: Source, F: Facts<S>> Turns<'a, S, F> {
         seat: &LoopSeat<'a, S, L, F>,
     ) {
         for _ in 0..MAX_ARRIVED {
-            let Some(stream) = self.shared.mailbox.next_stream(rt) else {
+            let Some(stream) = self.site.mailbox.next_stream(rt) else {
                 return;
             };
             let client = Client::new(stream, seat.exchange(), self.now);
-            if self.stopped || !self.clients.add(registry, client) {
-                self.shared.site.occupancy.leave();
+            if self.stopped {
+                self.site.shared.occupancy.leave();
+            } else if !self.clients.add(registry, client) {
+                self.site.shared.counters.accepts().count_failed();
+                self.site.shared.occupancy.leave();
             }
         }
     }
@@ -69,10 +74,10 @@ impl<'a, S: Source, F: Facts<S>> Turns<'a, S, F> {
     // Lets a client go.
     fn forget(&mut self, key: usize) {
         if let Some(mut client) = self.clients.remove(key) {
-            client.let_go(self.shared.site.occupancy);
+            client.let_go(self.site.shared.occupancy);
             // Before the place is free: the next one needs its file.
             drop(client);
-            self.shared.site.occupancy.leave();
+            self.site.shared.occupancy.leave();
         }
     }
 
@@ -80,7 +85,7 @@ impl<'a, S: Source, F: Facts<S>> Turns<'a, S, F> {
     fn list(&mut self, key: usize, number: u64) {
         let slot = slot_of(number);
         self.clients.list(key, slot);
-        self.shared.mailbox.want(slot);
+        self.site.mailbox.want(slot);
         if self.clients.awaits(key) != Some(number) {
             self.clients.make_ready(key);
         }
@@ -123,7 +128,7 @@ impl<'a, S: Source, F: Facts<S>> Turns<'a, S, F> {
         if self.clients.for_room_count() == 0 && !seat.has_left() {
             return;
         }
-        self.shared.mailbox.want_room();
+        self.site.mailbox.want_room();
         if seat.put_left(rt) {
             self.serve_for_room(rt, seat);
         }
@@ -140,8 +145,8 @@ impl<'a, S: Source, F: Facts<S>> Turns<'a, S, F> {
         ensures parts { KeepsParts seat.old.seats seat.new.seats }
     {
         let client = self.clients.each.get_mut(key)?;
-        let state = client.turn(rt, seat, self.now, self.shared.site.occupancy);
-        client.count_held(self.shared.site.occupancy);
+        let state = client.turn(rt, seat, self.now, self.site.shared.occupancy);
+        client.count_held(self.site.shared.occupancy);
         Some(state)
     }
 
@@ -184,7 +189,7 @@ impl<'a, S: Source, F: Facts<S>> Turns<'a, S, F> {
 
     // Has those at the slots of a word have their turn that were told.
     fn take_told(&mut self, word: usize) {
-        let mut told = self.shared.mailbox.take_told(word);
+        let mut told = self.site.mailbox.take_told(word);
         for _ in 0..SLOTS_OF_WORD {
             let Some(slot) = told.next_slot() else {
                 return;
@@ -196,12 +201,12 @@ impl<'a, S: Source, F: Facts<S>> Turns<'a, S, F> {
     // Counts what a client holds, for which values may have come since its turn, and says whether it is to be let go. One that
     // is to stay and has output has a turn.
     fn look_at(&mut self, key: usize, full: bool) -> bool {
-        let site = self.shared.site;
+        let shared = self.site.shared;
         let Some(client) = self.clients.each.get_mut(key) else {
             return false;
         };
-        client.count_held(site.occupancy);
-        if client.is_overdue(site.limits, full, self.now) {
+        client.count_held(shared.occupancy);
+        if client.is_overdue(shared.limits, full, self.now) {
             return true;
         }
         if client.retry_write() {
@@ -211,16 +216,15 @@ impl<'a, S: Source, F: Facts<S>> Turns<'a, S, F> {
     }
 
     // Lets those go that were silent, or took nothing, for too long, and counts what the others hold. Where no more connections
-    // could be had, others than these are let go until some are free again.
-    fn sweep(&mut self) {
+    // could be had, which `full` says, others than these are let go until some are free again.
+    fn sweep(&mut self, mut full: bool) {
         let keys = self.clients.each.capacity();
         let first = self.next_sweep_key;
-        let mut full = self.shared.site.occupancy.is_full();
         for n in 0..keys {
             let key = first.wrapping_add(n) % keys;
             if self.look_at(key, full) {
                 self.forget(key);
-                if full && !self.shared.site.occupancy.is_crowded() {
+                if full && !self.site.shared.occupancy.is_crowded() {
                     full = false;
                     self.next_sweep_key = key.wrapping_add(1);
                 }
@@ -238,7 +242,7 @@ impl<'a, S: Source, F: Facts<S>> Turns<'a, S, F> {
 
     /// Whether the server was told to end, and its clients were not stopped yet.
     pub fn is_to_stop(&self) -> bool {
-        !self.stopped && self.shared.mailbox.is_stopping()
+        !self.stopped && self.site.mailbox.is_stopping()
     }
 
     /// Reads nothing more of the clients. They are closed as others are, so that none loses a reply that is on its way.
@@ -263,21 +267,28 @@ impl<'a, S: Source, F: Facts<S>> Turns<'a, S, F> {
 
     /// How long it is until the next tick.
     pub fn time_to_tick(&self) -> Duration {
-        let tick = self.shared.site.limits.tick;
+        let tick = self.site.shared.limits.tick;
         tick.saturating_sub(self.now.saturating_sub(self.swept))
     }
 
     /// Whether a tick is over by then.
     pub fn is_tick(&self, now: Duration) -> bool {
-        now.saturating_sub(self.swept) >= self.shared.site.limits.tick
+        now.saturating_sub(self.swept) >= self.site.shared.limits.tick
+    }
+
+    // Whether the loop stood still until now, so that those have not had their turn who sent meanwhile.
+    fn stood_still(&self, now: Duration) -> bool {
+        let tick = self.site.shared.limits.tick;
+        now.saturating_sub(self.swept) > tick.saturating_mul(STILL_TICKS)
     }
 
     /// So much time has passed since the loop began. Lets clients go that are overdue, where a tick is over.
     pub fn tell_time(&mut self, now: Duration) {
         self.now = now;
         if self.is_tick(now) {
+            let full = self.site.shared.occupancy.is_out_of_room() && !self.stood_still(now);
             self.swept = now;
-            self.sweep();
+            self.sweep(full);
         }
     }
 }

@@ -122,7 +122,7 @@ impl<'a, S: Source> Fetcher<'a, S> {
             return self.connect_first(system, under);
         };
         match self.connections.get_mut(key) {
-            Some(link) if link.number == number => link.begin(under),
+            Some(link) if link.number == number && link.is_free() => link.begin(under),
             _ => return self.connect_first(system, under),
         }
         self.shares.begin(self.shares.service(number));

@@ -2,9 +2,9 @@
 //! connections that never wait, and fills their flights as the replies come.
 //!
 //! It stands on the jobs of `peer_fill`, the values under way of `peer_value`, and the readiness of sockets of `mio`. It promises
-//! that a turn leaves a value on its connection or gives it back with its own job, that a flight is filled with what its group's source may
-//! answer, and that a thread hands back its seat with its parts, as a worker does. For a group without an endpoint it calls the
-//! source.
+//! that a turn leaves a value on its connection or gives it back with its own job, that a flight is filled with what its group's
+//! source may answer, and that a thread hands back its seat with its parts, as a worker does. For a group without an endpoint it
+//! calls the source.
 #![tactic(auto)]
 
 mod connections;

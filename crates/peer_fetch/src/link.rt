@@ -1,8 +1,8 @@
 //! A connection to an origin, and the value that is under way on it.
 //!
 //! It promises that a turn leaves a value on its connection, or gives it back with its own job, and that only a
-//! value of the endpoint with whose number the connection began is asked for on it.
-ghost use Rattle.std.specs.Prelude.{◌≡◌, IfSome, IsSome, IsTrue, Some};
+//! value of the endpoint with whose number the connection began is asked for on it, where no other is under way.
+ghost use Rattle.std.specs.Prelude.{◌≡◌, ◌↔◌, IfSome, IsSome, IsTrue, Some, None};
 ghost use Rattle.std.proofs.Props.{props};
 ghost use Rattle.peer_fetch.specs.Turns.{IsTurnOf};
 ghost use Rattle.peer_value.specs.UnderWays.{number_of};
@@ -133,7 +133,7 @@ impl<'a, S: Source> Link<'a, S> {
 
     /// Whether no value is under way, and another one may be asked for: nothing came, not even the end.
     pub fn is_idle(&self) -> bool {
-        if self.under.is_some() || self.readiness.read_closed {
+        if !self.is_free() || self.readiness.read_closed {
             return false;
         }
         let mut byte = [0u8; 1];
@@ -143,9 +143,17 @@ impl<'a, S: Source> Link<'a, S> {
         }
     }
 
-    // Puts the value that is under way.
+    /// Whether no value is under way.
+    pub fn is_free(&self) -> bool
+        ensures { IsTrue result ↔ (self.now.under ≡ None) }
+    {
+        self.under.is_none()
+    }
+
+    // Puts the value that is under way, where there is none.
     fn put(&mut self, under: UnderWay<'a, S>)
-        requires { number_of under ≡ self.old.number }
+        requires number { number_of under ≡ self.old.number }
+        requires free { self.old.under ≡ None }
         ensures under { self.new.under ≡ Some under.entry }
         ensures number { self.new.number ≡ self.old.number }
     {
@@ -154,7 +162,8 @@ impl<'a, S: Source> Link<'a, S> {
 
     /// Asks for another value of its endpoint.
     pub fn begin(&mut self, under: UnderWay<'a, S>)
-        requires { number_of under ≡ self.old.number }
+        requires number { number_of under ≡ self.old.number }
+        requires free { self.old.under ≡ None }
         ensures under { self.new.under ≡ Some under.entry }
         ensures number { self.new.number ≡ self.old.number }
     {
@@ -174,7 +183,8 @@ impl<'a, S: Source> Link<'a, S> {
 
     // Sends and receives for a value. One that is `late` has what has come by now, and nothing is waited for.
     fn exchange(&mut self, under: UnderWay<'a, S>, buffer: &mut [u8], late: bool) -> Turn<'a, S>
-        requires { number_of under ≡ self.old.number }
+        requires number { number_of under ≡ self.old.number }
+        requires free { self.old.under ≡ None }
         ensures value { IsTurnOf under.entry self.new.under result }
         ensures number { self.new.number ≡ self.old.number }
     {
@@ -211,7 +221,8 @@ impl<'a, S: Source> Link<'a, S> {
 
     // How far the stream is. An address that is not reached by its time has failed.
     fn connect(&mut self, now: Duration) -> Connecting
-        ensures { self.new.number ≡ self.old.number }
+        ensures number { self.new.number ≡ self.old.number }
+        ensures under { self.new.under ≡ self.old.under }
     {
         let Some(due) = self.connect_due else {
             return Connecting::Connected;

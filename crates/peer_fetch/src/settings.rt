@@ -1,4 +1,5 @@
 //! What can be set of a fetch thread, and what it fetches.
+ghost use Rattle.std.specs.Prelude.{◌≡◌};
 
 use peer_origin::FetchSettings;
 use peer_stats::FailureSlots;
@@ -17,11 +18,14 @@ pub struct FetchThreadSettings {
 }
 
 impl FetchThreadSettings {
-    /// 256 values under way, and the usual times.
-    pub fn usual() -> FetchThreadSettings {
+    /// These times, so many values under way, and the usual pause.
+    pub fn new(fetch: FetchSettings, under_way: usize) -> FetchThreadSettings
+        ensures fetch { result.fetch ≡ fetch }
+        ensures under_way { result.under_way ≡ under_way }
+    {
         FetchThreadSettings {
-            fetch: FetchSettings::usual(),
-            under_way: 256,
+            fetch,
+            under_way,
             pause: Duration::from_millis(10),
         }
     }

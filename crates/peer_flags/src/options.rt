@@ -122,12 +122,15 @@ fn size<'w>(matches: &ArgMatches<'w>, flag: &'w str) -> Result<u64, BadWord<'w>>
     }
 }
 
-// Whether a word is an address and a port.
+// Whether a word is an address and a port. An IPv6 address stands in brackets (RFC 3986, section 3.2.2): without them its last part
+// would be taken for a port.
 fn is_address(word: &str) -> bool {
-    match word.rsplit_once(':') {
-        Some((host, port)) => !host.is_empty() && port.parse::<u16>().is_ok(),
-        None => false,
-    }
+    let Some((host, port)) = word.rsplit_once(':') else {
+        return false;
+    };
+    let is_bracketed = host.starts_with('[') && host.ends_with(']');
+    let is_host = !host.is_empty() && (is_bracketed || !host.contains(':'));
+    is_host && number_of(port, 0, 65_535).is_some()
 }
 
 // The address to serve.

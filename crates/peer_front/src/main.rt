@@ -1,7 +1,7 @@
 //! The program: a peer server for groupcache's clients in front of HTTP services, a table, or both.
 //!
 //! It runs the server of `peer_loop` over the groups of `peer_groups`, as the flags of `peer_flags` say. Each word that cannot
-//! be used is refused by a sentence that names it, before anything is bound.
+//! be used is refused by a sentence before anything is bound.
 #![tactic(auto)]
 
 mod end;

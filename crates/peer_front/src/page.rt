@@ -41,11 +41,13 @@ pub fn page_of<H: AllocGlobal + Eprint + Net<Listener = TcpListener, Stream = Tc
             return Err(CANNOT_BIND);
         }
     };
-    match open_stats(rt, rt.alloc(), listener, seed) {
-        Some((server, end)) => {
-            let _ = eprintln!(rt; "peer_front: serves /metrics and /healthz at {address}");
-            Ok(Some(Page { server, end }))
-        }
-        None => Err(refuse(rt, &"out of memory", OUT_OF_MEMORY)),
-    }
+    let at = listener.local_addr();
+    let Some((server, end)) = open_stats(rt, rt.alloc(), listener, seed) else {
+        return Err(refuse(rt, &"out of memory or descriptors", OUT_OF_MEMORY));
+    };
+    let _ = match at {
+        Ok(at) => eprintln!(rt; "peer_front: serves /metrics and /healthz at {at}"),
+        Err(_) => eprintln!(rt; "peer_front: serves /metrics and /healthz at {address}"),
+    };
+    Ok(Some(Page { server, end }))
 }

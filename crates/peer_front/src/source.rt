@@ -56,20 +56,26 @@ fn has_demo_group(table: &Option<TableSource>) -> bool {
     }
 }
 
-// Says that a group is served twice, where one is.
+// Says that a group would be served twice, where one would.
 fn check_twice<H: AllocGlobal + Eprint>(
     rt: &H,
     options: &Options<'_>,
     table: &Option<TableSource>,
     words: &[&str],
 ) -> Result<(), Exit> {
-    let word = match first_twice(options, table, words) {
-        Some(word) => word,
-        None if options.demo && has_demo_group(table) => "--demo",
-        None => return Ok(()),
-    };
-    let _ = eprintln!(rt; "peer_front: {word}: a group of this name is served already");
-    Err(BAD_WORD)
+    if let Some(word) = first_twice(options, table, words) {
+        let _ = eprintln!(rt; "peer_front: {word}: a group of this name is served already");
+        return Err(BAD_WORD);
+    }
+    match options.table {
+        Some(path) if options.demo && has_demo_group(table) => {
+            let _ = eprintln!(rt;
+                "peer_front: --table {path}: has a group of --demo, whose are echo, square and fill"
+            );
+            Err(BAD_WORD)
+        }
+        _ => Ok(()),
+    }
 }
 
 // Says that there are no groups, or too many.

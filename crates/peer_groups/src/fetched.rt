@@ -41,11 +41,7 @@ impl Fetched {
                 each: self.each.as_slice(),
                 groups: self.groups,
             },
-            settings: FetchThreadSettings {
-                fetch,
-                under_way,
-                ..FetchThreadSettings::usual()
-            },
+            settings: FetchThreadSettings::new(fetch, under_way),
             failures,
         }
     }

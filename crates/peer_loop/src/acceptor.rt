@@ -7,7 +7,7 @@ use crate::listening::Listening;
 use crate::stop::Stop;
 use mio::net::TcpStream;
 use peer_host::Host;
-use peer_poll::would_block;
+use peer_poll::{lacks_files, would_block};
 use peer_site::Site;
 use std::{io, thread};
 
@@ -43,18 +43,23 @@ impl<'a> Acceptor<'a> {
         }
     }
 
-    // Gives a stream to a loop, and waits where too many wait there.
-    fn give<H: Host>(&self, rt: &H, mut stream: TcpStream, turn: usize) {
-        let Some(mailbox) = self.site.mailboxes.each.get(turn) else {
-            return;
-        };
+    // Gives a stream to a loop, and to another where too many wait there. Waits where that is so at all of them.
+    fn give<H: Host>(&self, rt: &H, mut stream: TcpStream, first: usize) {
+        let mut turn = first;
         self.site.occupancy.enter();
         for _ in rt.forever() {
+            let Some(mailbox) = self.site.mailboxes.each.get(turn) else {
+                self.site.occupancy.leave();
+                return;
+            };
             match mailbox.give(rt, stream) {
                 Ok(()) => return,
                 Err(back) => stream = back,
             }
-            self.pause(rt);
+            turn = self.behind(turn);
+            if turn == first {
+                self.pause(rt);
+            }
         }
         unreachable!()
     }
@@ -62,11 +67,16 @@ impl<'a> Acceptor<'a> {
     // Waits for clients where there was none, and else for some time.
     fn wait_behind<H: Host>(&mut self, rt: &H, error: &io::Error) {
         if would_block(error) {
+            // Linux looks for a file before it looks for a client.
+            self.site.occupancy.note_file();
             self.wait(rt);
-        } else {
-            self.site.counters.accepts().count_failed();
-            self.pause(rt);
+            return;
         }
+        if lacks_files(error) {
+            self.site.occupancy.note_no_file();
+        }
+        self.site.counters.accepts().count_failed();
+        self.pause(rt);
     }
 
     // Accepts one stream, or waits, and says whether there was one.

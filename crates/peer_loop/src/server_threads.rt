@@ -88,7 +88,7 @@ impl<'a, S: Source, L: Ledger + Send + Sync> ServerThreads<'a, S, L> {
         let parts = self.parts.loops.pop()?;
         let number = self.parts.loops.len();
         let site = LoopSite {
-            site: self.site,
+            shared: self.site,
             mailbox: self.site.mailboxes.each.get(number)?,
             number,
         };

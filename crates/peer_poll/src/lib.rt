@@ -10,7 +10,7 @@ mod poll_waker;
 mod poll_wakers;
 mod readiness;
 
-pub use faults::{was_interrupted, would_block};
+pub use faults::{lacks_files, was_interrupted, would_block};
 pub use poll_waker::{PollWaker, WOKEN};
 pub use poll_wakers::{OwnWaker, PollWakers};
 pub use readiness::Readiness;

@@ -6,7 +6,7 @@
 use crossbeam_utils::CachePadded;
 use mio::Poll;
 use peer_poll::PollWaker;
-use std::cmp::max;
+use std::cmp::{max, min};
 use std::sync::atomic::AtomicUsize;
 use std::sync::atomic::Ordering::SeqCst;
 
@@ -15,6 +15,9 @@ use std::sync::atomic::Ordering::SeqCst;
 pub struct Occupancy {
     open: AtomicUsize,
     most: usize,
+    // How many can be had: as many as may be open, or those that were when there was no file for one more. The thread that
+    // accepts alone sets it.
+    room: AtomicUsize,
     // Wakes the thread that accepts.
     waker: PollWaker,
     // How many bytes the clients hold that hold more than each may.
@@ -29,6 +32,7 @@ impl Occupancy {
         Some(Occupancy {
             open: AtomicUsize::new(0),
             most,
+            room: AtomicUsize::new(most),
             waker: PollWaker::new(poll)?,
             held: CachePadded::new(AtomicUsize::new(0)),
             most_held,
@@ -37,7 +41,22 @@ impl Occupancy {
 
     /// A connection is open.
     pub fn enter(&self) {
+        // Before it is counted, so that no loop finds it among too few places.
+        self.note_file();
         self.open.fetch_add(1, SeqCst);
+    }
+
+    /// There was a file for one more connection.
+    pub fn note_file(&self) {
+        if self.room.load(SeqCst) != self.most {
+            self.room.store(self.most, SeqCst);
+        }
+    }
+
+    /// There was no file for one more connection: until there is one, no more can be had than are open.
+    pub fn note_no_file(&self) {
+        self.room
+            .store(min(self.open.load(SeqCst), self.most), SeqCst);
     }
 
     /// A connection is closed.
@@ -46,15 +65,21 @@ impl Occupancy {
         let _ = self.waker.wake_asleep();
     }
 
-    /// Whether no more connections can be had.
+    /// Whether as many connections are open as may be.
     pub fn is_full(&self) -> bool {
         self.open.load(SeqCst) >= self.most
     }
 
-    /// Whether fewer connections are free than a sixteenth of all, one at least: then silent clients are still let go, where no
-    /// more could be had.
+    /// Whether no more connections can be had: as many are open as may be, or there was no file for one more.
+    pub fn is_out_of_room(&self) -> bool {
+        self.open.load(SeqCst) >= self.room.load(SeqCst)
+    }
+
+    /// Whether fewer connections are free than a sixteenth of all that can be had, one at least: then silent clients are still let
+    /// go, where no more could be had.
     pub fn is_crowded(&self) -> bool {
-        self.most.saturating_sub(self.open.load(SeqCst)) < max(self.most / 16, 1)
+        let room = self.room.load(SeqCst);
+        room.saturating_sub(self.open.load(SeqCst)) < max(room / 16, 1)
     }
 
     /// A client holds so many bytes now, and held so many before.

@@ -6,7 +6,7 @@ use crate::mailboxes::Mailboxes;
 use crate::occupancy::Occupancy;
 use peer_limits::Limits;
 use peer_poll::PollWakers;
-use peer_stats::Counters;
+use peer_stats::{Counters, LoopSlot};
 
 /// What the threads of a server share.
 #[derive(Clone, Copy)]
@@ -35,8 +35,15 @@ impl<'a> Site<'a> {
 /// What a loop shares with other threads.
 #[derive(Clone, Copy)]
 pub struct LoopSite<'a> {
-    pub site: Site<'a>,
+    pub shared: Site<'a>,
     pub mailbox: &'a Mailbox,
     /// The number of the loop, by which it publishes what it counts.
     pub number: usize,
+}
+
+impl<'a> LoopSite<'a> {
+    /// Where the loop publishes what it counts, and no other thread.
+    pub fn slot(&self) -> &'a LoopSlot {
+        self.shared.counters.of_loop(self.number)
+    }
 }
