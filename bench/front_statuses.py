@@ -1,7 +1,7 @@
 #!/usr/bin/env python3
 """Each flag of the built peer_front, each bad word, and its status with its line on standard error.
 
-    (cd crates/peer_front && rt run -- --version)      # builds it
+    ./build
     python3 bench/front_statuses.py [crates/peer_front/out/peer_front]
 
 Its last line is `rows N failures 0`; where a row fails, so does the program.

@@ -1,7 +1,7 @@
 #!/usr/bin/env python3
 """How often a built server asks for memory for a request.
 
-    (cd crates/peer_front && rt run -- --version)           # builds it
+    ./build
     python3 bench/hit.py [crates/peer_front/out/peer_front]
     python3 bench/hit.py crates/peer_serve/out/peer_serve
 

@@ -3,7 +3,7 @@
 
     (cd crates/peer_serve && rt run < stdin > /dev/null)    # builds it
     (cd crates/exchange_rate && rt run < stdin)             # builds the program of one exchange
-    (cd crates/peer_front && rt run -- --version)           # builds the server on event loops
+    ./build
     apt-get install valgrind
     python3 bench/instructions.py [--parts] [--only ROWS] [crates/peer_serve/out/peer_serve]
 

@@ -1,7 +1,7 @@
 #!/usr/bin/env python3
 """Many clients of the built peer_front: silent ones, ones that ask and read nothing, and late ones beside busy ones.
 
-    (cd crates/peer_front && rt run -- --version)      # builds it
+    ./build
     python3 bench/loops.py [crates/peer_front/out/peer_front]
 
 It wants `ulimit -n` of 20,000. Each line has a figure and its limit; the last is `failures 0`; where one fails, so does the

@@ -1,7 +1,7 @@
 #!/usr/bin/env python3
 """An HTTP service that lies, behind the built server: each reply that clients get beside what a model says.
 
-    (cd crates/peer_front && rt run -- --version)      # builds the server
+    ./build
     python3 bench/lying_origin.py [--keys 20000] [--seed 1] [--connections 64] [PROGRAM]
 
 The seed draws keys of any bytes, and for each key a kind of reply: whole ones (by length, in chunks, until the close, behind
@@ -268,7 +268,7 @@ async def run(given):
 def main():
     given = given_words("program", "?", "crates/peer_front/out/peer_front", keys=20000, seed=1, connections=64)
     if not os.path.exists(given.program):
-        sys.exit(f"lying_origin.py: no program {given.program}: run `rt run -- --version` in crates/peer_front first")
+        sys.exit(f"lying_origin.py: no program {given.program}: run ./build first")
     sys.exit(1 if asyncio.run(run(given)) else 0)
 
 

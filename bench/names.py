@@ -1,7 +1,7 @@
 #!/usr/bin/env python3
 """A service whose name gets another address while the built peer_front serves it.
 
-    (cd crates/peer_front && rt run -- --version)     # builds it
+    ./build
     python3 bench/names.py [crates/peer_front/out/peer_front]
 
 The program runs in a mount namespace of its own, in which /etc/hosts is a file that this script writes; that takes root.

@@ -1,7 +1,7 @@
 #!/usr/bin/env python3
 """Requests a second over sockets: the built server beside groupcache in Go, hyper in Rust, and a C server that parses next to nothing.
 
-    (cd crates/peer_front && rt run -- --version)      # builds the server; or peer_serve, by (cd crates/peer_serve && rt run < stdin)
+    ./build
     apt-get install gcc golang-go golang-github-golang-groupcache-dev librust-hyper+full-dev librust-tokio+full-dev python3-matplotlib
     /usr/bin/python3 bench/net.py [--rounds 5] [--seconds 0.5] [--loads small|big|many|quick] [--hogs] [--draw docs/speed.svg] [--words "WORD .."] [SERVER]
 

@@ -1,7 +1,7 @@
 #!/usr/bin/env python3
 """Values a second from an HTTP service: the built server beside groupcache in Go with a getter of net/http, both asked by the same clients.
 
-    (cd crates/peer_front && rt run -- --version)      # builds the server
+    ./build
     apt-get install gcc golang-go golang-github-golang-groupcache-dev
     python3 bench/origin.py [--rounds 5] [--seconds 2] [--connections 256] [--flags "--fetchers 2"] [SERVER]
 

@@ -1,7 +1,7 @@
 #!/usr/bin/env python3
 """Where the built server's processor time goes under a load, and how often its threads are put to sleep and woken.
 
-    (cd crates/peer_front && rt run -- --version)      # builds the server; or peer_serve, by (cd crates/peer_serve && rt run < stdin)
+    ./build
     apt-get install gcc linux-perf
     python3 bench/profile.py [--seconds 3] [SERVER]
 

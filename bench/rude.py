@@ -2,7 +2,7 @@
 """Clients that are silent, slow, greedy or rude, against the built peer_serve and peer_front. Each row stands beside its bound.
 
     (cd crates/peer_serve && rt run < stdin > /dev/null)    # builds them
-    (cd crates/peer_front && rt run -- --version)
+    ./build
     python3 bench/rude.py [crates/peer_serve/out/peer_serve [crates/peer_front/out/peer_front]]
 
 It starts the servers itself, on free ports of the loopback address, and ends them. It takes about three minutes. Each row says

@@ -1,7 +1,7 @@
 #!/usr/bin/env python3
 """A hundred million requests to the built peer_front: every reply right, memory flat, totals exact.
 
-    (cd crates/peer_front && rt run -- --version)      # builds it
+    ./build
     apt-get install gcc
     python3 bench/soak.py [--million N] [crates/peer_front/out/peer_front]
 

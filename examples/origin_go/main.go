@@ -1,6 +1,6 @@
 // A program on groupcache whose peers are three peer_front processes, in front of an HTTP service that is ended midway.
 //
-//	(cd crates/peer_front && rt run -- --version)      # builds the server
+//	./build
 //	apt-get install golang-go golang-github-golang-groupcache-dev
 //	GO111MODULE=off GOPATH=/usr/share/gocode go run examples/origin_go/main.go [crates/peer_front/out/peer_front]
 //

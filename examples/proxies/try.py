@@ -1,7 +1,7 @@
 #!/usr/bin/env python3
 """Tries the built peer_front as it is run: its page of counters, its lines, its end, and nginx, haproxy, h2load and ab.
 
-    (cd crates/peer_front && rt run -- --version)      # builds it
+    ./build
     python3 examples/proxies/try.py [crates/peer_front/out/peer_front]
 
 It wants Debian's packages nginx, haproxy, prometheus (for promtool), nghttp2-client and apache2-utils. Its last line is
