@@ -35,10 +35,14 @@ class Listening(Started):
     """A built peer_front on a free port, which listens."""
 
     def __init__(self, program, *words):
-        self.address = ("127.0.0.1", free_port())
-        command = [program, "--listen", "%s:%d" % self.address, *words]
-        self.process = subprocess.Popen(command, stdin=subprocess.DEVNULL, stdout=subprocess.PIPE, stderr=subprocess.DEVNULL)
-        self.process.stdout.readline()
+        # A connection of somebody else may take the port before the server does.
+        for _ in range(3):
+            self.address = ("127.0.0.1", free_port())
+            command = [program, "--listen", "%s:%d" % self.address, *words]
+            self.process = subprocess.Popen(command, stdin=subprocess.DEVNULL, stdout=subprocess.PIPE, stderr=subprocess.DEVNULL)
+            if self.process.stdout.readline():
+                return
+            self.process.wait()
 
 
 class Service:
