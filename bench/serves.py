@@ -18,6 +18,7 @@ import subprocess
 import sys
 import tempfile
 import time
+from concurrent.futures import ThreadPoolExecutor
 
 from common import Started, free_port
 
@@ -151,6 +152,19 @@ def interrupted():
         row("a client on both sides of a signal", before + ask(client, "echo/k"), [(200, b"\n\x01k")] * 2)
 
 
+def stood_still():
+    """Where the one seat is taken its client may be silent for a second, and here it asks while the server stands still for three."""
+    with Server("1", "1", "1") as server, ThreadPoolExecutor(1) as threads:
+        client = server.client()
+        before = ask(client, "echo/k")
+        time.sleep(0.3)
+        server.process.send_signal(signal.SIGSTOP)
+        asked = threads.submit(ask, client, "echo/k")
+        time.sleep(3)
+        server.process.send_signal(signal.SIGCONT)
+        row("a client that asks a server which stands still", before + asked.result(), [(200, b"\n\x01k")] * 2)
+
+
 HEAD = b"GET /_groupcache/echo/k HTTP/1.1\r\nHost: h\r\n\r\n"
 FOUND = b"HTTP/1.1 200 OK\r\nContent-Type: application/x-protobuf\r\nContent-Length: 3\r\n\r\n\n\x01k"
 
@@ -197,7 +211,7 @@ def threads():
 
 
 def main():
-    for part in (first_line, table, caches, seats, many, unread, interrupted, pipe, cut, threads):
+    for part in (first_line, table, caches, seats, many, unread, interrupted, stood_still, pipe, cut, threads):
         part()
     failures = rows.count(False)
     print(f"rows {len(rows)} failures {failures}")

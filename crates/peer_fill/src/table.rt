@@ -1,5 +1,5 @@
 //! The flight table as the pool locks it: beside the book of what its seats led.
-ghost use Rattle.std.specs.Prelude.{◌≡◌, ◌+◌, ◌<◌, IfOk, IfSome, OnErr};
+ghost use Rattle.std.specs.Prelude.{◌≡◌, ◌⊎◌, ◌+◌, ◌<◌, None, IfOk, IfSome, OnErr};
 ghost use Rattle.peer_flight.specs.Tables.{state_of};
 
 use peer_flight::{Ask, AskFault, Flight, Put, Table};
@@ -25,7 +25,7 @@ pub struct HasSixteenParts<L: Ledger> {
 }
 
 impl<S: Source, L: Ledger> CountedTable<S, L> {
-    ghost use Rattle.peer_flight.specs.SingleFlight.{IsSame, Lands, no_flights, place_of};
+    ghost use Rattle.peer_flight.specs.SingleFlight.{IsSame, Lands, Place, no_flights, place_of};
     ghost use Rattle.peer_flight.specs.Tables.{Gives, Stands, flight_at};
     ghost use Rattle.peer_fill.specs.Asks.{led_count};
 
@@ -53,6 +53,7 @@ impl<S: Source, L: Ledger> CountedTable<S, L> {
         ensures counted { IfOk result (λ ask. share.new.amount ≡ share.old.amount + led_count ask) }
         ensures refused { OnErr result (share.new.amount ≡ share.old.amount) }
         ensures same { OnErr result (IsSame (state_of self.old.table) (state_of self.new.table)) }
+        ensures kept { OnErr result ((q : Place) → flight_at self.new.table q ≡ flight_at self.old.table q) }
         ensures parts { share.new.parts ≡ share.old.parts }
     {
         let CountedTable { table, led } = self;
@@ -76,7 +77,8 @@ impl<S: Source, L: Ledger> CountedTable<S, L> {
 
     /// Takes the flight out of the table. Its right is spent: who has a `Put` has spent it.
     pub fn land(&mut self, put: &Put<S>)
-        ensures { Lands (state_of self.old.table) (state_of self.new.table) put.now.flight.place put.now.flight.number }
+        ensures lands { Lands (state_of self.old.table) (state_of self.new.table) put.now.flight.place put.now.flight.number }
+        ensures kept { (q : Place) → (flight_at self.new.table q ≡ None) ⊎ (flight_at self.new.table q ≡ flight_at self.old.table q) }
     {
         self.table.land(&put.flight);
     }

@@ -21,10 +21,10 @@ Gives (Led flight right) s s' p = Leads s s' p flight.number × (flight.place �
 abbrev pub flight_at : {S : Type 0} {g : Source.Ghosts S} → Table S g → Place → Option FlightId
 flight_at t p = get place_eq t.flights p
 
--- an ask that joined gave the flight that stood at the place, and one that led gave the flight that stands there from
--- then on: cell included
+-- an ask that joined gave the flight that stood at the place and stands there still, and one that led gave the flight that stands
+-- there from then on: cell included
 abbrev pub Stands : {S : Type 0} {g : Source.Ghosts S} → Ask S → Table S g → Table S g → Place → Type 0
-Stands (Joined flight) t t' p = flight_at t p ≡ Some flight
+Stands (Joined flight) t t' p = (flight_at t p ≡ Some flight) × (flight_at t' p ≡ Some flight)
 Stands (Led flight right) t t' p = flight_at t' p ≡ Some flight
 
 -- every flight is led below this number

@@ -1,5 +1,6 @@
 //! The table of the open flights (`Group` of `singleflight.go`).
-ghost use Rattle.std.specs.Prelude.{◌≡◌, ◌≢◌, ℕ, ◌+◌, ◌^◌, ◌≤◌, ◌<◌, Some, IfOk, IfSome, None, OnErr, IsErr, IsErrOf};
+ghost use Rattle.std.specs.Prelude.{◌≡◌, ◌≢◌, ◌⊎◌, ℕ, ◌+◌, ◌^◌, ◌≤◌, ◌<◌, Some, IfOk, IfSome, None, OnErr};
+ghost use Rattle.std.specs.Prelude.{IsErr, IsErrOf};
 ghost use Rattle.std.specs.Option.{ForSome};
 ghost use Rattle.std.specs.HashMap.{get};
 ghost use Rattle.peer_flight.specs.SingleFlight.{Place, place_eq};
@@ -76,6 +77,7 @@ impl<S: Source> Table<S> {
         ensures stands { IfOk result (λ ask. Stands ask self.old self.new (place_of group.number key.now)) }
         ensures others { (q : Place) → q ≢ place_of group.number key.now → flight_at self.new q ≡ flight_at self.old q }
         ensures refused { OnErr result (IsSame (state_of self.old) (state_of self.new)) }
+        ensures kept { OnErr result ((q : Place) → flight_at self.new q ≡ flight_at self.old q) }
         ensures worn { IsErrOf result AskFault.Worn → IsWorn (state_of self.old) (place_of group.number key.now) }
         ensures room { IsWorn (state_of self.old) (place_of group.number key.now) → IsErr result }
     {
@@ -95,6 +97,7 @@ impl<S: Source> Table<S> {
         ensures stands { IfOk result (λ led. flight_at self.new place ≡ Some led.0) }
         ensures others { (q : Place) → q ≢ place → flight_at self.new q ≡ flight_at self.old q }
         ensures refused { OnErr result (IsSame (state_of self.old) (state_of self.new)) }
+        ensures kept { OnErr result ((q : Place) → flight_at self.new q ≡ flight_at self.old q) }
         ensures worn { IsErrOf result AskFault.Worn → self.old.next ≡ 2 ^ 62 }
         ensures room { self.old.next ≡ 2 ^ 62 → IsErr result }
     {
@@ -147,14 +150,16 @@ impl<S: Source> Table<S> {
 
     /// Takes the flight out, where it is the open one of its place.
     pub fn land(&mut self, flight: &Flight<S>)
-        ensures { Lands (state_of self.old) (state_of self.new) flight.now.place flight.now.number }
+        ensures lands { Lands (state_of self.old) (state_of self.new) flight.now.place flight.now.number }
+        ensures kept { (q : Place) → (flight_at self.new q ≡ None) ⊎ (flight_at self.new q ≡ flight_at self.old q) }
     {
         self.land_at(flight.place(), flight.number());
     }
 
     /// Takes the open flight of the place out, where it has this number.
     pub fn land_at(&mut self, place: &Place, number: u64)
-        ensures { Lands (state_of self.old) (state_of self.new) place.now number }
+        ensures lands { Lands (state_of self.old) (state_of self.new) place.now number }
+        ensures kept { (q : Place) → (flight_at self.new q ≡ None) ⊎ (flight_at self.new q ≡ flight_at self.old q) }
     {
         let Some(found) = self.flights.get(place) else {
             return;

@@ -4,6 +4,8 @@ use crate::endpoint::EndpointFault;
 use peer_host::Network;
 use peer_wait::lock;
 use std::alloc::{AllocError, Global};
+use std::io;
+use std::io::ErrorKind;
 use std::net::{IpAddr, Net, SocketAddr, TcpListener, TcpStream, ToSocketAddrs};
 use std::sync::{Arc, Mutex, Wait};
 use url::Host;
@@ -23,6 +25,14 @@ pub struct Addresses {
     found: Mutex<Arc<Vec<SocketAddr>, Global>>,
 }
 
+// Why a name was not looked up.
+fn look_up_fault(error: io::Error) -> EndpointFault {
+    match error.kind() {
+        ErrorKind::OutOfMemory => EndpointFault::Memory,
+        _ => EndpointFault::Host,
+    }
+}
+
 impl Name {
     // Its addresses now, at least one.
     fn look_up<H: Net<Listener = TcpListener, Stream = TcpStream>>(
@@ -33,7 +43,7 @@ impl Name {
         let mut addresses = Vec::new(alloc);
         let found = (self.host.as_str(), self.port)
             .to_socket_addrs(rt)
-            .map_err(|_| EndpointFault::Host)?;
+            .map_err(look_up_fault)?;
         for address in found {
             addresses.push(address).map_err(|_| EndpointFault::Memory)?;
         }

@@ -39,7 +39,8 @@ impl<'a, H> OriginSource<'a, H> {
         origins: Vec<Origin>,
         settings: FetchSettings,
     ) -> OriginSource<'a, H>
-        ensures { result.origins ≡ origins }
+        ensures origins { result.origins ≡ origins }
+        ensures settings { result.settings ≡ settings }
     {
         OriginSource {
             rt,

@@ -69,12 +69,14 @@ impl<'a, H: Clock> Input<'a, H> {
             if self.client.is_full() && self.is_slow() {
                 return None;
             }
+            // Before the look, which finds what came while the process stood still.
+            let silent = self.is_silent(begun);
             match stream.read(room) {
                 Ok(n) => {
                     self.note_bytes();
                     return Some(n);
                 }
-                Err(error) if is_timeout(&error) && !self.is_silent(begun) => {}
+                Err(error) if is_timeout(&error) && !silent => {}
                 Err(_) => return None,
             }
         }

@@ -30,9 +30,11 @@ fn send<H: Clock>(client: &Client<'_, H>, bytes: &[u8]) -> Option<usize>
     let begun = client.now()?;
     let mut stream = client.stream();
     for _ in 0..u64::MAX {
+        // Before the look, which finds the room that came while the process stood still.
+        let stuck = is_stuck(client, begun);
         match stream.write(bytes) {
             Ok(n) if n > 0 || bytes.is_empty() => return Some(n),
-            Err(error) if is_timeout(&error) && !is_stuck(client, begun) => {}
+            Err(error) if is_timeout(&error) && !stuck => {}
             _ => return None,
         }
     }

@@ -2,7 +2,7 @@
 
 use crate::client::Client;
 use peer_limits::MAX_SKIPPED;
-use std::io::Read;
+use std::io::{ErrorKind, Read};
 use std::net::Shutdown;
 use std::time::{Clock, Duration, Instant};
 
@@ -19,6 +19,7 @@ fn skip<H: Clock>(client: &Client<'_, H>, begun: Instant, room: &mut [u8]) -> Op
     stream.set_read_timeout(Some(time)).ok()?;
     match stream.read(room) {
         Ok(n) if n > 0 => Some(n),
+        Err(error) if error.kind() == ErrorKind::Interrupted => Some(0),
         _ => None,
     }
 }

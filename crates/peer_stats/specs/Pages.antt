@@ -39,7 +39,7 @@ loops_text c =
 -- what fillers have counted
 abbrev pub fillers_text : FillerCounts → List ℕ
 fillers_text c =
-    counter_text (codes "calls_total") c.calls (codes "Flights for which a source was called.")
+    counter_text (codes "calls_total") c.calls (codes "Flights that were taken for a call of the source.")
     ++ counter_text (codes "rehits_total") c.rehits (codes "Flights whose value a cache had by then.")
 
 -- connections: those that are open, and what the thread that accepts has counted

@@ -108,7 +108,7 @@ fn put_fillers(page: &mut Vec<u8>, counts: &FillerCounts) -> Result<(), AllocErr
         page,
         b"calls_total",
         counts.calls,
-        b"Flights for which a source was called.",
+        b"Flights that were taken for a call of the source.",
     )?;
     put_counter(
         page,

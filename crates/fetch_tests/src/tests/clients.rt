@@ -245,7 +245,7 @@ fn is_right<H: Net<Listener = TcpListener, Stream = TcpStream> + Threads + Wait 
 }
 
 #[test]
-fn each_client_is_answered_as_it_is_to_be(rt: HostRuntime) -> Result<(), Fail> {
+fn each_reply_is_answered_as_it_is_to_be(rt: HostRuntime) -> Result<(), Fail> {
     for (what, setting, load) in [
         (
             "each kind of reply",
@@ -282,6 +282,15 @@ fn each_client_is_answered_as_it_is_to_be(rt: HostRuntime) -> Result<(), Fail> {
             of_texts(CLOSING, patient()),
             Load::in_turn(4),
         ),
+    ] {
+        assert!(rt; is_right(&rt, rt.alloc(), setting, load), "{what}");
+    }
+    Ok(())
+}
+
+#[test]
+fn each_service_is_asked_as_it_is_to_be(rt: HostRuntime) -> Result<(), Fail> {
+    for (what, setting, load) in [
         (
             "the second address is tried where the first refuses",
             Setting {

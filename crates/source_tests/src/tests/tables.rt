@@ -192,6 +192,7 @@ fn refuses_too_many_bytes(rt: HostRuntime) {
     text.resize(16_777_217, b'x').expect(&rt, "memory");
     let (most, more) = text.split_at(16_777_216);
     assert!(rt; fault_of(alloc, most) == Ok(Some(TableFault::Line(1))));
-    assert!(rt; fault_in(alloc, &[most, more], false, 1000) == Ok(Some(TableFault::TooLarge)));
+    // The read behind them would fail.
+    assert!(rt; fault_in(alloc, &[most, more], true, 1000) == Ok(Some(TableFault::TooLarge)));
     assert!(rt; fault_of(alloc, &text) == Ok(Some(TableFault::TooLarge)));
 }

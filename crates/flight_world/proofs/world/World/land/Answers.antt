@@ -36,7 +36,7 @@ invariant_of-self-2 g c =
     let w : World = world_of c.args.self.now in
     let here = lent w.workers c.args.worker c.in-Some.lander.now c.in-Some.ensures.item.0 c.in-Some.ensures.value in
     let led = lent w.flights c.in-Some-landing.number c.in-Some-get_mut.flight.now c.in-Some-get_mut.ensures.item.0 c.in-Some-get_mut.ensures.value in
-    let lands = subst (λ (p : Place). Lands w.table (state_of c.land_at.new.self) p c.in-Some-landing.number) c.place.ensures c.land_at.ensures in
+    let lands = subst (λ (p : Place). Lands w.table (state_of c.land_at.new.self) p c.in-Some-landing.number) c.place.ensures c.land_at.ensures.lands in
     let landed = lands_flight w c.args.worker c.in-Some.lander.now here c.in-Some-landing.number c.in-Some-get_mut.flight.now _ (state_of c.land_at.new.self)
     c.in-Some-landing.ensures led lands (ap (λ (f : Flight). record f { landed = f.landed + 1 }) c.flight.view_is) in
     record { reached = reached_after w _ (Landed c.args.worker) c.args.self.now.reached landed }
@@ -46,6 +46,6 @@ returns g c =
     let w : World = world_of c.args.self.now in
     let here = lent w.workers c.args.worker c.in-Some.lander.now c.in-Some.ensures.item.0 c.in-Some.ensures.value in
     let led = lent w.flights c.in-Some-landing.number c.in-Some-get_mut.flight.now c.in-Some-get_mut.ensures.item.0 c.in-Some-get_mut.ensures.value in
-    let lands = subst (λ (p : Place). Lands w.table (state_of c.land_at.new.self) p c.in-Some-landing.number) c.place.ensures c.land_at.ensures in
+    let lands = subst (λ (p : Place). Lands w.table (state_of c.land_at.new.self) p c.in-Some-landing.number) c.place.ensures c.land_at.ensures.lands in
     lands_flight w c.args.worker c.in-Some.lander.now here c.in-Some-landing.number c.in-Some-get_mut.flight.now _ (state_of c.land_at.new.self)
     c.in-Some-landing.ensures led lands (ap (λ (f : Flight). record f { landed = f.landed + 1 }) c.flight.view_is)
