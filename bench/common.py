@@ -1,6 +1,7 @@
 """What several scripts of this folder share: a free port, a request, a server that ends with its block, a service, rows, and words
 of the command line."""
 import argparse
+import shutil
 import socket
 import subprocess
 import sys
@@ -20,6 +21,13 @@ def ask(address, path):
         return b"".join(iter(lambda: stream.recv(10000), b""))
 
 
+def may_have_its_own(what):
+    """Whether a process may be started in a namespace of its own of this kind (unshare(1)), as a rule by root alone."""
+    if shutil.which("unshare") is None:
+        return False
+    return subprocess.run(["unshare", f"--{what}", "true"], stderr=subprocess.DEVNULL, check=False).returncode == 0
+
+
 class Started:
     """A process, `self.process`, that is killed where its block ends."""
 
@@ -32,14 +40,14 @@ class Started:
 
 
 class Listening(Started):
-    """A built peer_front on a free port, which listens."""
+    """A built peer_front on a free port, which listens. Its standard error goes to a file, or nowhere."""
 
-    def __init__(self, program, *words):
+    def __init__(self, program, *words, said=subprocess.DEVNULL):
         # A connection of somebody else may take the port before the server does.
         for _ in range(3):
             self.address = ("127.0.0.1", free_port())
             command = [program, "--listen", "%s:%d" % self.address, *words]
-            self.process = subprocess.Popen(command, stdin=subprocess.DEVNULL, stdout=subprocess.PIPE, stderr=subprocess.DEVNULL)
+            self.process = subprocess.Popen(command, stdin=subprocess.DEVNULL, stdout=subprocess.PIPE, stderr=said)
             if self.process.stdout.readline():
                 return
             self.process.wait()

@@ -15,9 +15,11 @@ are let go too; `--timeout` is how long a value may take; a value above `--cache
 Its last line is `rows N failures 0`; where a row fails, so does the program.
 """
 import os
+import re
 import resource
 import socket
 import sys
+import tempfile
 import threading
 import time
 import urllib.request
@@ -49,8 +51,11 @@ class Counted(Listening):
     """A server with a page of counters."""
 
     def __init__(self, *words):
-        self.page = free_port()
-        super().__init__(PROGRAM, "--stats", str(self.page), *words)
+        with tempfile.TemporaryFile() as said:
+            super().__init__(PROGRAM, "--stats", "127.0.0.1:0", *words, said=said)
+            # It writes at the place in the file that it shares with this script.
+            told = os.pread(said.fileno(), 10000, 0)
+        self.page = int(re.findall(rb"healthz at 127\.0\.0\.1:(\d+)", told)[-1])
 
     def ask(self, path):
         return ask(self.address, path)

@@ -138,7 +138,7 @@ STARTS = [
      "5 groups at ADDR, 10000 connections at most, on 2 loops, and fetches on 2 threads, 1 value under way on each"),
 ]
 
-# services, and those of them whose keys stand right behind a name, which the program asks about
+# services, and those of them whose keys stand right behind a name, of which the program prints a line
 PREFIXES = [
     (["a=http://127.0.0.1:1", "b=" + URL + "v/", "c=" + URL + "v?k="], []),
     (["a=" + URL + "v"], ["a=" + URL + "v"]),
@@ -177,6 +177,9 @@ TAKEN_WORDS = [
     ["--demo", "--stats", "127.0.0.1:0"],
 ]
 
+# standard streams that are closed when the program starts
+CLOSED = [0, 2]
+
 
 def ended_at_once(words, files=20000, output=subprocess.PIPE):
     """The status and standard error of a program that has no input and may open so many files, and whose output goes there."""
@@ -207,6 +210,16 @@ def told_at_once(sent):
     words = [ON_TERM, "sh", "-c", f"kill -{int(sent)} $PPID; cat; echo ended"]
     run = subprocess.run(words, stdout=subprocess.PIPE, timeout=30, check=False)
     return run.stdout, run.returncode
+
+
+def held_for(stream):
+    """What has the number of this standard stream in a server that was started with it closed."""
+    run = subprocess.Popen([PROGRAM] + HERE + ["--demo"], stdout=subprocess.PIPE, preexec_fn=lambda: os.close(stream))
+    run.stdout.readline()
+    held = os.readlink(f"/proc/{run.pid}/fd/{stream}")
+    run.kill()
+    run.wait()
+    return held
 
 
 def hides_port(told):
@@ -264,7 +277,14 @@ for sent, tell, text in SIGNALS:
         failures += 1
         print("sent", sent, tell.__name__, "printed", printed, "status", ended)
 
+for stream in CLOSED:
+    held = held_for(stream)
+    if held != "/dev/null":
+        failures += 1
+        print("standard stream", stream, "was closed, and is", held)
+
 for name in (GOOD, BAD, TWICE, LARGE, ECHO):
     os.unlink(name)
-print("rows", len(ROWS) + len(STARTS) + len(PREFIXES) + len(FEW_FILES) + len(REFUSED) + len(TAKEN_WORDS) + len(SIGNALS), "failures", failures)
+counted = [ROWS, STARTS, PREFIXES, FEW_FILES, REFUSED, TAKEN_WORDS, SIGNALS, CLOSED]
+print("rows", sum(len(rows) for rows in counted), "failures", failures)
 sys.exit(1 if failures else 0)

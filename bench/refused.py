@@ -291,6 +291,17 @@ def adds_up(line):
     return asked == hits + led + joined and led == calls + rehits + left, asked
 
 
+def ended(process):
+    """The status of a server, its totals and its lines on standard error, once it has ended."""
+    try:
+        out, err = process.communicate(timeout=PATIENCE)
+    except subprocess.TimeoutExpired:
+        process.kill()
+        process.communicate()
+        return None, "", "it hangs"
+    return process.returncode, out.decode(), err.decode()
+
+
 class Server:
     """A server of the program, under the library."""
 
@@ -300,16 +311,6 @@ class Server:
         self.process = subprocess.Popen(words, env=tools.environment, stdout=subprocess.PIPE, stderr=subprocess.PIPE, preexec_fn=limit)
         started.append(self.process)
         self.first = self.process.stdout.readline()
-
-    def ended(self):
-        """Its status, its totals and its line on standard error, once it has ended."""
-        try:
-            out, err = self.process.communicate(timeout=PATIENCE)
-        except subprocess.TimeoutExpired:
-            self.process.kill()
-            self.process.communicate()
-            return None, "", "it hangs"
-        return self.process.returncode, out.decode(), err.decode()
 
 
 # the lines of a server that ends since a growth was refused, by its status
@@ -321,7 +322,7 @@ def server_run(tools, first, last):
     tools.page.clear(first, last, armed=1)
     server = Server(tools, 1, 1, 1)
     got, reset = exchange(server.port, THREE) if server.first else (b"", False)
-    status, totals, line = server.ended()
+    status, totals, line = ended(server.process)
     refused = tools.page.get("refused")
     whole = b"".join(REPLIES)
     if status == 0 and not line and server.first == b"listening\n" and adds_up(totals)[0]:
@@ -387,7 +388,7 @@ def refused_threads(tools, folder, only):
     sleeper.kill()
     sleeper.wait()
     replies, _ = exchange(one_seat.port, THREE)
-    status, totals, _ = one_seat.ended()
+    status, totals, _ = ended(one_seat.process)
     if nothing or replies != b"".join(REPLIES) or status != 0 or adds_up(totals) != (True, 3):
         note("threads", f"{len(nothing)} bytes without a reader, then {len(replies)}, status {status}, {totals}")
     print(f"a seat whose reader gets no thread: {len(nothing)} bytes, and {len(replies)} for its next client; {totals.strip()}", flush=True)
@@ -505,7 +506,7 @@ def under_load(tools, seconds):
     taken = time.monotonic() - begin
     tools.page.set("armed", 0)
     together([(load.use_up,)] * clients)
-    status, totals, line = server.ended()
+    status, totals, line = ended(server.process)
     fits, asked = adds_up(totals)
     for fault in load.faults[:10]:
         note("load", fault)
@@ -544,4 +545,5 @@ def main():
     sys.exit(1 if wrong else 0)
 
 
-main()
+if __name__ == "__main__":
+    main()

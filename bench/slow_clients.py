@@ -125,7 +125,7 @@ def one_whose_request_came_whole_while_its_server_stood_still():
         return client.recv(10000).endswith(b"\x0a\x01k")
 
 
-def is_given_behind_a_stop(_):
+def is_given_behind_a_stop(reply):
     """A value that comes while the server is stopped, until its time is over."""
     asked, may_answer = threading.Event(), threading.Event()
 
@@ -133,7 +133,7 @@ def is_given_behind_a_stop(_):
         stream.recv(10000)
         asked.set()
         may_answer.wait(10)
-        stream.sendall(b"HTTP/1.1 200 OK\r\nContent-Length: 5\r\n\r\nvalue")
+        stream.sendall(reply)
 
     with Listening(PROGRAM, "--timeout", "2", "g=" + Service(serve).url) as server:
         with socket.create_connection(server.address, 10) as client:
@@ -149,7 +149,12 @@ def is_given_behind_a_stop(_):
 
 def a_value_that_came_while_the_server_stood_still():
     with ThreadPool(SERVERS) as pool:
-        return all(pool.map(is_given_behind_a_stop, range(SERVERS)))
+        return all(pool.map(is_given_behind_a_stop, [b"HTTP/1.1 200 OK\r\nContent-Length: 5\r\n\r\nvalue"] * SERVERS))
+
+
+def a_value_whose_end_came_while_the_server_stood_still():
+    with ThreadPool(SERVERS) as pool:
+        return all(pool.map(is_given_behind_a_stop, [b"HTTP/1.1 200 OK\r\n\r\nvalue"] * SERVERS))
 
 
 run_rows(
@@ -159,5 +164,6 @@ run_rows(
         those_who_asked_while_their_server_stood_still,
         one_whose_request_came_whole_while_its_server_stood_still,
         a_value_that_came_while_the_server_stood_still,
+        a_value_whose_end_came_while_the_server_stood_still,
     ]
 )

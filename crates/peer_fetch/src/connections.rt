@@ -25,7 +25,7 @@ pub struct Connections<'a, S: Source> {
     idle: Idle,
     // Those that are to have a turn.
     ready: VecDeque<usize>,
-    // The time since the thread began, as it was when it last waited.
+    // The time since the thread began, as it was told last.
     now: Duration,
     // When something is to be given up next. It may be too early, and never is too late.
     next_due: Option<Duration>,
@@ -208,9 +208,13 @@ impl<'a, S: Source> Connections<'a, S> {
         }
     }
 
-    /// It is so late. Has those have a turn that are to be given up.
+    /// It is so late.
     pub fn tell_time(&mut self, now: Duration) {
         self.now = now;
+    }
+
+    /// Has those have a turn that are to be given up by now.
+    pub fn give_up_late(&mut self) {
         if self.is_due() {
             self.sweep();
         }

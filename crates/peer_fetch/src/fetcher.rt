@@ -106,9 +106,18 @@ impl<'a, S: Source> Fetcher<'a, S> {
         self.connections.note(event);
     }
 
-    /// It is so late. Has those have a turn that are to be given up.
-    pub fn tell_time(&mut self, now: Duration) {
-        self.connections.tell_time(now);
+    // How late it is, by the clock. Where that cannot be read it is as late as it was.
+    fn read_clock<H: Network>(&mut self, system: &System<'_, H>) -> Duration {
+        if let Some(now) = system.now() {
+            self.connections.tell_time(now);
+        }
+        self.connections.now()
+    }
+
+    /// Has those have a turn that are to be given up by now.
+    pub fn give_up_late<H: Network>(&mut self, system: &System<'_, H>) {
+        self.read_clock(system);
+        self.connections.give_up_late();
     }
 
     // Asks for a value on a connection that is kept for its endpoint, or a new one.
@@ -143,8 +152,7 @@ impl<'a, S: Source> Fetcher<'a, S> {
         requires own { IsOfGroup at job.place.group }
     {
         let due = self
-            .connections
-            .now()
+            .read_clock(system)
             .saturating_add(self.settings.fetch.value);
         let service = self.shares.service(at.number());
         match UnderWay::begin(self.alloc, at, job, due) {
@@ -179,7 +187,7 @@ impl<'a, S: Source> Fetcher<'a, S> {
         system: &System<'_, H>,
         under: UnderWay<'a, S>,
     ) -> Option<Done<'a, S>> {
-        let now = self.connections.now();
+        let now = self.read_clock(system);
         if under.due() <= now {
             return Some(under.done(Err(FetchFault::Late)));
         }

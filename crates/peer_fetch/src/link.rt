@@ -11,11 +11,11 @@ use crate::opening::Untried;
 use crate::transfer::{Halt, receive, send};
 use mio::event::Event;
 use mio::net::TcpStream;
-use peer_origin::{Failure, FetchFault};
+use peer_origin::{Failure, FetchFault, is_to_itself};
 use peer_poll::{Readiness, would_block};
 use peer_source::Source;
 use peer_value::{Answer, Done, UnderWay};
-use std::io::ErrorKind;
+use std::io::{ErrorKind, Write};
 use std::time::Duration;
 
 /// That another request may follow on a connection. Its turn alone says so.
@@ -94,6 +94,12 @@ fn progress_of(stream: &TcpStream) -> Connecting {
         return Connecting::Failed;
     };
     match stream.peer_addr() {
+        Ok(peer) if is_to_itself(stream.local_addr(), peer) => {
+            // So that its close gives the port back at once.
+            let mut stream = stream;
+            let _ = stream.write(b"x");
+            Connecting::Failed
+        }
         Ok(_) => Connecting::Connected,
         Err(error) if error.kind() == ErrorKind::NotConnected => Connecting::Waits,
         Err(_) => Connecting::Failed,
@@ -189,8 +195,9 @@ impl<'a, S: Source> Link<'a, S> {
         ensures number { self.new.number ≡ self.old.number }
     {
         let mut under = under;
-        // Of what came while the process stood still no event need have told.
+        // Of what came while the process stood still no event need have told, nor of the end behind it.
         self.readiness.readable |= late;
+        self.readiness.read_closed |= late;
         let halt = match send(&mut self.stream, &mut under) {
             Some(halt) => halt,
             None => match receive(&mut self.stream, &mut under, buffer, &mut self.readiness) {

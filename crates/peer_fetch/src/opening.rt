@@ -10,12 +10,22 @@ use peer_origin::Addresses;
 use std::alloc::{AllocError, Global};
 use std::net::SocketAddr;
 use std::sync::{Arc, Wait};
+use std::time::{Clock, Duration, Instant};
 
-/// The runtime, and where streams are registered for events.
+/// The runtime, where streams are registered for events, and when the thread began.
 #[derive(Drop)]
 pub struct System<'r, H> {
     pub rt: &'r H,
     pub registry: &'r Registry,
+    /// None where the clock could not be read.
+    pub begun: Option<Instant>,
+}
+
+impl<'r, H: Clock> System<'r, H> {
+    /// How long ago the thread began, or none where the clock cannot be read.
+    pub fn now(&self) -> Option<Duration> {
+        self.begun?.elapsed(self.rt).ok()
+    }
 }
 
 /// The addresses of a host that a connection has not tried yet. Where others are found meanwhile, these stay.

@@ -51,6 +51,7 @@ struct Running<'a, S: Source> {
     events: Events,
     fetcher: Fetcher<'a, S>,
     pause: Duration,
+    begun: Option<Instant>,
 }
 
 // Gets ready to wait, and says for how long. Where there is room for a value, jobs are taken once more behind saying that
@@ -147,6 +148,7 @@ impl<'a> FetchThread<'a> {
             events,
             fetcher: Fetcher::new(alloc, plan.settings, room),
             pause: plan.settings.pause,
+            begun: Instant::now(rt).ok(),
         };
         let mut seat = seat;
         let jobs = Jobs {
@@ -176,14 +178,7 @@ impl<'a, S: Source> Running<'a, S> {
         }
     }
 
-    // Tells the time.
-    fn tell_time<H: Clock>(&mut self, rt: &H, begun: Option<Instant>) {
-        if let Some(now) = begun.and_then(|begun| begun.elapsed(rt).ok()) {
-            self.fetcher.tell_time(now);
-        }
-    }
-
-    // One turn: takes jobs, serves those that are ready, and waits. Whether all is done.
+    // One turn: gives up what is late, takes jobs, serves those that are ready, and waits. Whether all is done.
     fn turn<L: Ledger, G: Gate, H: Network>(
         &mut self,
         rt: &H,
@@ -199,7 +194,9 @@ impl<'a, S: Source> Running<'a, S> {
         let system = System {
             rt,
             registry: self.poll.registry(),
+            begun: self.begun,
         };
+        self.fetcher.give_up_late(&system);
         if work_on(&system, jobs, seat, &mut self.fetcher, waker) {
             return true;
         }
@@ -221,12 +218,10 @@ impl<'a, S: Source> Running<'a, S> {
         ensures seat { IsLaterSeat jobs.now.pool.now seat.old seat.new }
         ensures done { HasNothing self.new.fetcher }
     {
-        let begun = Instant::now(rt).ok();
         for _ in rt.forever() {
             if self.turn(rt, jobs, seat, waker) {
                 return;
             }
-            self.tell_time(rt, begun);
         }
         unreachable!()
     }

@@ -4,8 +4,8 @@ ghost use Rattle.std.specs.Prelude.{◌≤◌};
 use crate::options::Options;
 use std::cmp::{max, min};
 
-// Files of the program's own, some 114 at most: two for each of 16 loops and 4 threads that fetch, 64 clients of the page of
-// counters, listeners, the standard streams.
+// Files of the program's own, some 117 at most: two for each of 16 loops and 4 threads that fetch, 64 clients of the page of
+// counters, listeners, the standard streams, and three that hold the numbers of those that are closed.
 const OWN_FILES: usize = 150;
 
 // How many files a value under way takes at most: that of its connection, and that of one which is kept.

@@ -2,9 +2,19 @@
 
 use peer_flags::{Options, Room};
 use std::alloc::Global;
-use std::fs;
-use std::fs::Files;
+use std::fs::{File, Files};
 use std::io::Read;
+use std::{fs, io};
+
+/// Three files that take the numbers of those standard streams that are closed, while they are kept: else a socket would get one,
+/// and a line of trouble would go to whoever is at its other end.
+pub fn hold_streams(rt: &HostRuntime) -> [io::Result<File>; 3] {
+    [
+        fs::open(rt, "/dev/null"),
+        fs::open(rt, "/dev/null"),
+        fs::open(rt, "/dev/null"),
+    ]
+}
 
 // How many files the process may open by its soft limit (proc(5), `/proc/self/limits`). None where the system does not say
 // so, or names no number.

@@ -18,6 +18,7 @@ mod troubles;
 mod until_eof;
 
 use crate::exit::{BAD_WORD, DONE, Exit, OUT_OF_MEMORY, no_output, refuse};
+use crate::files::hold_streams;
 use crate::serve::{check_flags, serve};
 use clap::error::ErrorKind;
 use clap::{ArgMatches, Error};
@@ -41,7 +42,10 @@ fn main(rt: HostRuntime) -> ExitCode {
         return out_of_memory(&rt).code();
     };
     match command.try_get_matches_from(words.as_slice()) {
-        Ok(matches) => run(&rt, &matches).code(),
+        Ok(matches) => {
+            let _streams = hold_streams(&rt);
+            run(&rt, &matches).code()
+        }
         Err(error) => say_unmatched(&rt, &error).code(),
     }
 }

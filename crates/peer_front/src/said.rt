@@ -80,8 +80,8 @@ fn ends_a_part(prefix: &[u8]) -> bool {
     prefix.ends_with(b"/") || prefix.ends_with(b"=")
 }
 
-/// Asks on standard error whether it is meant that keys stand right behind the last part of a service's URL. The words name
-/// the services in the order of their endpoints.
+/// Says on standard error which services have keys right behind the last part of their URL, which may not be meant. The words
+/// name the services in the order of their endpoints.
 pub fn say_prefixes<H: AllocGlobal + Eprint>(rt: &H, words: &[&str], endpoints: &[Endpoint]) {
     for (word, endpoint) in words.iter().zip(endpoints.iter()) {
         if !ends_a_part(endpoint.prefix.as_slice()) {

@@ -2,7 +2,7 @@
 use mathlib.Core.Logic.{∥∥₁_map}
 use Rattle.std.proofs.KnownBytes.{Appends-trans}
 use Rattle.std.specs.Io.KnownBytes.{Appends}
-use Rattle.std.proofs.Common.{Bool, true, false, true≢false, ◌≡◌, ℕ, ◌≤◌, ◌==◌, ◌&&◌, ◌↔◌, ◌∷◌, length, IsTrue, IfOk, IfSome, List, [], ◌++◌, drop, Option, Some, None, Result, Ok, Err, sym, refl, ap, ◌∙◌, subst, subst₂, append_assoc, append-nil, arith}
+use Rattle.std.proofs.Common.{Bool, true, false, true≢false, ◌≡◌, ◌≢◌, ℕ, ◌≤◌, ◌==◌, ◌&&◌, ◌↔◌, ◌∷◌, length, IsTrue, IfErr, IfOk, IfSome, List, [], ◌++◌, drop, Option, Some, None, Result, Ok, Err, sym, refl, ap, ◌∙◌, subst, subst₂, append_assoc, append-nil, arith}
 use Rattle.http1.specs.declared.client.Client.{Client}
 use Rattle.http1.specs.declared.conn.Reading.TheVariants as Reads
 use Rattle.http1.specs.declared.decode.Decoder.{Decoder}
@@ -12,7 +12,7 @@ use Rattle.http1.specs.Client.{IsIdle}
 use Rattle.http1.specs.Decoder.{Completes, decoder_for, with_front}
 use Rattle.http1.proofs.OneParse.{body_from_completes}
 use Rattle.peer_http.specs.Requests.{LIMITS}
-use Rattle.peer_http.specs.Replies.{Interims, IsReply, IsReplyBefore, IsReplyKept, ReadsOn, TakesEnd, TakesFinal, TakesNothing, TakesPiece}
+use Rattle.peer_http.specs.Replies.{HasHead, Interims, IsToldOf, IsReply, IsReplyBefore, IsReplyKept, ReadsOn, TakesEnd, TakesFinal, TakesNothing, TakesPiece}
 use Rattle.peer_http.specs.Receivings.{EndsOpen, FindsHead, IsInContent, IsReadTo, IsStanding, IsStandingBefore, MayAskAgain, Proceeds, TakesContent}
 use Rattle.peer_http.specs.declared.stage.Stage.{Stage}
 use Rattle.peer_http.specs.declared.stage.Stage.TheVariants as stage
@@ -62,6 +62,32 @@ begins came c unread unread' status is t = (
     t.alive,
   ),
 )
+
+-- it came
+pub has_head : (came : List ℕ) (c : Client) (unread unread' : List ℕ) (status : ℕ) → Interims came unread → TakesFinal c unread unread' status → HasHead came status
+has_head came c unread unread' status is t = record {
+  start = unread;
+  interims = is;
+  head = t.head;
+  framing = t.framing;
+  rest = unread';
+  accepts = t.accepts;
+  final = t.final;
+  code = t.code;
+}
+
+-- and stays, whatever comes behind it
+pub head_append : (came later : List ℕ) (status : ℕ) → HasHead came status → HasHead (came ++ later) status
+head_append came later status h = record {
+  start = h.start ++ later;
+  interims = interims_append came h.start later h.interims;
+  head = h.head;
+  framing = h.framing;
+  rest = h.rest ++ later;
+  accepts = accepts_append h.start h.head h.framing h.rest later h.accepts;
+  final = h.final;
+  code = h.code;
+}
 
 -- what holds for one reason holds for what gives that
 weaken : {K K' : Type 0} {text : List ℕ} {status : ℕ} {value rest : List ℕ} → IsReplyKept K text status value rest → (K' → K) → IsReplyKept K' text status value rest
@@ -126,6 +152,27 @@ asks_again came came' c c' unread status value r grown same code body keeps alon
 pub stands_now : (came : List ℕ) (status : ℕ) (value : List ℕ) → IsStanding came status value → IsReply came status value
 stands_now came status value s = subst (λ t. IsReply t status value) (append-nil came) (s [])
 
+same_status : (s t : ℕ) → stage.Content s ≡ stage.Content t → s ≡ t
+same_status s t h = ap status_or h
+  where
+    status_or : Stage → ℕ
+    status_or (stage.Content x) = x
+    status_or stage.Head = s
+    status_or stage.Over = s
+
+-- what is known of the status of a stage is known of the stage's own
+pub head_in : (came : List ℕ) (status s : ℕ) → ∥ HasHead came status ∥₁ → stage.Content status ≡ stage.Content s → ∥ HasHead came s ∥₁
+head_in came status s h is = subst (λ x. ∥ HasHead came x ∥₁) (same_status status s is) h
+
+-- a fault within the body of a reply whose head came
+pub told_of : (came : List ℕ) (status : ℕ) (f : ReplyFault) → ∥ HasHead came status ∥₁ → ((s : ℕ) → f ≡ told.Status s → (s ≡ status) × (s ≢ 200)) → IsToldOf came f
+told_of came status told.Silent h only = tt
+told_of came status told.Lost h only = tt
+told_of came status told.Malformed h only = tt
+told_of came status told.TooLong h only = tt
+told_of came status (told.Status s) h only = let own = only s refl in (subst (λ x. ∥ HasHead came x ∥₁) (sym own.0) h, own.1)
+told_of came status told.Memory h only = tt
+
 -- no head was found
 pub waits_on : (came : List ℕ) (s : Stage) (c c' : Client) (unread unread' value : List ℕ) → s ≡ stage.Head → FindsHead c' unread unread' (Ok None) → IsReadTo came s c unread value → IsReadTo came s c' unread' value
 waits_on came s c c' unread unread' value is found h =
@@ -136,7 +183,13 @@ waits_on came s c c' unread unread' value is found h =
 pub begins_at : (came : List ℕ) (s : Stage) (c c' : Client) (status : ℕ) (unread unread' value value' : List ℕ) → s ≡ stage.Head → FindsHead c' unread unread' (Ok (Some status)) → value' ≡ [] → IsReadTo came s c unread value → IsReadTo came (stage.Content status) c' unread' value'
 begins_at came s c c' status unread unread' value value' is found empty h =
     let r = subst (λ x. IsReadTo came x c unread value) is h in
-    subst (IsInContent came status c' unread') (sym empty) (found came r.0)
+    subst (IsInContent came status c' unread') (sym empty) (found came r.0).0
+
+-- its head came
+pub head_at : (came : List ℕ) (s : Stage) (c c' : Client) (status : ℕ) (unread unread' value : List ℕ) → s ≡ stage.Head → FindsHead c' unread unread' (Ok (Some status)) → IsReadTo came s c unread value → HasHead came status
+head_at came s c c' status unread unread' value is found h =
+    let r = subst (λ x. IsReadTo came x c unread value) is h in
+    (found came r.0).1
 
 module _ (came : List ℕ) (s : Stage) (status : ℕ) (c c' : Client) (unread unread' value value' : List ℕ) (is : s ≡ stage.Content status) (h : IsReadTo came s c unread value) where
   in_content : IsInContent came status c unread value
@@ -160,14 +213,14 @@ module _ (given given' : Option (List ℕ)) (ends ends' : ℕ) (came bytes came'
   appended first before = subst (Appends first given') (sym grown) (Appends-trans first given given' came bytes before gave)
 
   -- it gave no reply yet, or the whole of one, or none for another reason than silence
-  pub receives : (result : Result (Option Reply) ReplyFault) → ends' ≡ ends → (result ≡ Err told.Silent → ⊥) → IfOk result (λ given?. IfSome given? (λ r. ∥ IsStanding came' r.status r.value.items ∥₁)) → IfOk result (λ given?. IfSome given? (λ r. length r.value.items ≤ most)) → ReadsOn given given' ends ends' came came' most result
-  receives (Ok None) untold loud stands within = (appended, untold)
-  receives (Ok (Some r)) untold loud stands within = λ first before.
+  pub receives : (result : Result (Option Reply) ReplyFault) → ends' ≡ ends → (result ≡ Err told.Silent → ⊥) → IfOk result (λ given?. IfSome given? (λ r. ∥ IsStanding came' r.status r.value.items ∥₁)) → IfOk result (λ given?. IfSome given? (λ r. length r.value.items ≤ most)) → IfErr result (IsToldOf came') → ReadsOn given given' ends ends' came came' most result
+  receives (Ok None) untold loud stands within of = (appended, untold)
+  receives (Ok (Some r)) untold loud stands within of = λ first before.
       let now = ∥∥₁_map stands (stands_now came' r.status r.value.items) in
       ((came', appended first before, (now, λ same later. ∥∥₁_map stands (λ h. h later))), within)
-  receives (Err told.Silent) untold loud stands within = absurd (loud refl)
-  receives (Err told.Lost) untold loud stands within = λ first before. tt
-  receives (Err told.Malformed) untold loud stands within = λ first before. tt
-  receives (Err told.TooLong) untold loud stands within = λ first before. tt
-  receives (Err (told.Status code)) untold loud stands within = λ first before. tt
-  receives (Err told.Memory) untold loud stands within = λ first before. tt
+  receives (Err told.Silent) untold loud stands within of = absurd (loud refl)
+  receives (Err told.Lost) untold loud stands within of = λ first before. tt
+  receives (Err told.Malformed) untold loud stands within of = λ first before. tt
+  receives (Err told.TooLong) untold loud stands within of = λ first before. tt
+  receives (Err (told.Status code)) untold loud stands within of = λ first before. (came', appended first before, of)
+  receives (Err told.Memory) untold loud stands within of = λ first before. tt

@@ -8,7 +8,7 @@ use Rattle.http1.specs.Body.{Body}
 use Rattle.http1.specs.Client.{IsIdle}
 use Rattle.http1.specs.Decoder.{Completes}
 use Rattle.peer_http.specs.Requests.{Awaits}
-use Rattle.peer_http.specs.Replies.{Interims, IsReply, IsReplyBefore, IsReplyKept, Persists}
+use Rattle.peer_http.specs.Replies.{HasHead, Interims, IsReply, IsReplyBefore, IsReplyKept, Persists}
 use Rattle.peer_http.specs.declared.fault.Fault.{Fault}
 use Rattle.peer_http.specs.declared.fault.ReplyFault.{ReplyFault}
 use Rattle.peer_http.specs.declared.reply.Reply.{Reply}
@@ -51,7 +51,7 @@ MayAskAgain came c r = IsIdle c × ∥ EndsOpen came r.status r.value.items ∥�
 
 -- what a client finds of heads in what is unread
 abbrev pub FindsHead : Client → List ℕ → List ℕ → Result (Option ℕ) Fault → Type 0
-FindsHead c unread unread' (Ok (Some status)) = (came : List ℕ) → Interims came unread → IsInContent came status c unread' []
+FindsHead c unread unread' (Ok (Some status)) = (came : List ℕ) → Interims came unread → IsInContent came status c unread' [] × HasHead came status
 FindsHead c unread unread' (Ok None) = Awaits c × ((came : List ℕ) → Interims came unread → Interims came unread')
 FindsHead c unread unread' (Err f) = Unit {0}
 

@@ -79,14 +79,34 @@ abbrev pub GaveReply : Option (List ℕ) → Option (List ℕ) → ℕ → ℕ �
 GaveReply given given' ends ends' most r =
     ((text : List ℕ) × Appends given given' text × StandsAs ends ends' text r.status r.value.items) × (length r.value.items ≤ most)
 
--- what reading a reply answers: the reply, or a fault, of which `Silent` says that no byte came
+-- behind interim responses the text has the whole head of a final one, whose status this is
+pub record HasHead (text : List ℕ) (status : ℕ) : Type 0 where
+  pub start : List ℕ
+  pub interims : Interims text start
+  pub head : ResponseHead
+  pub framing : Framing
+  pub rest : List ℕ
+  pub accepts : AcceptsResponse LIMITS Other start head framing rest
+  pub final : 200 ≤ status
+  pub code : status ≡ status_code head
+
+-- a status that is told as a fault is that of the final reply whose head came, and not 200
+abbrev pub IsToldOf : List ℕ → ReplyFault → Type 0
+IsToldOf came fault.Silent = Unit {0}
+IsToldOf came fault.Lost = Unit {0}
+IsToldOf came fault.Malformed = Unit {0}
+IsToldOf came fault.TooLong = Unit {0}
+IsToldOf came (fault.Status code) = ∥ HasHead came code ∥₁ × (code ≢ 200)
+IsToldOf came fault.Memory = Unit {0}
+
+-- what reading a reply answers: the reply, or a fault, of which `Silent` says that no byte came, and `Status` that a head did
 abbrev pub RepliesAs : Option (List ℕ) → Option (List ℕ) → ℕ → ℕ → ℕ → Result Reply ReplyFault → Type 0
 RepliesAs given given' ends ends' most (Ok r) = GaveReply given given' ends ends' most r
 RepliesAs given given' ends ends' most (Err fault.Silent) = Appends given given' []
 RepliesAs given given' ends ends' most (Err fault.Lost) = Unit {0}
 RepliesAs given given' ends ends' most (Err fault.Malformed) = Unit {0}
 RepliesAs given given' ends ends' most (Err fault.TooLong) = Unit {0}
-RepliesAs given given' ends ends' most (Err (fault.Status code)) = Unit {0}
+RepliesAs given given' ends ends' most (Err (fault.Status code)) = (text : List ℕ) × Appends given given' text × IsToldOf text (fault.Status code)
 RepliesAs given given' ends ends' most (Err fault.Memory) = Unit {0}
 
 -- what a read answers behind bytes that came: the reply, where these and what was read make it, or nothing yet

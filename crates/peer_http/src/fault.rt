@@ -1,5 +1,5 @@
 //! Why there is no reply.
-ghost use Rattle.std.specs.Prelude.{◌≢◌};
+ghost use Rattle.std.specs.Prelude.{◌≡◌, ◌≢◌, ℕ};
 ghost use Rattle.peer_http.specs.declared.fault.ReplyFault.TheVariants as told;
 
 /// Why there is no reply.
@@ -36,7 +36,8 @@ pub(crate) enum Fault {
 
 /// What a fault within a reply is for the caller.
 pub(crate) fn reply_fault(fault: Fault) -> ReplyFault
-    ensures { result ≢ told.Silent }
+    ensures silent { result ≢ told.Silent }
+    ensures status { (s : ℕ) → result ≢ told.Status s }
 {
     match fault {
         Fault::Lost => ReplyFault::Lost,
@@ -48,7 +49,8 @@ pub(crate) fn reply_fault(fault: Fault) -> ReplyFault
 
 /// What a fault within the body of a reply of this status is for the caller.
 pub(crate) fn content_fault(fault: Fault, status: u16) -> ReplyFault
-    ensures { result ≢ told.Silent }
+    ensures silent { result ≢ told.Silent }
+    ensures status { (s : ℕ) → result ≡ told.Status s → (s ≡ status) × (s ≢ 200) }
 {
     match fault {
         Fault::Lost | Fault::Malformed | Fault::TooLong if status != 200 => {

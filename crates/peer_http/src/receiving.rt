@@ -2,12 +2,12 @@
 //!
 //! It stands on `heads` and `content`, and on a history of the bytes that came, which only contracts see.
 //! It promises of a reply that is given that the bytes that came begin with it, and, where another request may follow on the
-//! connection, that they are this reply and nothing behind it.
-ghost use Rattle.std.specs.Prelude.{◌≡◌, ◌≢◌, ◌≤◌, ◌↔◌, ◌++◌, [], length, true, Err, IfOk, IfSome, IsTrue, Ok};
+//! connection, that they are this reply and nothing behind it; and of a status that is told as a fault that they have its head.
+ghost use Rattle.std.specs.Prelude.{◌≡◌, ◌≢◌, ◌≤◌, ◌↔◌, ℕ, ◌++◌, [], length, true, Err, IfErr, IfOk, IfSome, IsTrue, Ok};
 ghost use Rattle.http1.specs.Client.{IsIdle};
 ghost use Rattle.peer_http.specs.Requests.{Awaits};
 ghost use Rattle.peer_http.specs.Receivings.{IsReadTo, IsStanding, MayAskAgain, ReadsBody};
-ghost use Rattle.peer_http.specs.Replies.{IsReply};
+ghost use Rattle.peer_http.specs.Replies.{HasHead, IsReply, IsToldOf};
 ghost use Rattle.peer_http.specs.declared.stage.Stage.TheVariants as at;
 ghost use Rattle.peer_http.specs.declared.fault.ReplyFault.TheVariants as told;
 
@@ -40,6 +40,7 @@ pub struct Receiving {
     ghost within: { length value.items ≤ most },
     ghost silence: { IsTrue silent ↔ came.bytes ≡ [] },
     ghost awaits: { stage ≡ at.Head → Awaits client },
+    ghost head: { (s : ℕ) → stage ≡ at.Content s → ∥ HasHead came.bytes s ∥₁ },
     ghost reads: { ∥ IsReadTo came.bytes stage client intake value.items ∥₁ },
 }
 
@@ -67,6 +68,7 @@ impl Receiving {
         ensures came { self.new.came.bytes ≡ self.old.came.bytes ++ bytes.now }
         ensures most { self.new.most ≡ self.old.most }
         ensures silent { result ≢ Err told.Silent }
+        ensures told { IfErr result (IsToldOf self.new.came.bytes) }
     {
         self.silent &= bytes.is_empty();
         self.came = self.came.and(bytes);
@@ -84,6 +86,7 @@ impl Receiving {
         ensures came { self.new.came.bytes ≡ self.old.came.bytes }
         ensures most { self.new.most ≡ self.old.most }
         ensures silent { result ≢ Err told.Silent }
+        ensures told { IfErr result (IsToldOf self.new.came.bytes) }
     {
         let Stage::Head = self.stage else {
             return Ok(());
@@ -136,6 +139,7 @@ impl Receiving {
         ensures silent { result ≢ Err told.Silent }
         ensures over { result ≡ Ok true → self.new.stage ≡ at.Over }
         ensures reads { ReadsBody self.new.came.bytes status self.new.client self.new.intake self.new.value.items result }
+        ensures told { IfErr result (IsToldOf self.new.came.bytes) }
     {
         let mut spans = [EMPTY_HEADER_SPAN; FIELDS];
         let taken = take_content(
@@ -163,6 +167,7 @@ impl Receiving {
         ensures came { self.new.came.bytes ≡ self.old.came.bytes }
         ensures most { self.new.most ≡ self.old.most }
         ensures silent { result ≢ Err told.Silent }
+        ensures told { IfErr result (IsToldOf self.new.came.bytes) }
         ensures reply { IfOk result (λ given. IfSome given (λ r. ∥ IsStanding self.new.came.bytes r.status r.value.items ∥₁)) }
         ensures keeps { IfOk result (λ given. IfSome given (λ r. IsTrue r.keeps → MayAskAgain self.new.came.bytes self.new.client r)) }
         ensures within { IfOk result (λ given. IfSome given (λ r. length r.value.items ≤ self.new.most)) }
@@ -182,6 +187,7 @@ impl Receiving {
         ensures came { self.new.came.bytes ≡ self.old.came.bytes ++ bytes.now }
         ensures most { self.new.most ≡ self.old.most }
         ensures silent { result ≢ Err told.Silent }
+        ensures told { IfErr result (IsToldOf self.new.came.bytes) }
         ensures reply { IfOk result (λ given. IfSome given (λ r. ∥ IsStanding self.new.came.bytes r.status r.value.items ∥₁)) }
         ensures keeps { IfOk result (λ given. IfSome given (λ r. IsTrue r.keeps → MayAskAgain self.new.came.bytes self.new.client r)) }
         ensures within { IfOk result (λ given. IfSome given (λ r. length r.value.items ≤ self.new.most)) }
@@ -204,7 +210,8 @@ impl Receiving {
 
     /// Why there is no reply, where the connection ended, or failed, within it.
     pub fn cut(&self) -> ReplyFault
-        ensures { result ≡ told.Silent ↔ self.now.came.bytes ≡ [] }
+        ensures silent { result ≡ told.Silent ↔ self.now.came.bytes ≡ [] }
+        ensures told { IsToldOf self.now.came.bytes result }
     {
         match self.stage {
             _ if self.silent => ReplyFault::Silent,
@@ -221,6 +228,7 @@ impl Receiving {
         ensures keeps { IfOk result (λ r. IsTrue r.keeps → MayAskAgain self.old.came.bytes self.new.client r) }
         ensures within { IfOk result (λ r. length r.value.items ≤ self.old.most) }
         ensures silent { result ≡ Err told.Silent → self.old.came.bytes ≡ [] }
+        ensures told { IfErr result (IsToldOf self.new.came.bytes) }
     {
         let Stage::Content(status) = self.stage else {
             return Err(self.cut());

@@ -1,5 +1,5 @@
 -- What a fetch does on connections to an origin.
-use Rattle.std.specs.Prelude.{◌≡◌, ℕ, ◌≤◌, ◌⊎◌, List, [], ◌∷◌, ◌++◌, length, replicate}
+use Rattle.std.specs.Prelude.{◌≡◌, ℕ, ◌≤◌, ◌⊎◌, Bool, cond, List, [], ◌∷◌, ◌++◌, length, replicate}
 use Rattle.std.specs.Prelude.{Option, Some, None, option_map, Result, Ok, Err, OnOk}
 use Rattle.std.specs.Io.KnownBytes.{Appends}
 use Rattle.std.specs.Prelude.{Vec}
@@ -11,10 +11,21 @@ use Rattle.peer_view.specs.declared.writer.PeerWrite as Write
 use Rattle.peer_http.specs.Replies.{IsReply, RepliesAs}
 use Rattle.peer_http.specs.declared.reply.Reply.{Reply}
 use Rattle.peer_http.specs.declared.fault.ReplyFault.{ReplyFault}
+use Rattle.peer_http.specs.declared.fault.ReplyFault.TheVariants as told
 use Rattle.peer_origin.specs.declared.connections.Connection.{Connection}
 use Rattle.peer_origin.specs.declared.fault.FetchFault.{FetchFault}
+use Rattle.peer_origin.specs.declared.fault.FetchFault.TheVariants as fault
 use Rattle.peer_origin.specs.declared.exchange.Failure.{Failure}
 use Rattle.peer_origin.specs.declared.exchange.Failure.TheVariants as fail
+
+-- why an attempt gave no value, by the fault of its reply: a call that failed for its time is late, silent or in mid-reply
+abbrev pub failure_by : ReplyFault → Bool → Failure
+failure_by told.Silent late = cond late (fail.Fetch fault.Late) fail.Silent
+failure_by told.Lost late = fail.Fetch (cond late fault.Late fault.Lost)
+failure_by told.Malformed late = fail.Fetch fault.Malformed
+failure_by told.TooLong late = fail.Fetch fault.TooLong
+failure_by (told.Status status) late = fail.Fetch (fault.Status status)
+failure_by told.Memory late = fail.Fetch fault.Memory
 
 -- what was sent to the origin on a connection, what came from it, and how often its end was told, where these are known
 pub record Use : Type 0 where

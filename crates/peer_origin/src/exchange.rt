@@ -4,7 +4,7 @@ ghost use Rattle.peer_http.specs.Requests.{Awaits, IsRequest, request_for};
 ghost use Rattle.peer_http.specs.declared.fault.ReplyFault.TheVariants as told;
 ghost use Rattle.peer_origin.specs.declared.exchange.Failure.TheVariants as fail;
 ghost use Rattle.peer_origin.specs.declared.fault.FetchFault.TheVariants as fault;
-ghost use Rattle.peer_origin.specs.Fetches.{AttemptsAs, ExchangesAs, Fetches, FetchesAnew, IsUnused, use_of};
+ghost use Rattle.peer_origin.specs.Fetches.{AttemptsAs, ExchangesAs, Fetches, FetchesAnew, IsUnused, failure_by, use_of};
 ghost use Rattle.peer_origin.specs.Targets.{target_of};
 
 use crate::connections::{Connection, Connections};
@@ -28,6 +28,7 @@ pub enum Failure {
 pub fn failure_of(fault: ReplyFault, late: bool) -> Failure
     ensures silent { result ≡ fail.Silent → fault ≡ told.Silent }
     ensures in_time { late ≡ false → fault ≡ told.Silent → result ≡ fail.Silent }
+    ensures by_fault { result ≡ failure_by fault late }
 {
     match fault {
         ReplyFault::Silent | ReplyFault::Lost if late => Failure::Fetch(FetchFault::Late),

@@ -27,4 +27,5 @@ pub use exchange::{Failure, failure_of, fetch, request};
 pub use fault::{FetchFault, get_fault};
 pub use origin::Origin;
 pub use settings::FetchSettings;
+pub use sockets::is_to_itself;
 pub use source::OriginSource;

@@ -12,8 +12,9 @@ use crate::stream::{StreamReader, StreamWriter};
 use peer_host::Network;
 use std::alloc::Global;
 use std::cmp::min;
-use std::io::ErrorKind;
-use std::net::TcpStream;
+use std::io;
+use std::io::{ErrorKind, Write};
+use std::net::{SocketAddr, TcpStream};
 use std::sync::Arc;
 use std::time::Duration;
 
@@ -31,7 +32,31 @@ pub fn is_quiet(stream: &TcpStream) -> bool {
     quiet && stream.set_nonblocking(false).is_ok()
 }
 
-// A connection to the first address that answers, each within its time and all by the deadline.
+/// Whether a stream with these addresses is to itself, as may be where nobody listens at a port of this machine: TCP lets both
+/// ends be one. The close of one in which a byte waits that nobody read is a reset, and so leaves the port free.
+pub fn is_to_itself(own: io::Result<SocketAddr>, peer: SocketAddr) -> bool {
+    match own {
+        Ok(own) => own == peer,
+        Err(_) => false,
+    }
+}
+
+// Connects to an address so long, or gives none.
+fn connect_to<H: Network>(rt: &H, address: &SocketAddr, within: Duration) -> Option<TcpStream> {
+    let stream = TcpStream::connect_timeout(rt, address, within).ok()?;
+    let peer = stream.peer_addr().ok()?;
+    if is_to_itself(stream.local_addr(), peer) {
+        // So that its close gives the port back at once.
+        let mut stream = &stream;
+        let _ = stream.write(b"x");
+        return None;
+    }
+    let _ = stream.set_nodelay(true);
+    Some(stream)
+}
+
+// A connection to the first address that answers, each within its time and all by the deadline. Late is one for which no
+// address could be tried in its time.
 fn connect<H: Network>(
     rt: &H,
     addresses: &Addresses,
@@ -41,12 +66,13 @@ fn connect<H: Network>(
     let Ok(found) = addresses.found(rt) else {
         return Err(FetchFault::Memory);
     };
+    let mut fault = FetchFault::Late;
     for address in found.iter() {
         let Some(left) = deadline.left() else {
-            return Err(FetchFault::Late);
+            return Err(fault);
         };
-        if let Ok(stream) = TcpStream::connect_timeout(rt, address, min(left, within)) {
-            let _ = stream.set_nodelay(true);
+        fault = FetchFault::Unreached;
+        if let Some(stream) = connect_to(rt, address, min(left, within)) {
             return Ok(stream);
         }
     }

@@ -14,6 +14,11 @@ fn is_timeout(error: &io::Error) -> bool {
     matches!(error.kind(), ErrorKind::WouldBlock | ErrorKind::TimedOut)
 }
 
+// Whether a call of a stream was broken off, as by a process that stood still and goes on: it may be made again.
+fn was_interrupted(error: &io::Error) -> bool {
+    error.kind() == ErrorKind::Interrupted
+}
+
 // What an origin sends by the deadline.
 #[derive(Drop)]
 struct Input<'a, H> {
@@ -27,19 +32,23 @@ impl<'a, H: Clock> Input<'a, H> {
     fn receive(&mut self, room: &mut [u8]) -> Option<usize>
         ensures { IfSome result (λ n. n ≤ length room.new) }
     {
-        let Some(left) = self.deadline.left() else {
-            self.late = true;
-            return None;
-        };
-        self.stream.set_read_timeout(Some(left)).ok()?;
         let mut stream = &*self.stream;
-        match stream.read(room) {
-            Ok(n) => Some(n),
-            Err(error) => {
-                self.late = is_timeout(&error);
-                None
+        for _ in 0..u64::MAX {
+            let Some(left) = self.deadline.left() else {
+                self.late = true;
+                return None;
+            };
+            self.stream.set_read_timeout(Some(left)).ok()?;
+            match stream.read(room) {
+                Ok(n) => return Some(n),
+                Err(error) if was_interrupted(&error) => {}
+                Err(error) => {
+                    self.late = is_timeout(&error);
+                    return None;
+                }
             }
         }
+        None
     }
 }
 
@@ -94,12 +103,45 @@ impl<'a, H: Clock> PeerRead for StreamReader<'a, H> {
     }
 }
 
-/// A writer of what is sent to an origin by the deadline.
+// What is sent to an origin by the deadline.
 #[derive(Drop)]
-pub struct StreamWriter<'a, H> {
+struct Output<'a, H> {
     stream: Arc<TcpStream>,
     deadline: &'a Deadline<'a, H>,
     late: bool,
+}
+
+impl<'a, H: Clock> Output<'a, H> {
+    // Sends what the stream takes, or none where it failed or the time is over.
+    fn send(&mut self, bytes: &[u8]) -> Option<usize>
+        ensures bound { IfSome result (λ n. n ≤ length bytes.now) }
+        ensures some { IfSome result (λ n. 0 < length bytes.now → 0 < n) }
+    {
+        let mut stream = &*self.stream;
+        for _ in 0..u64::MAX {
+            let Some(left) = self.deadline.left() else {
+                self.late = true;
+                return None;
+            };
+            self.stream.set_write_timeout(Some(left)).ok()?;
+            match stream.write(bytes) {
+                Ok(n) if n > 0 || bytes.is_empty() => return Some(n),
+                Ok(_) => return None,
+                Err(error) if was_interrupted(&error) => {}
+                Err(error) => {
+                    self.late = is_timeout(&error);
+                    return None;
+                }
+            }
+        }
+        None
+    }
+}
+
+/// A writer of what is sent to an origin by the deadline.
+#[derive(Drop)]
+pub struct StreamWriter<'a, H> {
+    output: Output<'a, H>,
     failures: u64,
 }
 
@@ -109,38 +151,18 @@ impl<'a, H: Clock> StreamWriter<'a, H> {
         ensures { result.failures ≡ 0 }
     {
         StreamWriter {
-            stream,
-            deadline,
-            late: false,
+            output: Output {
+                stream,
+                deadline,
+                late: false,
+            },
             failures: 0,
         }
     }
 
     /// Whether a write failed for its time.
     pub fn is_late(&self) -> bool {
-        self.late
-    }
-
-    // Sends what the stream takes, or none where it failed or the time is over.
-    fn send(&mut self, bytes: &[u8]) -> Option<usize>
-        ensures bound { IfSome result (λ n. n ≤ length bytes.now) }
-        ensures some { IfSome result (λ n. 0 < length bytes.now → 0 < n) }
-        ensures failures { self.new.failures ≡ self.old.failures }
-    {
-        let Some(left) = self.deadline.left() else {
-            self.late = true;
-            return None;
-        };
-        self.stream.set_write_timeout(Some(left)).ok()?;
-        let mut stream = &*self.stream;
-        match stream.write(bytes) {
-            Ok(n) if n > 0 || bytes.is_empty() => Some(n),
-            Ok(_) => None,
-            Err(error) => {
-                self.late = is_timeout(&error);
-                None
-            }
-        }
+        self.output.late
     }
 }
 
@@ -151,7 +173,7 @@ impl<'a, H: Clock> PeerWrite for StreamWriter<'a, H> {
 
     /// Waits for room by the deadline.
     fn write(&mut self, bytes: &[u8]) -> Result<usize, WriteFailed> {
-        match self.send(bytes) {
+        match self.output.send(bytes) {
             Some(n) => Ok(n),
             None => {
                 self.failures += 1;

@@ -3,12 +3,15 @@
 use std::io;
 use std::io::ErrorKind;
 
-// errno(3): EMFILE.
-const TOO_MANY_OPEN_FILES: i32 = 24;
+// errno(3): ENFILE, of the whole system, and EMFILE, of the process.
+const TOO_MANY_OPEN_FILES: [i32; 2] = [23, 24];
 
-/// Whether the process may open no more files.
+/// Whether the process, or the whole system, may open no more files.
 pub fn lacks_files(error: &io::Error) -> bool {
-    error.raw_os_error() == Some(TOO_MANY_OPEN_FILES)
+    match error.raw_os_error() {
+        Some(number) => TOO_MANY_OPEN_FILES.contains(&number),
+        None => false,
+    }
 }
 
 /// Whether a call of a stream would have to wait.

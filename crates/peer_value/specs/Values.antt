@@ -4,7 +4,9 @@ use Rattle.std.specs.declared.alloc.Global.{Global}
 use Rattle.peer_origin.specs.Fetches.{Use}
 use Rattle.peer_origin.specs.declared.fault.FetchFault.{FetchFault}
 use Rattle.peer_origin.specs.declared.fault.FetchFault.TheVariants as fault
-use Rattle.peer_http.specs.Replies.{IsReply}
+use Rattle.peer_origin.specs.declared.exchange.Failure.{Failure}
+use Rattle.peer_origin.specs.declared.exchange.Failure.TheVariants as fail
+use Rattle.peer_http.specs.Replies.{HasHead, IsReply}
 use Rattle.peer_source.specs.Answers.{Answer}
 use Rattle.peer_view.specs.Sinks.{MAX_VALUE}
 use Rattle.peer_value.specs.Fetchings.{GoesOnAnew, IsFoundIn, IsFreeBehind, uses_by}
@@ -46,6 +48,17 @@ IsValueOf f value = (length value.items ≤ MAX_VALUE) × ∥ IsFoundIn f.reques
 -- there is no value, since the reply that came has this status, which is not 200
 abbrev pub IsStatusOf : List ℕ → FetchFault → Type 0
 IsStatusOf came why = (status : ℕ) × (content : List ℕ) × (why ≡ fault.Status status) × (status ≢ 200) × ∥ IsReply came status content ∥₁
+
+-- where a failure tells a status, the head of a reply of this status came, and it is not 200
+abbrev pub IsFailureOf : List ℕ → Failure → Type 0
+IsFailureOf came fail.Silent = Unit {0}
+IsFailureOf came (fail.Fetch fault.Unreached) = Unit {0}
+IsFailureOf came (fail.Fetch fault.Late) = Unit {0}
+IsFailureOf came (fail.Fetch fault.Lost) = Unit {0}
+IsFailureOf came (fail.Fetch fault.Malformed) = Unit {0}
+IsFailureOf came (fail.Fetch (fault.Status status)) = ∥ HasHead came status ∥₁ × (status ≢ 200)
+IsFailureOf came (fail.Fetch fault.TooLong) = Unit {0}
+IsFailureOf came (fail.Fetch fault.Memory) = Unit {0}
 
 -- the answer of a fetch: its value is one that the fetch found, it has none for the status of the reply alone, and another request
 -- may follow where the answer says so

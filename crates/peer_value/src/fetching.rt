@@ -76,7 +76,7 @@ fn receiving(alloc: Global, client: Client) -> Receiving
 }
 
 impl Fetching {
-    ghost use Rattle.peer_value.specs.Values.{IsAnswerOf, IsSameTry, IsSent, MayGoOnAnew, uses_of};
+    ghost use Rattle.peer_value.specs.Values.{IsAnswerOf, IsFailureOf, IsSameTry, IsSent, MayGoOnAnew, uses_of};
 
     /// Nothing of the request was sent.
     pub fn new(alloc: Global, asked: Request) -> Fetching
@@ -131,6 +131,7 @@ impl Fetching {
         ensures ended { self.new.ended ≡ self.old.ended }
         ensures answer { IfOk result (λ given. IfSome given (IsAnswerOf self.new)) }
         ensures silent { result ≢ Err fail.Silent }
+        ensures failure { IfErr result (IsFailureOf self.new.receiving.came.bytes) }
     {
         match self.receiving.receive(bytes) {
             Ok(Some(reply)) => Ok(Some(answer_of(reply))),
@@ -147,6 +148,7 @@ impl Fetching {
         ensures ended { self.new.ended ≡ true }
         ensures answer { IfOk result (IsAnswerOf self.new) }
         ensures silent { result ≡ Err fail.Silent → self.new.receiving.came.bytes ≡ [] }
+        ensures failure { IfErr result (IsFailureOf self.new.receiving.came.bytes) }
     {
         self.ended = true;
         match self.receiving.end() {
@@ -157,7 +159,8 @@ impl Fetching {
 
     /// Why there is no value, where the connection failed.
     pub fn cut(&self) -> Failure
-        ensures { result ≡ fail.Silent ↔ (self.now.receiving.came.bytes ≡ []) }
+        ensures silent { result ≡ fail.Silent ↔ (self.now.receiving.came.bytes ≡ []) }
+        ensures failure { IsFailureOf self.now.receiving.came.bytes result }
     {
         failure_of(self.receiving.cut(), false)
     }

@@ -5,7 +5,7 @@ ghost use Rattle.peer_origin.specs.declared.exchange.Failure.TheVariants as fail
 ghost use Rattle.peer_origin.specs.declared.fault.FetchFault.TheVariants as fault;
 ghost use Rattle.peer_value.specs.Endpoints.{IsOfGroup};
 ghost use Rattle.peer_value.specs.Fetchings.{request_at, use_by};
-ghost use Rattle.peer_value.specs.Values.{uses_of, IsFree, IsRefusedFor, IsSameTry, IsSecondTry, IsValueOf};
+ghost use Rattle.peer_value.specs.Values.{uses_of, IsFailureOf, IsFree, IsRefusedFor, IsSameTry, IsSecondTry, IsValueOf};
 
 use crate::done::Done;
 use crate::endpoints::Numbered;
@@ -159,6 +159,7 @@ impl<'a, S: Source> UnderWay<'a, S> {
         ensures ended { self.new.fetching.ended ≡ self.old.fetching.ended }
         ensures answer { IfOk result (λ given. IfSome given (IsAnswerTo self.new)) }
         ensures silent { result ≢ Err fail.Silent }
+        ensures failure { IfErr result (IsFailureOf self.new.fetching.receiving.came.bytes) }
     {
         self.fetching.receive(bytes)
     }
@@ -172,13 +173,15 @@ impl<'a, S: Source> UnderWay<'a, S> {
         ensures ended { self.new.fetching.ended ≡ true }
         ensures answer { IfOk result (IsAnswerTo self.new) }
         ensures silent { result ≡ Err fail.Silent → self.new.fetching.receiving.came.bytes ≡ [] }
+        ensures failure { IfErr result (IsFailureOf self.new.fetching.receiving.came.bytes) }
     {
         self.fetching.end()
     }
 
     /// Why there is no value, where the connection failed.
     pub fn cut(&self) -> Failure
-        ensures { result ≡ fail.Silent ↔ (self.now.fetching.receiving.came.bytes ≡ []) }
+        ensures silent { result ≡ fail.Silent ↔ (self.now.fetching.receiving.came.bytes ≡ []) }
+        ensures failure { IsFailureOf self.now.fetching.receiving.came.bytes result }
     {
         self.fetching.cut()
     }

@@ -17,8 +17,7 @@ use std::time::Duration;
 impl<'a, S: Source> Fetcher<'a, S> {
     // When an address is given up that is tried for a value now. Where others are left, they have half of the value's time, or else
     // none of them would be tried in it.
-    fn connect_due(&self, under: &UnderWay<'a, S>, untried: &Untried) -> Duration {
-        let now = self.connections.now();
+    fn connect_due(&self, now: Duration, under: &UnderWay<'a, S>, untried: &Untried) -> Duration {
         let due = now.saturating_add(self.settings.fetch.connect);
         if untried.is_empty() {
             return due;
@@ -34,6 +33,7 @@ impl<'a, S: Source> Fetcher<'a, S> {
         under: UnderWay<'a, S>,
         untried: Untried,
     ) -> Option<Done<'a, S>> {
+        let now = self.read_clock(system);
         if self.connections.reserve().is_err() {
             return Some(under.done(Err(FetchFault::Memory)));
         }
@@ -41,7 +41,7 @@ impl<'a, S: Source> Fetcher<'a, S> {
         let Some((stream, untried)) = open(system, untried, token) else {
             return Some(under.done(Err(FetchFault::Unreached)));
         };
-        let due = self.connect_due(&under, &untried);
+        let due = self.connect_due(now, &under, &untried);
         self.shares.begin(self.shares.service(under.number()));
         self.connections.add(Link::new(stream, under, untried, due));
         None

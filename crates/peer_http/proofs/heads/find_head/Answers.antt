@@ -1,6 +1,6 @@
 use Rattle.std.proofs.Common.{subst, sym, Ok}
 use Rattle.peer_http.specs.Replies.{FindsNext, Interims, more}
-use Rattle.peer_http.proofs.ReceivingLemmas.{begins}
+use Rattle.peer_http.proofs.ReceivingLemmas.{begins, has_head}
 use Rattle.peer_http.proofs.heads.find_head.Goals as goal
 
 pub loop-head-init : goal.loop-head-init
@@ -18,7 +18,7 @@ loop-head-preserved c =
 pub returns-in-Ok-Final : goal.returns-in-Ok-Final
 returns-in-Ok-Final c =
     let found = subst (λ x. FindsNext c.next_head.new.client c.loop-head.intake c.next_head.new.intake (Ok x)) c.in-Ok-Final.field-0-is c.in-Ok-Final.ensures in
-    λ came h. begins came _ _ _ _ (c.loop-head.invariant.keeps came h) found
+    λ came h. let is = c.loop-head.invariant.keeps came h in (begins came _ _ _ _ is found, has_head came _ _ _ _ is found)
 
 pub returns-in-Ok-Nothing : goal.returns-in-Ok-Nothing
 returns-in-Ok-Nothing c =

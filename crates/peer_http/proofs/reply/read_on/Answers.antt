@@ -9,4 +9,4 @@ returns-in-Ok-clause-reads g c =
     grind (arith, common_steps, c.in-Ok.n-test, c.in-Ok.ensures.end_told) in
     let within = subst (λ m. IfOk c.receive.result (λ given?. IfSome given? (λ r. length r.value.items ≤ m))) c.receive.ensures.most c.receive.ensures.within in
     receives _ _ _ _ _ _ _ _ c.in-Ok.ensures.bytes c.receive.ensures.came c.receive.result untold
-    c.receive.ensures.silent c.receive.ensures.reply within
+    c.receive.ensures.silent c.receive.ensures.reply within c.receive.ensures.told
