@@ -6,8 +6,8 @@
 
 The first who asks for a key leads, those who ask while it is looked up join, and those who ask once a cache has it hit;
 connections are counted as they come and go; and each failure of a service is counted as what it is, also where a reply of another
-status than 200 begins and its rest is late. `--loops`, `--workers` and
-`--fetchers` are as many threads; no more connections are open than by `--connections`, and where all are taken, silent clients are
+status than 200 begins and its rest is late, and is told on standard error, none twice. `--loops`, `--workers` and
+`--fetchers` are as many threads, and each fetcher has `--under-way` values; who has nothing to do takes no processor; no more connections are open than by `--connections`, and where all are taken, silent clients are
 let go until a sixteenth is free, and those who came last are not the next to go; where the system gives no more files, silent clients
 are let go too; `--timeout` is how long a value may take; a value above `--cache` is not kept, and one below it is; and above
 `--memory` a client is asked for one value at a time.
@@ -26,7 +26,7 @@ import urllib.request
 from concurrent.futures import ThreadPoolExecutor
 from contextlib import ExitStack
 
-from common import Listening, Service, ask, free_port, hangs, run_rows
+from common import Listening, Service, ask, hangs, run_rows
 
 PROGRAM = sys.argv[1] if len(sys.argv) > 1 else "crates/peer_front/out/peer_front"
 PATIENCE = 10  # seconds until the page says what it is to say
@@ -51,11 +51,14 @@ class Counted(Listening):
     """A server with a page of counters."""
 
     def __init__(self, *words):
-        with tempfile.TemporaryFile() as said:
-            super().__init__(PROGRAM, "--stats", "127.0.0.1:0", *words, said=said)
-            # It writes at the place in the file that it shares with this script.
-            told = os.pread(said.fileno(), 10000, 0)
-        self.page = int(re.findall(rb"healthz at 127\.0\.0\.1:(\d+)", told)[-1])
+        self.lines = tempfile.TemporaryFile()
+        super().__init__(PROGRAM, "--stats", "127.0.0.1:0", *words, said=self.lines)
+        self.page = int(re.findall(r"healthz at 127\.0\.0\.1:(\d+)", self.said())[-1])
+
+    def said(self):
+        """What it has written on standard error."""
+        # A read of its own place: the program writes at the one that it shares with this script.
+        return os.pread(self.lines.fileno(), 100000, 0).decode()
 
     def ask(self, path):
         return ask(self.address, path)
@@ -145,12 +148,16 @@ def silent_clients_go_in_turn():
 
 
 def silent_clients_go_where_the_system_gives_no_more_files():
-    with Listening(PROGRAM, "--demo", "--loops", "1") as server, ExitStack() as streams:
+    with Counted("--demo", "--loops", "1") as server, ExitStack() as streams:
         silent = [streams.enter_context(socket.create_connection(server.address)) for _ in range(20)]
-        time.sleep(0.5)  # until all are accepted
+        server.says(connections=20)
+        time.sleep(0.5)  # until the page's client is gone
         files = len(os.listdir(f"/proc/{server.process.pid}/fd"))
-        resource.prlimit(server.process.pid, resource.RLIMIT_NOFILE, (files, files))
-        return ask(server.address, "echo/k").endswith(b"k") and 18 <= sum(map(is_open, silent)) < 20
+        _, most = resource.prlimit(server.process.pid, resource.RLIMIT_NOFILE)
+        resource.prlimit(server.process.pid, resource.RLIMIT_NOFILE, (files, most))
+        right = server.ask("echo/k").endswith(b"k") and 18 <= sum(map(is_open, silent)) < 20
+        resource.prlimit(server.process.pid, resource.RLIMIT_NOFILE, (most, most))
+        return right and server.counts()["accept_failures_total"] > 0
 
 
 # What a service does, and the kind of failure that it is.
@@ -165,14 +172,31 @@ KINDS = [
 ]
 
 
+# What is said of them, and of how many. A key that is missing is no trouble.
+TROUBLES = {
+    "origins with another status than 200 and 404": 2,
+    "origins not reached": 3,
+    "origins too late": 4,
+    "origins that closed the connection": 5,
+    "origins with bad replies": 6,
+    "origins with values over the limit": 7,
+}
+
+
 def each_failure_is_of_its_kind():
-    urls = [Service(serve).url if serve else f"http://127.0.0.1:{free_port()}/" for serve, _ in KINDS]
+    # Bound, so that nobody else listens there.
+    nobody = socket.socket()
+    nobody.bind(("127.0.0.1", 0))
+    urls = [Service(serve).url if serve else f"http://127.0.0.1:{nobody.getsockname()[1]}/" for serve, _ in KINDS]
     words = [f"g{number}={url}" for number, url in enumerate(urls)]
     with Counted("--timeout", "1", *words) as server, ThreadPoolExecutor(8) as threads:
         # Of the first kind one, of the next two, and so on.
         paths = [f"g{number}/{key}" for number in range(len(KINDS)) for key in range(number + 1)]
         list(threads.map(server.ask, paths))
-        return server.says(**{f'origin_failures_total{{kind="{kind}"}}': number + 1 for number, (_, kind) in enumerate(KINDS)})
+        counted = server.says(**{f'origin_failures_total{{kind="{kind}"}}': number + 1 for number, (_, kind) in enumerate(KINDS)})
+        time.sleep(3)  # the program looks once a second what there was more of: each is told, and none again
+        told = {what: sum(map(int, re.findall(f"peer_front: {what}: (\\d+) more", server.said()))) for what in TROUBLES}
+        return counted and told == TROUBLES
 
 
 def a_status_is_told_where_its_rest_is_late():
@@ -211,6 +235,37 @@ def each_thread_is_asked_for():
     )
 
 
+def each_fetcher_has_its_values_under_way():
+    service = Service(hangs)
+    words = ("--fetchers", "2", "--under-way", "2", "--timeout", "60", "g=" + service.url)
+    with Counted(*words) as server, ExitStack() as streams:
+        for number in range(5):
+            streams.enter_context(socket.create_connection(server.address)).sendall(get(f"g/{number}"))
+        until = time.monotonic() + PATIENCE
+        while service.connections < 4 and time.monotonic() < until:
+            time.sleep(0.02)
+        time.sleep(0.3)
+        return service.connections == 4
+
+
+def who_has_nothing_to_do_takes_no_processor():
+    def seconds():
+        with open(f"/proc/{server.process.pid}/stat", encoding="ascii") as stat:
+            words = stat.read().rsplit(")", 1)[1].split()
+        return (int(words[11]) + int(words[12])) / os.sysconf("SC_CLK_TCK")
+
+    with Counted("--demo", "--timeout", "60", "g=" + Service(hangs).url) as server, ExitStack() as streams:
+        clients = [streams.enter_context(socket.create_connection(server.address)) for _ in range(10)]
+        for client in clients:
+            client.sendall(get("echo/k"))
+            client.recv(10000)
+        clients[0].sendall(get("g/k"))
+        server.calls(2)
+        before = seconds()
+        time.sleep(3)
+        return seconds() - before < 0.5
+
+
 def no_more_connections_than_by_the_flag():
     with Counted("--connections", "1", "g=" + Service(hangs).url) as server:
         with socket.create_connection(server.address) as first:
@@ -234,12 +289,14 @@ def a_value_is_late_by_the_flag():
 
 
 def hits_of(*words):
-    """How many hits there are where a value of 100,000 bytes is asked for twice."""
+    """How many hits there are where a value of 100,000 bytes is asked for twice. None where the page says that its cache holds
+    anything else than it and its key."""
     with Counted("--demo", *words) as server:
         for _ in range(2):
             server.ask("fill/100000")
         server.says(asked_total=2)
-        return server.counts()["hits_total"]
+        hits = server.counts()["hits_total"]
+        return hits if server.says(cache_bytes=hits * 100006) else None
 
 
 def values_within_the_cache_are_kept():
@@ -285,6 +342,8 @@ run_rows(
         each_failure_is_of_its_kind,
         a_status_is_told_where_its_rest_is_late,
         each_thread_is_asked_for,
+        each_fetcher_has_its_values_under_way,
+        who_has_nothing_to_do_takes_no_processor,
         no_more_connections_than_by_the_flag,
         a_value_is_late_by_the_flag,
         values_within_the_cache_are_kept,

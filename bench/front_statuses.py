@@ -30,10 +30,15 @@ def taken_address():
     return listener, "127.0.0.1:%d" % listener.getsockname()[1]
 
 
+TABLES = []
+
+
 def table(data):
-    file = tempfile.NamedTemporaryFile(delete=False)
+    """The name of a file that stays as long as this script runs."""
+    file = tempfile.NamedTemporaryFile()
     file.write(data)
-    file.close()
+    file.flush()
+    TABLES.append(file)
     return file.name
 
 
@@ -44,6 +49,7 @@ BAD = table(b"colors\tred\n")
 TWICE = table(b"g\tk\tv\ng\tk\tv\n")
 LARGE = table(b"x" * 16777217)
 ECHO = table(b"echo\tk\tv\n")
+LONG = table(b"g\tk\t" + b"v" * 999_995 + b"\n")
 URL = "http://127.0.0.1:1/"
 THREADS = "a number from 1 to 16 is needed"
 WORKERS = "a number from 0 to 16 is needed"
@@ -128,6 +134,8 @@ STARTS = [
     (["--demo"], "3 groups at ADDR, 10000 connections at most, on 2 loops"),
     (["--demo", "--stats", "127.0.0.1:0"],
      "/metrics and /healthz at ADDR\npeer_front: serves 3 groups at ADDR, 10000 connections at most, on 2 loops"),
+    (["--demo", "--stats", str(free_port())],
+     "/metrics and /healthz at ADDR\npeer_front: serves 3 groups at ADDR, 10000 connections at most, on 2 loops"),
     (["--table", GOOD, "--workers", "0"], "1 group at ADDR, 10000 connections at most, on 2 loops"),
     (["--demo", "--workers", "1", "--loops", "1"], "3 groups at ADDR, 10000 connections at most, on 1 loop and 1 worker"),
     (["--table", GOOD, "--workers", "16", "--loops", "16"], "1 group at ADDR, 10000 connections at most, on 16 loops and 16 workers"),
@@ -177,6 +185,12 @@ TAKEN_WORDS = [
     ["--demo", "--stats", "127.0.0.1:0"],
 ]
 
+# a word to bench/statuses.c, which stands in for calls of the C library; the words, the status and what standard error holds
+STOOD_IN = [
+    ("NO_SEED", ["--demo"], 7, "peer_front: no random seed\n"),
+    ("ONE_BYTE", ["--table", LONG], 6, f"peer_front: --table {LONG}: too many reads\n"),
+]
+
 # standard streams that are closed when the program starts
 CLOSED = [0, 2]
 
@@ -184,7 +198,9 @@ CLOSED = [0, 2]
 def ended_at_once(words, files=20000, output=subprocess.PIPE):
     """The status and standard error of a program that has no input and may open so many files, and whose output goes there."""
     def allow():
-        resource.setrlimit(resource.RLIMIT_NOFILE, (files, files))
+        # The soft limit, which is the one that counts.
+        _, most = resource.getrlimit(resource.RLIMIT_NOFILE)
+        resource.setrlimit(resource.RLIMIT_NOFILE, (files, max(files, most)))
 
     done = subprocess.run([PROGRAM] + words, stdin=subprocess.DEVNULL, stdout=output, stderr=subprocess.PIPE,
                           timeout=60, check=False, preexec_fn=allow)
@@ -196,12 +212,15 @@ def told_to_end(sent):
     address = ("127.0.0.1", free_port())
     words = [ON_TERM, PROGRAM, "--until-eof", "--demo", "--listen", "%s:%d" % address]
     run = subprocess.Popen(words, stdout=subprocess.PIPE, stderr=subprocess.DEVNULL)
-    run.stdout.readline()
-    with socket.create_connection(address, 10) as client:
-        client.sendall(b"GET /_groupcache/echo/k HTTP/1.1\r\nHost: h\r\n\r\n")
-        client.recv(1000)
-        run.send_signal(sent)
-        printed, _ = run.communicate(timeout=30)
+    try:
+        run.stdout.readline()
+        with socket.create_connection(address, 10) as client:
+            client.sendall(b"GET /_groupcache/echo/k HTTP/1.1\r\nHost: h\r\n\r\n")
+            client.recv(1000)
+            run.send_signal(sent)
+            printed, _ = run.communicate(timeout=30)
+    finally:
+        run.kill()
     return printed, run.returncode
 
 
@@ -220,6 +239,25 @@ def held_for(stream):
     run.kill()
     run.wait()
     return held
+
+
+def stood_in(word, words):
+    """The status and standard error of a program some of whose calls of the C library bench/statuses.c stands in for."""
+    source = os.path.join(os.path.dirname(os.path.abspath(__file__)), "statuses.c")
+    with tempfile.TemporaryDirectory() as folder:
+        library = os.path.join(folder, "statuses.so")
+        subprocess.run([os.environ.get("CC", "cc"), "-shared", "-fPIC", "-O2", "-o", library, source], check=True)
+        done = subprocess.run([PROGRAM] + HERE + words, stdin=subprocess.DEVNULL, stdout=subprocess.DEVNULL, stderr=subprocess.PIPE,
+                              timeout=60, check=False, env={**os.environ, "LD_PRELOAD": library, word: "1"})
+    return done.returncode, done.stderr.decode()
+
+
+def unreadable():
+    """The status of a server whose input cannot be read."""
+    folder = os.open("/", os.O_RDONLY)
+    done = subprocess.run([PROGRAM] + SERVED, stdin=folder, stdout=subprocess.DEVNULL, stderr=subprocess.DEVNULL, timeout=60, check=False)
+    os.close(folder)
+    return done.returncode
 
 
 def hides_port(told):
@@ -277,14 +315,23 @@ for sent, tell, text in SIGNALS:
         failures += 1
         print("sent", sent, tell.__name__, "printed", printed, "status", ended)
 
+for word, words, status, text in STOOD_IN:
+    ended, told = stood_in(word, words)
+    if (ended, told) != (status, text):
+        failures += 1
+        print(word, "words", words, "status", ended, "wanted", status, "told", repr(told))
+
+ended = unreadable()
+if ended != 0:
+    failures += 1
+    print("an input that cannot be read: status", ended)
+
 for stream in CLOSED:
     held = held_for(stream)
     if held != "/dev/null":
         failures += 1
         print("standard stream", stream, "was closed, and is", held)
 
-for name in (GOOD, BAD, TWICE, LARGE, ECHO):
-    os.unlink(name)
-counted = [ROWS, STARTS, PREFIXES, FEW_FILES, REFUSED, TAKEN_WORDS, SIGNALS, CLOSED]
-print("rows", sum(len(rows) for rows in counted), "failures", failures)
+counted = [ROWS, STARTS, PREFIXES, FEW_FILES, REFUSED, TAKEN_WORDS, SIGNALS, STOOD_IN, CLOSED]
+print("rows", sum(len(rows) for rows in counted) + 1, "failures", failures)
 sys.exit(1 if failures else 0)

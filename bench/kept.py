@@ -4,10 +4,10 @@
     ./build
     python3 bench/kept.py [crates/peer_front/out/peer_front]
 
-Connections are kept for a service that is asked now, also where others, asked before, leave as many as are kept; none is kept
+Connections are kept for a service that is asked now, also where others, asked before, leave as many as are kept, and no more; none is kept
 that a service has ended, nor any with `--connection-for-each`; where a host is gone without a word one value is late, and the next
 ones ask anew; of two services each value comes from its own, also where one ends its connections now and then, and in its time where
-the other one hangs, as a table's do beside a service that hangs; what comes on a kept connection without a request is no value; a
+the other one hangs, as a table's do beside a service that hangs; a value that waited has its whole time; what comes on a kept connection without a request is no value; a
 reply that runs until its connection ends is no value where that is reset; and interim replies without end fill no memory.
 
 Its last line is `rows N failures 0`; where a row fails, so does the program.
@@ -46,12 +46,16 @@ def gives(value, most=None):
     return serve
 
 
+SPOKE = threading.Event()
+
+
 def speaks_unasked(stream):
     """Answers each request, and once again soon behind it, where nobody asks."""
     while stream.recv(10000):
         stream.sendall(VALUE)
         time.sleep(0.1)
         stream.sendall(VALUE[:-1] + b"x")
+        SPOKE.set()
 
 
 def resets_within(stream):
@@ -88,11 +92,15 @@ class Server(Listening):
             return next(int(line.split()[1]) << 10 for line in lines if line.startswith("VmHWM"))
 
 
-def waiting_to_close(port):
-    """How many connections to this port the other side has ended, and this one has not closed."""
+# Of a connection, by tcp(7): it stands, or the other side has ended it and this one has not closed it.
+STANDS, WAITS_TO_CLOSE = "01", "08"
+
+
+def connections_to(port, state):
+    """How many connections to this port are in this state."""
     with open("/proc/net/tcp", encoding="ascii") as lines:
         fields = [line.split() for line in lines][1:]
-    return sum(field[2].endswith(":%04X" % port) and field[3] == "08" for field in fields)
+    return sum(field[2].endswith(":%04X" % port) and field[3] == state for field in fields)
 
 
 def answers_beside(server, hung, path, value):
@@ -113,7 +121,8 @@ def connections_to_each_service_are_kept():
     first, second, third = (Service(gives(b"v")) for _ in range(3))
     with Server("--under-way", "2", "a=" + first.url, "b=" + second.url, "c=" + third.url) as server:
         replies = [server.ask(path) for path in ("a/1", "b/1", "c/1", "c/2", "c/3", "c/4", "c/5")]
-        return all(reply.endswith(b"\x0a\x01v") for reply in replies) and third.connections == 1
+        kept = sum(connections_to(service.port, STANDS) for service in (first, second, third))
+        return all(reply.endswith(b"\x0a\x01v") for reply in replies) and third.connections == 1 and kept == 2
 
 
 def none_is_kept_that_was_ended():
@@ -122,7 +131,7 @@ def none_is_kept_that_was_ended():
         for number in range(20):
             server.ask(f"g/{number}")
         time.sleep(0.5)
-        return service.connections == 20 and waiting_to_close(service.port) == 0
+        return service.connections == 20 and connections_to(service.port, WAITS_TO_CLOSE) == 0
 
 
 def none_is_kept_where_each_value_has_its_own():
@@ -158,6 +167,18 @@ def a_service_that_hangs_leaves_room_to_a_table():
             return answers_beside(server, service, "t/k", b"v")
 
 
+def one_that_waited_has_its_whole_time():
+    def is_slow(stream):
+        while stream.recv(10000):
+            time.sleep(2.5)
+            stream.sendall(VALUE)
+
+    first, second = Service(is_slow), Service(gives(b"y"))
+    with Server("--under-way", "2", "--timeout", "4", "a=" + first.url, "b=" + second.url) as server:
+        replies = server.ask_together("a/1", "a/2")
+        return all(reply.endswith(b"\x0a\x01v") for reply in replies) and first.connections == 1
+
+
 def one_value_is_late_where_a_host_is_gone():
     """Three connections are kept when their host goes without a word, and another one has its address."""
     three, gone = threading.Barrier(3), threading.Event()
@@ -183,9 +204,11 @@ def no_value_is_one_that_nobody_asked_for():
     service = Service(speaks_unasked)
     with Server("g=" + service.url) as server:
         for number in range(5):
+            SPOKE.clear()
             if not server.ask(f"g/{number}").endswith(b"\x0a\x01v"):
                 return False
-            time.sleep(0.3)
+            SPOKE.wait(20)
+            time.sleep(0.05)
         return service.connections == 5
 
 
@@ -211,6 +234,7 @@ run_rows(
         each_value_is_of_its_own_service,
         a_service_that_hangs_leaves_room_to_others,
         a_service_that_hangs_leaves_room_to_a_table,
+        one_that_waited_has_its_whole_time,
         one_value_is_late_where_a_host_is_gone,
         no_value_is_one_that_nobody_asked_for,
         no_value_is_cut_by_a_reset,

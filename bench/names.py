@@ -20,11 +20,11 @@ import tempfile
 import threading
 import time
 
-from common import may_have_its_own
+from common import free_port, may_have_its_own
 
 PROGRAM = os.path.abspath(sys.argv[1] if len(sys.argv) > 1 else "crates/peer_front/out/peer_front")
 NAME = "service.test"
-PORT = 9473
+PORT, SERVED = free_port(), free_port()
 PATIENCE = 20  # seconds for a name that has moved: it is looked up every 5
 
 
@@ -61,8 +61,9 @@ class Front:
     """The program, before which /etc/hosts is a file of its own."""
 
     def __init__(self, hosts, *words):
-        script = f"mount --bind {hosts} /etc/hosts && exec {PROGRAM} --listen 127.0.0.1:9474 {' '.join(words)}"
-        script += f" first=http://{NAME}:{PORT}/ second=http://{NAME}:{PORT}/"
+        script = f"mount --bind {hosts} /etc/hosts && exec {PROGRAM} --listen 127.0.0.1:{SERVED} {' '.join(words)}"
+        # One at an address beside them: the others are looked up all the same.
+        script += f" here=http://127.0.0.2:{PORT}/ first=http://{NAME}:{PORT}/ second=http://{NAME}:{PORT}/"
         self.process = subprocess.Popen(["unshare", "--mount", "sh", "-c", script], stdout=subprocess.PIPE, text=True)
         if self.process.stdout.readline() != "listening\n":
             sys.exit("names.py: the program does not serve")
@@ -71,7 +72,7 @@ class Front:
     def ask(self, group="first"):
         """The body of a key of the group that nobody asked for yet."""
         self.asked += 1
-        connection = http.client.HTTPConnection("127.0.0.1", 9474, timeout=15)
+        connection = http.client.HTTPConnection("127.0.0.1", SERVED, timeout=15)
         connection.request("GET", f"/_groupcache/{group}/{self.asked}")
         return connection.getresponse().read()
 

@@ -383,6 +383,7 @@ def refused_threads(tools, folder, only):
     print(f"peer_server with 1 to 6 threads: {', '.join(words)}", flush=True)
     tools.page.clear(ALWAYS, ALWAYS)
     sleeper = subprocess.Popen(["sleep", "600"], preexec_fn=alone(64))  # has the thread that the reader would have
+    started.append(sleeper)
     one_seat = Server(tools, 1, 1, 2, alone(4), server)
     nothing, _ = exchange(one_seat.port, THREE)
     sleeper.kill()

@@ -4,7 +4,7 @@
     (cd crates/peer_serve && rt run < stdin > /dev/null)    # builds it
     python3 bench/serves.py [crates/peer_serve/out/peer_serve]
 
-It starts the servers itself, on free ports of the loopback address, and ends them. It takes a few seconds where all is well: a
+It starts the servers itself, on free ports of the loopback address, and ends them. It takes some 20 s where all is well: a
 row fails where something has not come after 20 s, and none asks that something comes sooner. Its last line is
 `rows N failures 0`; where a row fails, so does the program.
 """
@@ -14,6 +14,7 @@ import resource
 import select
 import shutil
 import signal
+import socket
 import subprocess
 import sys
 import tempfile
@@ -165,6 +166,23 @@ def stood_still():
         row("a client that asks a server which stands still", before + asked.result(), [(200, b"\n\x01k")] * 2)
 
 
+def half_asked():
+    """Where the one seat is taken its client may send for 10 s without a reply, and here its request comes whole while the server stands
+    still for longer."""
+    with Server("1", "1", "1") as server, socket.create_connection(("127.0.0.1", server.port), PATIENCE) as client:
+        client.sendall(HEAD[:10])
+        time.sleep(0.5)
+        server.process.send_signal(signal.SIGSTOP)
+        time.sleep(11)
+        client.sendall(HEAD[10:])
+        server.process.send_signal(signal.SIGCONT)
+        try:
+            got = client.recv(10000)
+        except OSError as fault:
+            got = type(fault).__name__
+        row("a request that comes whole while the server stands still", got, FOUND)
+
+
 HEAD = b"GET /_groupcache/echo/k HTTP/1.1\r\nHost: h\r\n\r\n"
 FOUND = b"HTTP/1.1 200 OK\r\nContent-Type: application/x-protobuf\r\nContent-Length: 3\r\n\r\n\n\x01k"
 
@@ -211,7 +229,7 @@ def threads():
 
 
 def main():
-    for part in (first_line, table, caches, seats, many, unread, interrupted, stood_still, pipe, cut, threads):
+    for part in (first_line, table, caches, seats, many, unread, interrupted, stood_still, half_asked, pipe, cut, threads):
         part()
     failures = rows.count(False)
     print(f"rows {len(rows)} failures {failures}")

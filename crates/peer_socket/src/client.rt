@@ -9,6 +9,13 @@ use std::sync::atomic::AtomicU64;
 use std::sync::atomic::Ordering::SeqCst;
 use std::time::{Clock, Duration, Instant};
 
+const LAST_WAIT_MILLIS: u64 = 1;
+
+/// How long the last call waits before a client is given up: what came while the process stood still is there by then.
+pub fn last_wait() -> Duration {
+    Duration::from_millis(LAST_WAIT_MILLIS)
+}
+
 /// A client. The reader and the writer of its connection share it.
 #[derive(Drop)]
 pub struct Client<'a, H> {

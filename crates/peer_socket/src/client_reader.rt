@@ -1,7 +1,7 @@
 //! What a client sends, as a reader that gives up a client which is silent or slow.
 ghost use Rattle.std.specs.Prelude.{◌≡◌, ◌<◌, ◌≤◌, ◌↔◌, length, None, IfSome, IsTrue};
 
-use crate::client::{Client, is_timeout};
+use crate::client::{Client, is_timeout, last_wait};
 use peer_view::{PeerRead, ReadCounts, ReadFailed};
 use std::io::Read;
 use std::time::{Clock, Instant};
@@ -18,6 +18,8 @@ struct Unanswered {
 struct Input<'a, H> {
     client: &'a Client<'a, H>,
     unanswered: Option<Unanswered>,
+    // Whether the client was slow when it was looked at last.
+    was_slow: bool,
 }
 
 impl<'a, H: Clock> Input<'a, H> {
@@ -59,6 +61,27 @@ impl<'a, H: Clock> Input<'a, H> {
         }
     }
 
+    // Whether the client is slow, and was when it was looked at last: that look has found what came while the process stood still.
+    fn stays_slow(&mut self) -> bool {
+        let was_slow = self.was_slow;
+        self.was_slow = self.client.is_full() && self.is_slow();
+        was_slow && self.was_slow
+    }
+
+    // The bytes that have come by now from a client that is silent, or none.
+    fn receive_last(&mut self, room: &mut [u8]) -> Option<usize>
+        ensures { IfSome result (λ n. n ≤ length room.new) }
+    {
+        let mut stream = self.client.stream();
+        stream.set_read_timeout(Some(last_wait())).ok()?;
+        let n = stream.read(room).ok()?;
+        stream
+            .set_read_timeout(Some(self.client.limits().tick))
+            .ok()?;
+        self.note_bytes();
+        Some(n)
+    }
+
     // The bytes that come next, or none where the stream failed or the client was given up.
     fn receive(&mut self, room: &mut [u8]) -> Option<usize>
         ensures { IfSome result (λ n. n ≤ length room.new) }
@@ -66,17 +89,18 @@ impl<'a, H: Clock> Input<'a, H> {
         let begun = self.client.now()?;
         let mut stream = self.client.stream();
         for _ in 0..u64::MAX {
-            if self.client.is_full() && self.is_slow() {
+            if self.stays_slow() {
                 return None;
             }
-            // Before the look, which finds what came while the process stood still.
-            let silent = self.is_silent(begun);
+            if self.is_silent(begun) {
+                return self.receive_last(room);
+            }
             match stream.read(room) {
                 Ok(n) => {
                     self.note_bytes();
                     return Some(n);
                 }
-                Err(error) if is_timeout(&error) && !silent => {}
+                Err(error) if is_timeout(&error) => {}
                 Err(_) => return None,
             }
         }
@@ -104,6 +128,7 @@ impl<'a, H: Clock> ClientReader<'a, H> {
             input: Input {
                 client,
                 unanswered: None,
+                was_slow: false,
             },
             writes: 0,
             counts: ReadCounts::none(),

@@ -1,7 +1,7 @@
 //! What is written to a client, as a writer that gives up a client which takes nothing.
 ghost use Rattle.std.specs.Prelude.{◌≡◌, ◌<◌, ◌≤◌, length, None, IfSome};
 
-use crate::client::{Client, is_timeout};
+use crate::client::{Client, is_timeout, last_wait};
 use peer_view::{PeerWrite, WriteFailed};
 use std::io::Write;
 use std::net::Shutdown;
@@ -22,6 +22,22 @@ fn is_stuck<H: Clock>(client: &Client<'_, H>, begun: Instant) -> bool {
     }
 }
 
+// Writes what a client takes by now that took nothing for its time, or none.
+fn send_last<H: Clock>(client: &Client<'_, H>, bytes: &[u8]) -> Option<usize>
+    ensures bound { IfSome result (λ n. n ≤ length bytes.now) }
+    ensures some { IfSome result (λ n. 0 < length bytes.now → 0 < n) }
+{
+    let mut stream = client.stream();
+    stream.set_write_timeout(Some(last_wait())).ok()?;
+    let n = stream.write(bytes).ok()?;
+    stream.set_write_timeout(Some(client.limits().tick)).ok()?;
+    if n > 0 || bytes.is_empty() {
+        Some(n)
+    } else {
+        None
+    }
+}
+
 // Writes what the client takes, or none where the stream failed or the client was given up.
 fn send<H: Clock>(client: &Client<'_, H>, bytes: &[u8]) -> Option<usize>
     ensures bound { IfSome result (λ n. n ≤ length bytes.now) }
@@ -30,11 +46,12 @@ fn send<H: Clock>(client: &Client<'_, H>, bytes: &[u8]) -> Option<usize>
     let begun = client.now()?;
     let mut stream = client.stream();
     for _ in 0..u64::MAX {
-        // Before the look, which finds the room that came while the process stood still.
-        let stuck = is_stuck(client, begun);
+        if is_stuck(client, begun) {
+            return send_last(client, bytes);
+        }
         match stream.write(bytes) {
             Ok(n) if n > 0 || bytes.is_empty() => return Some(n),
-            Err(error) if is_timeout(&error) && !stuck => {}
+            Err(error) if is_timeout(&error) => {}
             _ => return None,
         }
     }

@@ -31,7 +31,8 @@ impl<'a> Rounds<'a> {
         self.left
     }
 
-    /// The next client. None where the accept failed, which uses up a round too, and is over after a pause.
+    /// The next client. None where the accept failed, which uses up a round too, and is over after a pause, in which this seat counts as
+    /// taken: silent clients make room where there are no more files.
     pub fn accept<H: Host>(&mut self, rt: &H) -> Option<TcpStream>
         requires { 0 < self.old.left }
         ensures { self.new.left + 1 ≡ self.old.left }
@@ -40,7 +41,9 @@ impl<'a> Rounds<'a> {
         match self.acceptor.listener.accept() {
             Ok((stream, _)) => Some(stream),
             Err(_) => {
+                self.acceptor.occupancy.enter();
                 thread::sleep(rt, self.acceptor.limits.pause);
+                self.acceptor.occupancy.leave();
                 None
             }
         }

@@ -1,6 +1,6 @@
 //! What the server on event loops has alone: counters that it publishes, and numbers that it refuses.
 
-use super::clients::{exchange, listen};
+use super::clients::{exchange, is_served, listen};
 use super::loop_servers::{Outside, beside_loops, settings_of};
 use super::plans::{Plan, plan_of};
 use super::servers::has_asked;
@@ -41,6 +41,25 @@ fn a_server_publishes_what_it_counts(rt: HostRuntime) -> Result<(), Fail> {
         [2, 2, 0, 1]
     );
     assert_eq!(rt; [jobs, counts.accepts.failed], [loops.led, 0]);
+    Ok(())
+}
+
+#[test]
+fn clients_are_dealt_to_the_loops_in_turn(rt: HostRuntime) -> Result<(), Fail> {
+    let outside = Outside::new();
+    let plan = plan_of(&rt, 1, 4, 1)?.on_loops(2);
+    let settings = settings_of(&outside, &plan);
+    let (report, served) = beside_loops(&rt, DemoSource, &settings, |address| {
+        (0..4).all(|_| is_served(&rt, address))
+    })?;
+    let counters = &outside.counters;
+    let asked = [
+        counters.of_loop(0).read().asked,
+        counters.of_loop(1).read().asked,
+    ];
+    assert!(rt; served);
+    assert!(rt; has_asked(&report, 4));
+    assert_eq!(rt; asked, [2, 2]);
     Ok(())
 }
 

@@ -6,6 +6,7 @@ use super::plans::{patient, plan_of};
 use super::servers::has_asked;
 use super::slow::{ASK_SLOW, Call, FOUND_SLOW, await_call};
 use peer_limits::Limits;
+use peer_stats::Counters;
 use std::io::Read;
 use std::net::{Net, SocketAddr, TcpListener, TcpStream};
 use std::sync::Wait;
@@ -73,12 +74,24 @@ fn waits_with_a_reply_unread(stream: &TcpStream, request: &[u8]) -> bool {
     send(stream, ASK_K) && reader.read_exact(&mut [0]).is_ok() && send(stream, request)
 }
 
+// Waits until loops have read so many requests: each publishes that behind the turn in which it lists who waits.
+fn await_asked<H: Clock>(rt: &H, counters: &Counters, count: u64) -> bool {
+    for _ in 0..10_000 {
+        if counters.read().loops.asked == count {
+            return true;
+        }
+        thread::sleep(rt, Duration::from_millis(1));
+    }
+    false
+}
+
 // Whether two of three clients get the value for which all wait, where the one between them resets its connection. That this
 // was let go is seen by three more, for whom there was no room.
 fn others_have_it<H: AllocGlobal + Net<Listener = TcpListener, Stream = TcpStream> + Wait + Clock>(
     rt: &H,
     address: SocketAddr,
     call: &Call,
+    counters: &Counters,
 ) -> bool {
     let (Some(first), Some(second), Some(third)) = (
         connect(rt, address),
@@ -90,9 +103,8 @@ fn others_have_it<H: AllocGlobal + Net<Listener = TcpListener, Stream = TcpStrea
     let asked = send(&first, ASK_SLOW)
         && await_call(rt, &call.called)
         && waits_with_a_reply_unread(&second, ASK_SLOW)
-        && send(&third, ASK_SLOW);
-    // By then the three are listed.
-    thread::sleep(rt, Duration::from_millis(50));
+        && send(&third, ASK_SLOW)
+        && await_asked(rt, counters, 4);
     drop(second);
     let let_go = asked && (0..3).all(|_| is_served(rt, address));
     call.open.store(true, SeqCst);
@@ -106,7 +118,7 @@ fn a_client_that_waits_resets_between_others(rt: HostRuntime) -> Result<(), Fail
     let plan = plan_of(&rt, 2, 3, 2)?;
     let settings = settings_of(&outside, &plan);
     let (report, answered) = beside_slow(&rt, &call, &settings, |address| {
-        others_have_it(&rt, address, &call)
+        others_have_it(&rt, address, &call, &outside.counters)
     })?;
     assert!(rt; answered);
     assert!(rt; has_asked(&report, 7));

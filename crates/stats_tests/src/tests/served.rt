@@ -8,9 +8,9 @@ use std::net::{Net, SocketAddr, TcpListener, TcpStream};
 use std::random::RandomSource;
 use std::sync::Wait;
 use std::test::Fail;
-use std::thread;
 use std::thread::Threads;
-use std::time::Clock;
+use std::time::{Clock, Duration};
+use std::{io, thread};
 
 // What a client receives that sends these bytes, until the server closes.
 fn exchange<H: Net<Listener = TcpListener, Stream = TcpStream> + Wait + Clock>(
@@ -40,7 +40,32 @@ fn gets<H: AllocGlobal + Net<Listener = TcpListener, Stream = TcpStream> + Wait 
     }
 }
 
-// What clients see: the page, health, another path, another method, and health beside a client that is silent.
+// Whether a client that says nothing is let go, and the page tells by then that time has passed.
+fn is_let_go<H: AllocGlobal + Net<Listener = TcpListener, Stream = TcpStream> + Wait + Clock>(
+    rt: &H,
+    address: SocketAddr,
+    silent: io::Result<TcpStream>,
+) -> bool {
+    let Ok(mut silent) = silent else {
+        return false;
+    };
+    let is_patient = silent
+        .set_read_timeout(Some(Duration::from_secs(30)))
+        .is_ok();
+    let is_gone = matches!(silent.read(&mut [0u8; 1]), Ok(0));
+    let begun = b"\npeer_front_uptime_seconds 0\n";
+    match exchange(
+        rt,
+        rt.alloc(),
+        address,
+        b"GET /metrics HTTP/1.1\r\nHost: h\r\n\r\n",
+    ) {
+        Some(page) => is_patient && is_gone && !page.as_slice().ends_with(begun),
+        None => false,
+    }
+}
+
+// What clients see: the page, health, another path, another method; and that one which is silent is let go.
 fn see<H: AllocGlobal + Net<Listener = TcpListener, Stream = TcpStream> + Wait + Clock>(
     rt: &H,
     address: SocketAddr,
@@ -52,7 +77,7 @@ fn see<H: AllocGlobal + Net<Listener = TcpListener, Stream = TcpStream> + Wait +
             address,
             b"GET /metrics HTTP/1.1\r\nHost: h\r\n\r\n",
             b"HTTP/1.1 200 OK\r\nconnection: close\r\ncontent-type: text/plain; version=0.0.4; charset=utf-8\r\n",
-            b"# TYPE peer_front_uptime_seconds gauge\npeer_front_uptime_seconds 0\n",
+            b"\n",
         ),
         gets(
             rt,
@@ -75,7 +100,7 @@ fn see<H: AllocGlobal + Net<Listener = TcpListener, Stream = TcpStream> + Wait +
             b"HTTP/1.1 405 Method Not Allowed\r\n",
             b"\r\n\r\nGET and HEAD are answered\n",
         ),
-        silent.is_ok(),
+        is_let_go(rt, address, silent),
     ]
 }
 
