@@ -150,8 +150,7 @@ def silent_clients_go_in_turn():
 def silent_clients_go_where_the_system_gives_no_more_files():
     with Counted("--demo", "--loops", "1") as server, ExitStack() as streams:
         silent = [streams.enter_context(socket.create_connection(server.address)) for _ in range(20)]
-        server.says(connections=20)
-        time.sleep(0.5)  # until the page's client is gone
+        time.sleep(0.5)  # until all are accepted; a client of the page would leave a file behind that can be had
         files = len(os.listdir(f"/proc/{server.process.pid}/fd"))
         _, most = resource.prlimit(server.process.pid, resource.RLIMIT_NOFILE)
         resource.prlimit(server.process.pid, resource.RLIMIT_NOFILE, (files, most))
