@@ -6,11 +6,12 @@
 
 The first who asks for a key leads, those who ask while it is looked up join, and those who ask once a cache has it hit;
 connections are counted as they come and go; and each failure of a service is counted as what it is, also where a reply of another
-status than 200 begins and its rest is late, and is told on standard error, none twice. `--loops`, `--workers` and
-`--fetchers` are as many threads, and each fetcher has `--under-way` values; who has nothing to do takes no processor; no more connections are open than by `--connections`, and where all are taken, silent clients are
-let go until a sixteenth is free, and those who came last are not the next to go; where the system gives no more files, silent clients
-are let go too; `--timeout` is how long a value may take; a value above `--cache` is not kept, and one below it is; and above
-`--memory` a client is asked for one value at a time.
+status than 200 begins and its rest is late, and is told on standard error, none twice. `--loops`, `--workers` and `--fetchers` are as
+many threads, and each fetcher has `--under-way` values; who has nothing to do takes no processor. No more connections are open than
+by `--connections`, and where all are taken, silent clients are let go until a sixteenth is free, and those who came last are not the
+next to go; where the system gives no more files, silent clients are let go too, and accepts that failed are counted. `--timeout` is
+how long a value may take; a value above `--cache` is not kept, and one below it is; and above `--memory` a client is asked for one
+value at a time.
 
 Its last line is `rows N failures 0`; where a row fails, so does the program.
 """
@@ -150,7 +151,8 @@ def silent_clients_go_in_turn():
 def silent_clients_go_where_the_system_gives_no_more_files():
     with Counted("--demo", "--loops", "1") as server, ExitStack() as streams:
         silent = [streams.enter_context(socket.create_connection(server.address)) for _ in range(20)]
-        time.sleep(0.5)  # until all are accepted; a client of the page would leave a file behind that can be had
+        # Until all are accepted. The page is not asked for it: its client would leave the number of a file free.
+        time.sleep(0.5)
         files = len(os.listdir(f"/proc/{server.process.pid}/fd"))
         _, most = resource.prlimit(server.process.pid, resource.RLIMIT_NOFILE)
         resource.prlimit(server.process.pid, resource.RLIMIT_NOFILE, (files, most))

@@ -4,11 +4,12 @@
     ./build
     python3 bench/kept.py [crates/peer_front/out/peer_front]
 
-Connections are kept for a service that is asked now, also where others, asked before, leave as many as are kept, and no more; none is kept
-that a service has ended, nor any with `--connection-for-each`; where a host is gone without a word one value is late, and the next
-ones ask anew; of two services each value comes from its own, also where one ends its connections now and then, and in its time where
-the other one hangs, as a table's do beside a service that hangs; a value that waited has its whole time; what comes on a kept connection without a request is no value; a
-reply that runs until its connection ends is no value where that is reset; and interim replies without end fill no memory.
+Connections are kept for a service that is asked now, also where others, asked before, leave as many as are kept, and no more; none
+is kept that a service has ended, nor any with `--connection-for-each`; where a host is gone without a word one value is late, and
+the next ones ask anew; of two services each value comes from its own, also where one ends its connections now and then, and in its
+time where the other one hangs, as a table's do beside a service that hangs; a value that waited has its whole time; what comes on a
+kept connection without a request is no value; a reply that runs until its connection ends is no value where that is reset; and
+interim replies without end fill no memory.
 
 Its last line is `rows N failures 0`; where a row fails, so does the program.
 """
@@ -168,6 +169,7 @@ def a_service_that_hangs_leaves_room_to_a_table():
 
 
 def one_that_waited_has_its_whole_time():
+    """Of two services each may have one of two values under way."""
     def is_slow(stream):
         while stream.recv(10000):
             time.sleep(2.5)
