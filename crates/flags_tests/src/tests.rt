@@ -39,32 +39,26 @@ fn is_bounded(alloc: Global, flag: &str, value: &str, bounds: Option<&str>) -> R
     }
 }
 
-// What is done where no flag says otherwise.
-const USUAL: Options<'static> = Options {
-    listen: "127.0.0.1:1",
-    demo: false,
-    table: None,
-    fetchers: 1,
-    under_way: 1_024,
-    workers: 0,
-    loops: 2,
-    connections: 10_000,
-    cache_bytes: 67_108_864,
-    memory: 268_435_456,
-    timeout: Duration::ZERO,
-    connection_for_each: false,
-    stats: None,
-    until_eof: false,
-    for_services: None,
-};
-
 #[test]
 fn each_flag_has_its_default(rt: HostRuntime) -> Result<(), Fail> {
     let words = ["peer_front", "--listen", "127.0.0.1:1"];
     let matches = matches_of(rt.alloc(), &words)?;
     let usual = Options {
+        listen: "127.0.0.1:1",
+        demo: false,
+        table: None,
+        fetchers: 1,
+        under_way: 1_024,
+        workers: 0,
+        loops: 2,
+        connections: 10_000,
+        cache_bytes: 67_108_864,
+        memory: 268_435_456,
         timeout: Duration::from_secs(10),
-        ..USUAL
+        connection_for_each: false,
+        stats: None,
+        until_eof: false,
+        for_services: None,
     };
     let is_usual = Options::of(&matches) == Ok(usual);
     drop(matches);

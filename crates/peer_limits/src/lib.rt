@@ -29,8 +29,8 @@ pub struct Limits {
     /// How long is read on, and what comes discarded, behind a closing reply, so that the close does not reset what the
     /// client has not read yet (RFC 9112, section 9.6).
     pub linger: Duration,
-    /// The pause behind a call of the system that failed, so that a server without free file descriptors neither spins nor
-    /// loses its rounds.
+    /// The pause behind a call of the system that failed, so that a server without free file descriptors does not spin. In
+    /// threads each accept that fails uses one of its rounds up all the same.
     pub pause: Duration,
 }
 

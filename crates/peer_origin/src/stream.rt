@@ -7,7 +7,7 @@ use std::io;
 use std::io::{ErrorKind, Read, Write};
 use std::net::TcpStream;
 use std::sync::Arc;
-use std::time::Clock;
+use std::time::{Clock, Duration};
 
 // Whether a call of a stream ended for its time.
 fn is_timeout(error: &io::Error) -> bool {
@@ -19,33 +19,69 @@ fn was_interrupted(error: &io::Error) -> bool {
     error.kind() == ErrorKind::Interrupted
 }
 
-// What an origin sends by the deadline.
+// A connection to an origin, used by a deadline.
 #[derive(Drop)]
-struct Input<'a, H> {
+struct Timed<'a, H> {
     stream: Arc<TcpStream>,
     deadline: &'a Deadline<'a, H>,
     late: bool,
 }
 
-impl<'a, H: Clock> Input<'a, H> {
+impl<'a, H: Clock> Timed<'a, H> {
+    fn new(stream: Arc<TcpStream>, deadline: &'a Deadline<'a, H>) -> Timed<'a, H> {
+        Timed {
+            stream,
+            deadline,
+            late: false,
+        }
+    }
+
+    // The time that is left, or none where it is over.
+    fn left(&mut self) -> Option<Duration> {
+        let left = self.deadline.left();
+        self.late = left.is_none();
+        left
+    }
+
+    // None, unless a call that failed may be made again.
+    fn may_go_on(&mut self, error: &io::Error) -> Option<()> {
+        self.late = is_timeout(error);
+        if was_interrupted(error) {
+            Some(())
+        } else {
+            None
+        }
+    }
+
     // The bytes that come next, or none where the stream failed or the time is over.
     fn receive(&mut self, room: &mut [u8]) -> Option<usize>
         ensures { IfSome result (λ n. n ≤ length room.new) }
     {
-        let mut stream = &*self.stream;
         for _ in 0..u64::MAX {
-            let Some(left) = self.deadline.left() else {
-                self.late = true;
-                return None;
-            };
-            self.stream.set_read_timeout(Some(left)).ok()?;
+            let left = self.left()?;
+            let mut stream = &*self.stream;
+            stream.set_read_timeout(Some(left)).ok()?;
             match stream.read(room) {
                 Ok(n) => return Some(n),
-                Err(error) if was_interrupted(&error) => {}
-                Err(error) => {
-                    self.late = is_timeout(&error);
-                    return None;
-                }
+                Err(error) => self.may_go_on(&error)?,
+            }
+        }
+        None
+    }
+
+    // Sends what the stream takes, or none where it failed or the time is over.
+    fn send(&mut self, bytes: &[u8]) -> Option<usize>
+        ensures bound { IfSome result (λ n. n ≤ length bytes.now) }
+        ensures some { IfSome result (λ n. 0 < length bytes.now → 0 < n) }
+    {
+        for _ in 0..u64::MAX {
+            let left = self.left()?;
+            let mut stream = &*self.stream;
+            stream.set_write_timeout(Some(left)).ok()?;
+            match stream.write(bytes) {
+                Ok(n) if n > 0 || bytes.is_empty() => return Some(n),
+                Ok(_) => return None,
+                Err(error) => self.may_go_on(&error)?,
             }
         }
         None
@@ -55,7 +91,7 @@ impl<'a, H: Clock> Input<'a, H> {
 /// A reader of what an origin sends by the deadline.
 #[derive(Drop)]
 pub struct StreamReader<'a, H> {
-    input: Input<'a, H>,
+    input: Timed<'a, H>,
     counts: ReadCounts,
 }
 
@@ -65,11 +101,7 @@ impl<'a, H: Clock> StreamReader<'a, H> {
         ensures calls { result.counts.calls ≡ 0 }
     {
         StreamReader {
-            input: Input {
-                stream,
-                deadline,
-                late: false,
-            },
+            input: Timed::new(stream, deadline),
             counts: ReadCounts::none(),
         }
     }
@@ -82,7 +114,7 @@ impl<'a, H: Clock> StreamReader<'a, H> {
     /// The stream, once the reader has served.
     pub fn into_stream(self) -> Arc<TcpStream> {
         let StreamReader { input, .. } = self;
-        let Input { stream, .. } = input;
+        let Timed { stream, .. } = input;
         stream
     }
 }
@@ -103,45 +135,10 @@ impl<'a, H: Clock> PeerRead for StreamReader<'a, H> {
     }
 }
 
-// What is sent to an origin by the deadline.
-#[derive(Drop)]
-struct Output<'a, H> {
-    stream: Arc<TcpStream>,
-    deadline: &'a Deadline<'a, H>,
-    late: bool,
-}
-
-impl<'a, H: Clock> Output<'a, H> {
-    // Sends what the stream takes, or none where it failed or the time is over.
-    fn send(&mut self, bytes: &[u8]) -> Option<usize>
-        ensures bound { IfSome result (λ n. n ≤ length bytes.now) }
-        ensures some { IfSome result (λ n. 0 < length bytes.now → 0 < n) }
-    {
-        let mut stream = &*self.stream;
-        for _ in 0..u64::MAX {
-            let Some(left) = self.deadline.left() else {
-                self.late = true;
-                return None;
-            };
-            self.stream.set_write_timeout(Some(left)).ok()?;
-            match stream.write(bytes) {
-                Ok(n) if n > 0 || bytes.is_empty() => return Some(n),
-                Ok(_) => return None,
-                Err(error) if was_interrupted(&error) => {}
-                Err(error) => {
-                    self.late = is_timeout(&error);
-                    return None;
-                }
-            }
-        }
-        None
-    }
-}
-
 /// A writer of what is sent to an origin by the deadline.
 #[derive(Drop)]
 pub struct StreamWriter<'a, H> {
-    output: Output<'a, H>,
+    output: Timed<'a, H>,
     failures: u64,
 }
 
@@ -151,11 +148,7 @@ impl<'a, H: Clock> StreamWriter<'a, H> {
         ensures { result.failures ≡ 0 }
     {
         StreamWriter {
-            output: Output {
-                stream,
-                deadline,
-                late: false,
-            },
+            output: Timed::new(stream, deadline),
             failures: 0,
         }
     }

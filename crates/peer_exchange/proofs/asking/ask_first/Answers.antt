@@ -1,4 +1,4 @@
-use Rattle.std.proofs.Common.{Some, subst, sym}
+use Rattle.std.proofs.Common.{Some, rules, subst, sym}
 use Rattle.peer_fill.specs.Seats.{asks_of}
 use Rattle.peer_wish.specs.Known.{IsKnown}
 use Rattle.peer_wish.specs.Nexts.{IsNextOf, IsNextWish}
@@ -23,3 +23,6 @@ returns-in-Ok-Some-ticket_of-clause-asks g c =
     let is = rw c.in-Ok-Some-ticket_of.field-0-is at c.in-Ok-Some-ticket_of.ensures.ticket in
     let P : Wish → Type 0 = λ w. CountsAsks (asks_in_body w.body) (asks_of c.args.seat.now) (asks_of c.ticket_of.new.seat) in
     (subst (IsNextWish numbers held) (sym is) next.0, next.1, subst P (sym is) (rw c.in-Ok-Some-ticket_of.field-0-is at c.in-Ok-Some-ticket_of.ensures.counted))
+
+pub returns-in-Ok-None-ticket_of-clause-asks : goal.returns-in-Ok-None-ticket_of-clause-asks
+returns-in-Ok-None-ticket_of-clause-asks g c = search rules

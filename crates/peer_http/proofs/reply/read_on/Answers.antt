@@ -1,4 +1,4 @@
-use Rattle.std.proofs.Common.{◌≡◌, ◌≤◌, arith, length, subst, IfOk, IfSome}
+use Rattle.std.proofs.Common.{◌≡◌, ◌≤◌, IfOk, IfSome, arith, length, rules, subst}
 use Rattle.std.proofs.lemmas.Grind.{common_steps}
 use Rattle.peer_http.proofs.ReceivingLemmas.{receives}
 use Rattle.peer_http.proofs.reply.read_on.Goals as goal
@@ -10,3 +10,9 @@ returns-in-Ok-clause-reads g c =
     let within = subst (λ m. IfOk c.receive.result (λ given?. IfSome given? (λ r. length r.value.items ≤ m))) c.receive.ensures.most c.receive.ensures.within in
     receives _ _ _ _ _ _ _ _ c.in-Ok.ensures.bytes c.receive.ensures.came c.receive.result untold
     c.receive.ensures.silent c.receive.ensures.reply within c.receive.ensures.told
+
+pub returns-in-Err-clause-reads : goal.returns-in-Err-clause-reads
+returns-in-Err-clause-reads g c = search rules
+
+pub returns-in-Err-clause-unfailed : goal.returns-in-Err-clause-unfailed
+returns-in-Err-clause-unfailed g c = search rules

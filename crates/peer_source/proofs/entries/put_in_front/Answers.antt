@@ -1,4 +1,4 @@
-use Rattle.std.proofs.Common.{ℕ, List, ap, ◌∙◌, arith}
+use Rattle.std.proofs.Common.{◌∙◌, List, ap, arith, rules, ℕ}
 use Rattle.lru.specs.LruCache.{LruCache, lru_cache}
 use Rattle.peer_source.specs.Caches.{bytes_in}
 use Rattle.peer_source.proofs.EntryLemmas.{bytes_left, pushes}
@@ -40,3 +40,6 @@ returns-in-None-clause-others c =
     let pushed = pushes c.args.entries.now c.args.key c.args.value c.requires.most c.requires.some in
     let new = ap (λ (m : LruCache (List ℕ) (List ℕ)). bytes_in m.entries) c.in-Ok.ensures.entries ∙ ap bytes_in pushed.entries in
     omega (arith, new, pushed.first, pushed.others, c.requires.bytes, ap bytes_left c.in-None.is, ap bytes_left c.in-Ok.ensures.old)
+
+pub returns-in_default-clause-err : goal.returns-in_default-clause-err
+returns-in_default-clause-err c = search rules

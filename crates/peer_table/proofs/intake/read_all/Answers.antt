@@ -1,4 +1,4 @@
-use Rattle.std.proofs.Common.{◌≡◌, ◌<◌, ◌++◌, length, take, arith, length-append}
+use Rattle.std.proofs.Common.{◌≡◌, ◌<◌, ◌++◌, arith, length, length-append, rules, take}
 use Rattle.std.proofs.lemmas.List.{length-take}
 use Rattle.std.proofs.lemmas.Grind.{common_steps}
 use Rattle.peer_view.specs.ReadWrite.{reading}
@@ -20,3 +20,9 @@ returns-then-n-len g c =
     c.loop-made.text.items p
     (R.given c.read.new.self) (R.calls c.read.new.self) (R.ends c.read.new.self) (R.failures c.read.new.self) i.gave r.bytes r.called
     c.loop-made-test.true i.within over quiet fine
+
+pub returns-in_default : goal.returns-in_default
+returns-in_default g c = search rules
+
+pub loop-made-preserved : goal.loop-made-preserved
+loop-made-preserved g c = grind (arith, common_steps)

@@ -1,4 +1,4 @@
-use Rattle.std.proofs.Common.{◌+◌, ◌≤◌, ◌∙◌, arith, drop, take, append-nil, length, ap}
+use Rattle.std.proofs.Common.{◌+◌, ◌≤◌, ◌∙◌, ap, append-nil, arith, drop, length, rules, take}
 use Rattle.std.proofs.lemmas.List.{take_rest, take_all}
 use Rattle.std.proofs.KnownBytes.{Appends-trans}
 use Rattle.peer_view.proofs.MovingLemmas.{Appends-take-add, Appends-along, Moves-front, Moves-all}
@@ -31,3 +31,6 @@ returns-clause-sends g c =
       Moves-all _ _ c.args.bytes.now (Appends-along _ _ _ _ (take_all c.loop-at.at c.args.bytes.now whole) c.loop-at.invariant.wrote),
       c.loop-at.invariant.same_failures,
     )
+
+pub returns-in-Err-clause-written : goal.returns-in-Err-clause-written
+returns-in-Err-clause-written g c = search rules

@@ -1,4 +1,4 @@
-use Rattle.std.proofs.Common.{◌≡◌, inl, inr, Option, Some, None, Result, Ok, Err, refl, arith}
+use Rattle.std.proofs.Common.{◌≡◌, Err, None, Ok, Option, Result, Some, arith, inl, inr, refl, rules}
 use Rattle.peer_conn.proofs.writer_side.WriterSide.put_filled.Goals as goal
 
 -- what was made is not none
@@ -14,3 +14,9 @@ returns-in-Ok-Some-clause-counts g c =
 
 pub returns-in-Err-clause-counts : goal.returns-in-Err-clause-counts
 returns-in-Err-clause-counts g c = inr (inr ((λ own. refused_not_none c.in-Err.is (c.refill.ensures.own own), refl, c.refuse.ensures.stopped)))
+
+pub returns-in-Ok-None-clause-counts : goal.returns-in-Ok-None-clause-counts
+returns-in-Ok-None-clause-counts g c = search rules
+
+pub returns-in-Ok-Some-clause-replies : goal.returns-in-Ok-Some-clause-replies
+returns-in-Ok-Some-clause-replies g c = search rules

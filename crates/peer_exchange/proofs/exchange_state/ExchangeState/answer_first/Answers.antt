@@ -1,4 +1,5 @@
-use Rattle.std.proofs.Common.{◌∙◌, ◌<◌, ◌∷◌, ap, sym, refl, length, subst, arith}
+use Rattle.std.proofs.lemmas.Grind.{common_steps}
+use Rattle.std.proofs.Common.{◌∙◌, ◌<◌, ◌∷◌, ap, arith, length, refl, rules, subst, sym}
 use Rattle.std.proofs.lemmas.Bool.{leb-false}
 use Rattle.std.specs.VecDeque.{deque_len}
 use Rattle.peer_exchange.proofs.ExchangeLemmas.{first_item, upholds_like, answer_one}
@@ -17,3 +18,9 @@ returns-in-Ok-Put-clause-keeps g c numbers =
 
 pub returns-in-Err-clause-keeps : goal.returns-in-Err-clause-keeps
 returns-in-Err-clause-keeps g c numbers = record { keeps = λ came sent h. c.give_up.ensures.upholds numbers came sent _ (upholds_like refl refl c.in-Err.ensures h) }
+
+pub returns-in-Ok-Waits-clause-answers : goal.returns-in-Ok-Waits-clause-answers
+returns-in-Ok-Waits-clause-answers g c = grind (arith, common_steps)
+
+pub returns-in-Err-clause-answers : goal.returns-in-Err-clause-answers
+returns-in-Err-clause-answers g c = search rules

@@ -1,3 +1,4 @@
+use Rattle.std.proofs.Common.{rules}
 use Rattle.peer_exchange.proofs.exchange_state.ExchangeState.narrow.Goals as goal
 
 pub returns-clause-keeps : goal.returns-clause-keeps
@@ -12,3 +13,6 @@ returns-clause-keeps g c numbers = record {
     unsent = h.unsent;
   };
 }
+
+pub returns-clause-window : goal.returns-clause-window
+returns-clause-window g c = search rules

@@ -1,4 +1,4 @@
-use Rattle.std.proofs.Common.{◌++◌, arith, length-append}
+use Rattle.std.proofs.Common.{◌++◌, arith, length-append, rules}
 use Rattle.crossbeam_queue.specs.Passes.{view}
 use Rattle.peer_fill.specs.declared.jobs.Ranked.{Ranked}
 use Rattle.peer_fill.specs.Jobs.{ranked}
@@ -40,3 +40,9 @@ returns-clause-each_flight g c =
       t.share_led,
       c.count_led-led.ensures.seats,
     )
+
+pub returns-clause-asks : goal.returns-clause-asks
+returns-clause-asks g c = search rules
+
+pub returns-clause-each_ask : goal.returns-clause-each_ask
+returns-clause-each_ask g c = search rules

@@ -1,4 +1,4 @@
-use Rattle.std.proofs.Common.{sym, ◌∙◌}
+use Rattle.std.proofs.Common.{◌∙◌, rules, sym}
 use Rattle.std.specs.HashMap.{get, keys}
 use Rattle.std.proofs.lemmas.Map.Entries.{length-keys_of}
 use Rattle.std.proofs.lemmas.Map.Views.{hash_map_contains_key_iff}
@@ -19,3 +19,6 @@ returns-clause-open_flights g c =
           let same = number_is_there (get place_eq flights p) in
           (λ some. there.0 (sym same ∙ some), λ contains. same ∙ there.1 contains);
     }
+
+pub returns-clause-led : goal.returns-clause-led
+returns-clause-led g c = search rules

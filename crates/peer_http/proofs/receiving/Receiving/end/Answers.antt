@@ -1,5 +1,5 @@
 use mathlib.Core.Logic.{∥∥₁_map}
-use Rattle.std.proofs.Common.{sym, subst, subst₂}
+use Rattle.std.proofs.Common.{rules, subst, subst₂, sym}
 use Rattle.peer_http.specs.Replies.{EndsHere, IsReply}
 use Rattle.peer_http.proofs.ReceivingLemmas.{alone_now, asks_again, stands_now}
 use Rattle.peer_http.proofs.receiving.Receiving.end.Goals as goal
@@ -31,3 +31,12 @@ returns-in-Ok-false-clause-keeps c =
     let read = rw c.in-Ok-false.field-0-test at c.in-Ok-false.ensures.reads in
     let closes = subst (λ x. EndsHere x c.read_body-body.new.self.client c.ends_here.new.client) c.if-ends_here.true c.ends_here.ensures in
     asks_again _ _ _ _ _ _ _ c.give-in-Ok-false.result c.read_body-body.ensures.came given.client given.status given.value given.keeps (∥∥₁_map read (λ h none. (h closes.0, λ idle. absurd (closes.1 idle))))
+
+pub returns-in-Ok-false-2-clause-reply : goal.returns-in-Ok-false-2-clause-reply
+returns-in-Ok-false-2-clause-reply c = search rules
+
+pub returns-in-Ok-false-2-clause-keeps : goal.returns-in-Ok-false-2-clause-keeps
+returns-in-Ok-false-2-clause-keeps c = search rules
+
+pub returns-in_default : goal.returns-in_default
+returns-in_default c = search rules

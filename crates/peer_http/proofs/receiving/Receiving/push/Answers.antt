@@ -1,5 +1,5 @@
 use mathlib.Core.Logic.{∥∥₁_map}
-use Rattle.std.proofs.Common.{sym, subst, subst₂}
+use Rattle.std.proofs.Common.{rules, subst, subst₂, sym}
 use Rattle.peer_http.specs.Receivings.{IsReadTo}
 use Rattle.peer_http.specs.Replies.{HasHead}
 use Rattle.peer_http.proofs.ReceivingLemmas.{comes, head_append, silence_kept}
@@ -25,3 +25,6 @@ pub invariant_of-self-in-Err-clause-silence : goal.invariant_of-self-in-Err-clau
 invariant_of-self-in-Err-clause-silence c =
     let r = c.args.self.now in
     silence_kept r.silent c.is_empty.result r.came.bytes c.args.bytes.now c.and-self.result.bytes r.silence c.and-self.ensures c.is_empty.ensures
+
+pub returns-in-Err-clause-silent : goal.returns-in-Err-clause-silent
+returns-in-Err-clause-silent c = search rules

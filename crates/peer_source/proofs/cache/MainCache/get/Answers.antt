@@ -1,3 +1,4 @@
+use Rattle.std.proofs.Common.{rules}
 use Rattle.peer_source.specs.Caches.{IsAnswer}
 use Rattle.peer_source.proofs.EntryLemmas.{All-there, there_at}
 use Rattle.peer_source.proofs.CacheLemmas.{Keeps-front, cache_of-front, not_missing}
@@ -34,3 +35,6 @@ returns-clause-front g c =
     rw (← c.self.view_is)
     (cache_of-front kept.entries c.bring_to_front.new.entries c.args.key.now c.in-Some.found.kept.now there c.bring_to_front.ensures
     kept.group.number kept.limit)
+
+pub returns-clause-fill : goal.returns-clause-fill
+returns-clause-fill g c = search rules

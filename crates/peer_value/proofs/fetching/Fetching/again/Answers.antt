@@ -1,4 +1,4 @@
-use Rattle.std.proofs.Common.{rules, ◌≡◌, [], None}
+use Rattle.std.proofs.Common.{◌≡◌, None, [], rules}
 use Rattle.peer_value.proofs.FetchingLemmas.{anew}
 use Rattle.peer_value.proofs.fetching.Fetching.again.Goals as goal
 
@@ -8,3 +8,6 @@ returns-clause-uses c = λ _.
     let silent : f.receiving.came.bytes ≡ [] = search rules in
     let none : f.first ≡ None = search rules in
     anew f.request.items f.sent f.receiving.came.bytes f.ended f.first c.receiving.result.came.bytes silent none c.receiving.ensures.came
+
+pub returns-then-is_some-clause-kept : goal.returns-then-is_some-clause-kept
+returns-then-is_some-clause-kept c = search rules

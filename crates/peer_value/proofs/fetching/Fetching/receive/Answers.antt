@@ -1,4 +1,4 @@
-use Rattle.std.proofs.Common.{◌≤◌, ◌∙◌, IfSome, IsTrue, length, subst}
+use Rattle.std.proofs.Common.{◌≤◌, ◌∙◌, IfSome, IsTrue, length, rules, subst}
 use Rattle.peer_http.specs.Receivings.{IsStanding, MayAskAgain}
 use Rattle.peer_value.proofs.FetchingLemmas.{answers_standing, reply_of, status_of}
 use Rattle.peer_value.proofs.fetching.Fetching.receive.Goals as goal
@@ -18,3 +18,9 @@ returns-in-Ok-Some-clause-answer c =
       status = status_of new.came.bytes given.reply.status given.reply.value.items c.answer_of.result.value c.answer_of.ensures.status
           (reply_of new.came.bytes given.reply.status given.reply.value.items reply);
     }
+
+pub returns-in-Ok-None-clause-silent : goal.returns-in-Ok-None-clause-silent
+returns-in-Ok-None-clause-silent c = search rules
+
+pub returns-in-Ok-None-clause-ended : goal.returns-in-Ok-None-clause-ended
+returns-in-Ok-None-clause-ended c = search rules

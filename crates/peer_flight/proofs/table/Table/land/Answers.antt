@@ -1,0 +1,5 @@
+use Rattle.std.proofs.Common.{rules}
+use Rattle.peer_flight.proofs.table.Table.land.Goals as goal
+
+pub returns-clause-lands : goal.returns-clause-lands
+returns-clause-lands g c = search rules

@@ -1,0 +1,6 @@
+use Rattle.std.proofs.lemmas.Grind.{common_steps}
+use Rattle.std.proofs.Common.{arith}
+use Rattle.peer_lane.proofs.pair.beside.Goals as goal
+
+pub returns-clause-places : goal.returns-clause-places
+returns-clause-places g c = grind (arith, common_steps)

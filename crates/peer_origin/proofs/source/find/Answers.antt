@@ -1,0 +1,6 @@
+use Rattle.std.proofs.lemmas.Grind.{common_steps}
+use Rattle.std.proofs.Common.{arith}
+use Rattle.peer_origin.proofs.source.find.Goals as goal
+
+pub loop-origin-preserved : goal.loop-origin-preserved
+loop-origin-preserved c = grind (arith, common_steps)

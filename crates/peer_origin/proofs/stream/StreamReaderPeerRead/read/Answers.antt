@@ -1,0 +1,11 @@
+use Rattle.std.proofs.Common.{rules}
+use Rattle.peer_origin.proofs.stream.StreamReaderPeerRead.read.Goals as goal
+
+pub returns-clause-called : goal.returns-clause-called
+returns-clause-called c = search rules
+
+pub returns-clause-end_told : goal.returns-clause-end_told
+returns-clause-end_told c = search rules
+
+pub returns-clause-failed : goal.returns-clause-failed
+returns-clause-failed c = search rules
