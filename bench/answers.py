@@ -19,10 +19,14 @@ import shutil
 import subprocess
 import sys
 import tempfile
+import types
 from importlib.machinery import SourceFileLoader
 
 ROOT = os.path.dirname(os.path.dirname(os.path.abspath(__file__)))
-BUILD = SourceFileLoader("build", os.path.join(ROOT, "build")).load_module()
+sys.dont_write_bytecode = True
+BUILD = types.ModuleType("build")
+BUILD.__file__ = os.path.join(ROOT, "build")
+SourceFileLoader("build", BUILD.__file__).exec_module(BUILD)
 PARTS = ("src", "specs", "proofs")
 # A function's line, and where the file of its answers is to be.
 OPEN = re.compile(r"^fn (\S+): (?:no proof|not proved).*?expected answers in \./(\S+); `search` did not prove ((?:`[^`]+`(?:, )?)+)", re.M)

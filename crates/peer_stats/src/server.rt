@@ -6,7 +6,7 @@ use crate::end::StatsEnd;
 use crate::service::StatsService;
 use mio::net::{TcpListener, TcpStream};
 use mio::{Events, Interest, Poll, Token};
-use peer_host::Host;
+use peer_host::Network;
 use slab::Slab;
 use std::alloc::Global;
 use std::hash::RandomState;
@@ -151,7 +151,7 @@ impl<'a> Running<'a> {
     }
 
     // Waits for events, and serves those whom they concern.
-    fn serve_once<H: Host>(&mut self, rt: &H, waits: &mut Waits, begun: Option<Instant>) {
+    fn serve_once<H: Network>(&mut self, rt: &H, waits: &mut Waits, begun: Option<Instant>) {
         if waits
             .poll
             .poll(&mut waits.events, self.time_to_wait())
@@ -172,7 +172,7 @@ impl<'a> Running<'a> {
 
 impl StatsServer {
     /// Serves until it is ended.
-    pub fn run<H: Host>(self, rt: &H, counters: &Counters, end: &StatsEnd) {
+    pub fn run<H: Network>(self, rt: &H, counters: &Counters, end: &StatsEnd) {
         let StatsServer {
             alloc,
             listener,

@@ -113,15 +113,22 @@ pub fn is_served<H: AllocGlobal + Net<Listener = TcpListener, Stream = TcpStream
     is_text(&exchange(rt, address, ASK_K_LAST), FOUND_K_LAST)
 }
 
-/// Sends a byte at a time until the server is gone, and says whether it is before the last.
-pub fn drips_in_vain<H: Clock>(rt: &H, stream: &TcpStream) -> bool {
+/// Whether something is so within some seconds. It is looked at each millisecond.
+pub fn is_soon<H: Clock, F: Fn() -> bool>(rt: &H, is_so: F) -> bool
+    requires { F.IsAlwaysCallable is_so }
+{
     for _ in 0..10_000 {
-        if !send(stream, b"G") {
+        if is_so() {
             return true;
         }
         thread::sleep(rt, Duration::from_millis(1));
     }
     false
+}
+
+/// Sends a byte at a time until the server is gone, and says whether it is before the last.
+pub fn drips_in_vain<H: Clock>(rt: &H, stream: &TcpStream) -> bool {
+    is_soon(rt, || !send(stream, b"G"))
 }
 
 /// Whether exactly these bytes were received.

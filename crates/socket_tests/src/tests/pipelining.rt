@@ -1,7 +1,7 @@
 //! A client that sends more requests at once than may wait at one moment.
 
 use super::asking::many_requests;
-use super::clients::{connect, receive, send};
+use super::clients::{connect, is_soon, receive, send};
 use super::loop_servers::{Outside, beside_loops, settings_of};
 use super::plans::plan_of;
 use super::servers::has_asked;
@@ -12,8 +12,7 @@ use std::net::{Net, SocketAddr, TcpListener, TcpStream};
 use std::sync::Wait;
 use std::sync::atomic::Ordering::SeqCst;
 use std::test::Fail;
-use std::thread;
-use std::time::{Clock, Duration};
+use std::time::Clock;
 use stream_model::FOUND_K_LAST;
 use test_support::{Hook, Hooked};
 
@@ -44,13 +43,7 @@ impl Hook for SlowTwo<'_> {
 
 // Waits until so many keys were asked for, for some seconds at most.
 fn await_led<H: Clock>(rt: &H, counters: &Counters, count: u64) -> bool {
-    for _ in 0..5_000 {
-        if counters.read().loops.led == count {
-            return true;
-        }
-        thread::sleep(rt, Duration::from_millis(1));
-    }
-    false
+    is_soon(rt, || counters.read().loops.led == count)
 }
 
 // Whether three of six requests were asked for while the second value is not there: behind the first reply two may wait. And

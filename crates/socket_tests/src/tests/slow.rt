@@ -1,11 +1,11 @@
 //! A source that lets a client wait.
 
+use super::clients::is_soon;
 use std::alloc::Global;
 use std::hint::spin_loop;
 use std::sync::atomic::AtomicBool;
 use std::sync::atomic::Ordering::SeqCst;
-use std::thread;
-use std::time::{Clock, Duration};
+use std::time::Clock;
 use test_support::Hook;
 
 /// How far the call for a key is, and whether it may go on.
@@ -61,11 +61,5 @@ pub const FOUND_SLOW: &[u8] =
 
 /// Waits until the source was called, for some seconds at most.
 pub fn await_call<H: Clock>(rt: &H, called: &AtomicBool) -> bool {
-    for _ in 0..5_000 {
-        if called.load(SeqCst) {
-            return true;
-        }
-        thread::sleep(rt, Duration::from_millis(1));
-    }
-    false
+    is_soon(rt, || called.load(SeqCst))
 }

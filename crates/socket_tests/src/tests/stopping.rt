@@ -1,6 +1,6 @@
 //! Servers that are told to end while clients are there.
 
-use super::clients::{connect, receive, receives, send, served_client};
+use super::clients::{connect, is_soon, receive, receives, send, served_client};
 use super::loop_servers::{Outside, beside_loops, beside_slow, settings_of};
 use super::plans::plan_of;
 use super::servers::has_asked;
@@ -114,13 +114,7 @@ fn a_server_that_is_told_to_end_cuts_no_close_short(rt: HostRuntime) -> Result<(
 
 // Waits until so many connections were accepted, for some seconds at most.
 fn await_accepts<H: Clock>(rt: &H, outside: &Outside, accepts: u64) -> bool {
-    for _ in 0..5_000 {
-        if outside.counters.read().accepts.accepted >= accepts {
-            return true;
-        }
-        thread::sleep(rt, Duration::from_millis(1));
-    }
-    false
+    is_soon(rt, || outside.counters.read().accepts.accepted >= accepts)
 }
 
 // Whether those have their replies who asked before the server was told to end, while its one loop stood still: a client that was

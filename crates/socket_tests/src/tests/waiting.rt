@@ -1,6 +1,6 @@
 //! Clients that wait for their values: for longer than one may be silent, and beside one that goes away.
 
-use super::clients::{connect, is_answered, is_served, send};
+use super::clients::{connect, is_answered, is_served, is_soon, send};
 use super::loop_servers::{Outside, beside_slow, settings_of};
 use super::plans::{patient, plan_of};
 use super::servers::has_asked;
@@ -76,13 +76,7 @@ fn waits_with_a_reply_unread(stream: &TcpStream, request: &[u8]) -> bool {
 
 // Waits until loops have read so many requests: each publishes that behind the turn in which it lists who waits.
 fn await_asked<H: Clock>(rt: &H, counters: &Counters, count: u64) -> bool {
-    for _ in 0..10_000 {
-        if counters.read().loops.asked == count {
-            return true;
-        }
-        thread::sleep(rt, Duration::from_millis(1));
-    }
-    false
+    is_soon(rt, || counters.read().loops.asked == count)
 }
 
 // Whether two of three clients get the value for which all wait, where the one between them resets its connection. That this
