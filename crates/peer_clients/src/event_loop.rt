@@ -8,7 +8,7 @@ use crate::limits::MAX_EVENTS;
 use crate::seat::LoopSeat;
 use crate::turns::Turns;
 use mio::{Events, Poll};
-use peer_host::Host;
+use peer_host::Network;
 use peer_poll::WOKEN;
 use peer_site::LoopSite;
 use peer_source::Source;
@@ -187,7 +187,7 @@ impl<'a, S: Source, F: Facts<S>> EventLoop<'a, S, F> {
     }
 
     // Waits for events so long, and notes what was reported.
-    fn wait<H: Host>(&mut self, rt: &H, time: Option<Duration>, waits: &mut Waits) {
+    fn wait<H: Network>(&mut self, rt: &H, time: Option<Duration>, waits: &mut Waits) {
         let waited = waits.poll.poll(&mut waits.events, time);
         self.turns.site.mailbox.stay_awake();
         if waited.is_err() {
@@ -198,7 +198,7 @@ impl<'a, S: Source, F: Facts<S>> EventLoop<'a, S, F> {
     }
 
     // One turn of the loop: it waits for events, and serves those whom they concern.
-    fn serve_once<L: Ledger, H: Host>(
+    fn serve_once<L: Ledger, H: Network>(
         &mut self,
         rt: &H,
         seat: &mut LoopSeat<'a, S, L, F>,
@@ -225,7 +225,7 @@ impl<'a, S: Source, F: Facts<S>> EventLoop<'a, S, F> {
     }
 
     /// Serves until no more streams are given and all clients are gone.
-    pub fn run<L: Ledger, H: Host>(
+    pub fn run<L: Ledger, H: Network>(
         &mut self,
         rt: &H,
         seat: &mut LoopSeat<'a, S, L, F>,

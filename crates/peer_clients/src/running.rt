@@ -10,14 +10,14 @@ use crate::loop_seats::LoopSeats;
 use crate::seat::LoopSeat;
 use crate::work::{LoopParts, LoopWork};
 use peer_fill::Pool;
-use peer_host::Host;
+use peer_host::Network;
 use peer_source::Source;
 use std::alloc::Global;
 use std::marker::{Brand, PhantomData};
 use std::sync::ledger::Ledger;
 
 // Runs a loop whose contracts know its source.
-fn run_known<S: Source, L: Ledger, F: Facts<S>, H: Host>(
+fn run_known<S: Source, L: Ledger, F: Facts<S>, H: Network>(
     rt: &H,
     alloc: Global,
     pool: &Pool<S, L>,
@@ -44,7 +44,7 @@ fn run_known<S: Source, L: Ledger, F: Facts<S>, H: Host>(
 }
 
 /// Serves the streams that its mailbox is given, until no more are given and all clients are gone. Gives its seats back.
-pub fn run_loop<S: Source, L: Ledger, H: Host>(
+pub fn run_loop<S: Source, L: Ledger, H: Network>(
     rt: &H,
     alloc: Global,
     pool: &Pool<S, L>,

@@ -33,7 +33,7 @@ use std::thread::{Promise, Scope, Threads};
 ///
 /// It needs a worker of the pool (`Pool::run_worker`) in another thread, until it returns: without one it waits for ever
 /// for the first fill.
-pub fn serve_connection<S: Source, L: Ledger + Send + Sync, R, W, H: Threads + Wait + Sync>(
+pub fn serve_connection<S: Source + Send + Sync, L: Ledger + Send + Sync, R, W, H>(
     rt: &H,
     alloc: Global,
     pool: &Pool<S, L>,
@@ -43,6 +43,7 @@ pub fn serve_connection<S: Source, L: Ledger + Send + Sync, R, W, H: Threads + W
     reads: u64,
 ) -> (Served<R, W>, ConnSeat<S, L>)
 where
+    H: Threads + Wait + Sync,
     R: PeerRead + Send + Drop,
     W: PeerWrite + Drop,
     requires seat { IsConnSeatOf pool.now seat }
@@ -72,7 +73,13 @@ where
 
 /// `serve_connection`, whose replies are those of the one answer for each group and key: what is written is a prefix of
 /// the replies to what was read, whatever other connections, workers and schedules do.
-pub fn serve_connection_functional<S: FunctionalSource, L: Ledger + Send + Sync, R, W, H>(
+pub fn serve_connection_functional<
+    S: FunctionalSource + Send + Sync,
+    L: Ledger + Send + Sync,
+    R,
+    W,
+    H,
+>(
     rt: &H,
     alloc: Global,
     pool: &Pool<S, L>,
@@ -97,7 +104,7 @@ where
 }
 
 // Serves, where nothing was read, put or written yet.
-fn serve_sides<S: Source, L: Ledger + Send + Sync, R, W, H: Threads + Wait + Sync>(
+fn serve_sides<S: Source + Send + Sync, L: Ledger + Send + Sync, R, W, H: Threads + Wait + Sync>(
     rt: &H,
     pool: &Pool<S, L>,
     reader: ReaderSide<S, L, R>,
@@ -161,7 +168,7 @@ fn read_side<S: Source, L: Ledger, R: PeerRead + Drop, H: Wait>(
 
 // Reads in a thread of its own and writes in this one. Where no thread can be had, the reader is stopped before its first
 // read.
-fn run_within<'s, E, S: Source, L: Ledger + Send + Sync, R, W, H: Threads + Wait + Sync>(
+fn run_within<'s, E, S: Source + Send + Sync, L: Ledger + Send + Sync, R, W, H>(
     scope: &Scope<'s, E>,
     rt: &'s H,
     pool: &'s Pool<S, L>,
@@ -170,6 +177,7 @@ fn run_within<'s, E, S: Source, L: Ledger + Send + Sync, R, W, H: Threads + Wait
     mut writer: WriterSide<S, W>,
 ) -> (StoppedReader<S, L, R>, WriterSide<S, W>)
 where
+    H: Threads + Wait + Sync,
     R: PeerRead + Send + Drop + 's,
     W: PeerWrite + Drop,
     requires { IsConnSeatOf pool.now reader.seat }
@@ -199,7 +207,7 @@ where
 }
 
 // The same, in a scope of its own.
-fn run_sides<S: Source, L: Ledger + Send + Sync, R, W, H: Threads + Wait + Sync>(
+fn run_sides<S: Source + Send + Sync, L: Ledger + Send + Sync, R, W, H: Threads + Wait + Sync>(
     rt: &H,
     pool: &Pool<S, L>,
     signal: &Signal,

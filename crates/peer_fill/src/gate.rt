@@ -4,7 +4,7 @@ use peer_source::GroupId;
 use std::sync::Wait;
 
 /// What is called as a job is taken, counted and filled.
-pub trait Gate: Sync {
+pub trait Gate {
     /// A job was taken, with the flight's right. The cache is looked into next, and only where that has no value the source is called,
     /// or the job is handed out for that.
     fn after_take<R: Wait>(&self, rt: &R, group: GroupId, key: &[u8]);

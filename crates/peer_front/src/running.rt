@@ -27,7 +27,7 @@ pub struct Service<'a, S: Source> {
 }
 
 // Serves, by fetches where there is a plan.
-fn serve_planned<S: Source, H: AllocGlobal + Host>(
+fn serve_planned<S: Source + Send + Sync, H: AllocGlobal + Host>(
     rt: &H,
     service: Service<'_, S>,
 ) -> Result<Report, ServerFault>
@@ -73,7 +73,7 @@ fn serve_beside<
 }
 
 // Serves while the page is served, where one is asked for.
-fn serve_paged<S: Source, H: AllocGlobal + Host>(
+fn serve_paged<S: Source + Send + Sync, H: AllocGlobal + Host>(
     rt: &H,
     service: Service<'_, S>,
     page: Option<Page>,
@@ -96,7 +96,7 @@ fn serve_paged<S: Source, H: AllocGlobal + Host>(
 }
 
 // Serves, and looks names of services up again where there are some.
-fn serve_named<S: Source, H: AllocGlobal + Host>(
+fn serve_named<S: Source + Send + Sync, H: AllocGlobal + Host>(
     rt: &H,
     service: Service<'_, S>,
     page: Option<Page>,
@@ -121,7 +121,7 @@ fn serve_named<S: Source, H: AllocGlobal + Host>(
 
 /// Serves while troubles are told and the page is served, where one is asked for, and ends both behind it. Where there is a
 /// plan, threads fetch by it.
-pub fn serve_watched<S: Source, H: AllocGlobal + Eprint + Host>(
+pub fn serve_watched<S: Source + Send + Sync, H: AllocGlobal + Eprint + Host>(
     rt: &H,
     service: Service<'_, S>,
     page: Option<Page>,

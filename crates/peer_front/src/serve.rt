@@ -129,7 +129,7 @@ fn open<H: AllocGlobal + Eprint + RandomSource + Host>(
 }
 
 // Serves this source, or says why not.
-fn serve_source<S: Source, H: AllocGlobal + Print + Eprint + RandomSource + Host>(
+fn serve_source<S: Source + Send + Sync, H: AllocGlobal + Print + Eprint + RandomSource + Host>(
     rt: &H,
     options: &Options<'_>,
     source: S,

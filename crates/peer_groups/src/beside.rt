@@ -38,7 +38,7 @@ impl<A: Source, B: Source> Beside<A, B> {
     }
 }
 
-impl<A: Source, B: Source> Source for Beside<A, B> {
+impl<A: Source + Send + Sync, B: Source + Send + Sync> Source for Beside<A, B> {
     ghost answers = { λ s. AnswersEither (A.count s.first) (A.answers s.first) (B.answers s.second) };
 
     ghost allowed = { AllowsEither A.allowed B.allowed };

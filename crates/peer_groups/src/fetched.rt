@@ -48,7 +48,7 @@ impl Fetched {
 }
 
 /// The groups of services in a source in which they stand behind those of a first. None where memory is refused.
-pub fn fetched_of<'a, A: Source, B: Source, H: Network + Sync>(
+pub fn fetched_of<'a, A: Source + Send + Sync, B: Source + Send + Sync, H: Network + Sync>(
     alloc: Global,
     source: &Beside<Beside<A, OriginSource<'a, H>>, B>,
 ) -> Option<Fetched>

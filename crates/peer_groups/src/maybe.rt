@@ -12,7 +12,7 @@ pub struct Maybe<S> {
     pub source: Option<S>,
 }
 
-impl<S: Source> Source for Maybe<S> {
+impl<S: Source + Send + Sync> Source for Maybe<S> {
     ghost answers = { λ s. AnswersMaybe S.answers s.source };
 
     ghost allowed = { AllowsMaybe S.allowed };

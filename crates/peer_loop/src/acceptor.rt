@@ -6,7 +6,7 @@
 use crate::listening::Listening;
 use crate::stop::Stop;
 use mio::net::TcpStream;
-use peer_host::Host;
+use peer_host::Network;
 use peer_poll::{lacks_files, would_block};
 use peer_site::Site;
 use std::{io, thread};
@@ -32,19 +32,19 @@ fn tell_end(site: Site<'_>, stop: &Stop) {
 
 impl<'a> Acceptor<'a> {
     // Lets some time pass behind a call that failed.
-    fn pause<H: Host>(&self, rt: &H) {
+    fn pause<H: Network>(&self, rt: &H) {
         thread::sleep(rt, self.site.limits.pause);
     }
 
     // Waits for clients, or for room.
-    fn wait<H: Host>(&mut self, rt: &H) {
+    fn wait<H: Network>(&mut self, rt: &H) {
         if !self.listening.wait() {
             self.pause(rt);
         }
     }
 
     // Gives a stream to a loop, and to another where too many wait there. Waits where that is so at all of them.
-    fn give<H: Host>(&self, rt: &H, mut stream: TcpStream, first: usize) {
+    fn give<H: Network>(&self, rt: &H, mut stream: TcpStream, first: usize) {
         let mut turn = first;
         self.site.occupancy.enter();
         for _ in rt.forever() {
@@ -65,7 +65,7 @@ impl<'a> Acceptor<'a> {
     }
 
     // Waits for clients where there was none, and else for some time.
-    fn wait_behind<H: Host>(&mut self, rt: &H, error: &io::Error) {
+    fn wait_behind<H: Network>(&mut self, rt: &H, error: &io::Error) {
         if would_block(error) {
             // Linux looks for a file before it looks for a client.
             self.site.occupancy.note_file();
@@ -80,7 +80,7 @@ impl<'a> Acceptor<'a> {
     }
 
     // Accepts one stream, or waits, and says whether there was one.
-    fn accept<H: Host>(&mut self, rt: &H, turn: usize) -> bool {
+    fn accept<H: Network>(&mut self, rt: &H, turn: usize) -> bool {
         if self.site.occupancy.is_full() {
             self.site.occupancy.await_place();
             if self.site.occupancy.is_full() {
@@ -114,7 +114,7 @@ impl<'a> Acceptor<'a> {
     }
 
     // Accepts until the server was told to end, or as many connections as it is to.
-    fn accept_all<H: Host>(&mut self, rt: &H) {
+    fn accept_all<H: Network>(&mut self, rt: &H) {
         let mut turn = 0;
         for _ in rt.forever() {
             if self.left == Some(0) || self.stop.is_asked() {
@@ -133,7 +133,7 @@ impl<'a> Acceptor<'a> {
     /// Accepts connections and deals them to the loops in turn, until it was told to stop, or has accepted as many as it is
     /// to. Then it lets go of the listener, so that whoever comes later is refused at once, and another server can have the
     /// address while the loops answer what was asked.
-    pub fn run<H: Host>(mut self, rt: &H) {
+    pub fn run<H: Network>(mut self, rt: &H) {
         self.accept_all(rt);
         let Acceptor {
             listening,

@@ -37,7 +37,7 @@ pub enum ServerFault {
 }
 
 // Serves over a pool that was opened, with what the system gave. None where memory or a thread was refused.
-fn serve_parts<S: Source, L: Ledger + Send + Sync, H: Host>(
+fn serve_parts<S: Source + Send + Sync, L: Ledger + Send + Sync, H: Host>(
     rt: &H,
     alloc: Global,
     pool: &Pool<S, L>,
@@ -72,7 +72,7 @@ fn serve_parts<S: Source, L: Ledger + Send + Sync, H: Host>(
 
 // Serves over a pool that was opened. None where memory, a thread or a descriptor was refused, or where the stop is another
 // server's.
-fn serve_seats<S: Source, L: Ledger + Send + Sync, H: Host>(
+fn serve_seats<S: Source + Send + Sync, L: Ledger + Send + Sync, H: Host>(
     rt: &H,
     alloc: Global,
     pool: &Pool<S, L>,
@@ -90,7 +90,7 @@ fn serve_seats<S: Source, L: Ledger + Send + Sync, H: Host>(
 }
 
 // Serves over a pool that was opened, and closes it.
-fn serve_opened<S: Source, L: Ledger + Send + Sync, H: Host>(
+fn serve_opened<S: Source + Send + Sync, L: Ledger + Send + Sync, H: Host>(
     rt: &H,
     alloc: Global,
     opened: Opened<S, L>,
@@ -111,7 +111,7 @@ fn serve_opened<S: Source, L: Ledger + Send + Sync, H: Host>(
 }
 
 // Opens a pool of this ledger, serves, and closes it.
-fn over_pool<S: Source, L: Ledger + Send + Sync, H: Host>(
+fn over_pool<S: Source + Send + Sync, L: Ledger + Send + Sync, H: Host>(
     rt: &H,
     alloc: Global,
     source: S,
@@ -144,7 +144,7 @@ fn over_pool<S: Source, L: Ledger + Send + Sync, H: Host>(
 /// was told to stop, and gives the pool's report. Once it accepts no more it lets go of the listener, and then waits for the
 /// clients that it has. Where there is a plan, threads that fill fetch the values of its groups, each with hundreds under
 /// way. They call the source for all others, and so do loops that fill, for all groups.
-pub fn serve_fetching<S: Source, H>(
+pub fn serve_fetching<S: Source + Send + Sync, H>(
     rt: &H,
     alloc: Global,
     source: S,
@@ -162,7 +162,7 @@ where
 }
 
 /// The same without a plan: all values are had by calls of the source.
-pub fn serve_loops<S: Source, H>(
+pub fn serve_loops<S: Source + Send + Sync, H>(
     rt: &H,
     alloc: Global,
     source: S,

@@ -37,7 +37,7 @@ pub struct ServerThreads<'a, S: Source, L: Ledger> {
     pub working: Vec<FillHandle<'a, S, L>>,
 }
 
-impl<'a, S: Source, L: Ledger + Send + Sync> ServerThreads<'a, S, L> {
+impl<'a, S: Source + Send + Sync, L: Ledger + Send + Sync> ServerThreads<'a, S, L> {
     /// No thread was started.
     pub fn new(
         alloc: Global,

@@ -24,7 +24,7 @@ pub type LoopHandle<'a, S, L> = PromisedHandle<LoopSeats<S, L>, KeepsLoop<'a, S,
 pub type FillHandle<'a, S, L> = PromisedHandle<FillSeat<S, L>, Keeps<'a, S, L, FillSeat<S, L>>>;
 
 /// Starts the thread of a loop. None where it was refused.
-pub fn spawn_loop<'s, E, S: Source, L: Ledger + Send + Sync, H: Host>(
+pub fn spawn_loop<'s, E, S: Source + Send + Sync, L: Ledger + Send + Sync, H: Host>(
     scope: &Scope<'s, E>,
     rt: &'s H,
     alloc: Global,
@@ -45,7 +45,7 @@ pub fn spawn_loop<'s, E, S: Source, L: Ledger + Send + Sync, H: Host>(
 }
 
 /// Starts a thread that fills. None where it was refused.
-pub fn spawn_filler<'s, E, S: Source, L: Ledger + Send + Sync, H: Host>(
+pub fn spawn_filler<'s, E, S: Source + Send + Sync, L: Ledger + Send + Sync, H: Host>(
     scope: &Scope<'s, E>,
     rt: &'s H,
     alloc: Global,

@@ -155,7 +155,7 @@ fn serve_table<T: TableText + Send + Sync, H: AllocGlobal + Host>(
 }
 
 // What the pool counted, or none where memory or a thread was refused.
-fn serve_source<S: Source, H: AllocGlobal + Host>(
+fn serve_source<S: Source + Send + Sync, H: AllocGlobal + Host>(
     rt: &H,
     source: S,
     bound: Bound,

@@ -45,7 +45,7 @@ impl<'a> Acceptor<'a> {
     }
 
     // Serves one stream. One that refuses its options is let go.
-    fn serve_stream<S: Source, L: Ledger + Send + Sync, H: Host>(
+    fn serve_stream<S: Source + Send + Sync, L: Ledger + Send + Sync, H: Host>(
         &self,
         rt: &H,
         alloc: Global,
@@ -63,7 +63,7 @@ impl<'a> Acceptor<'a> {
     }
 
     // Accepts and serves, until no round is left.
-    fn serve_rounds<S: Source, L: Ledger + Send + Sync, H: Host>(
+    fn serve_rounds<S: Source + Send + Sync, L: Ledger + Send + Sync, H: Host>(
         &self,
         rt: &H,
         alloc: Global,
@@ -87,7 +87,7 @@ impl<'a> Acceptor<'a> {
     }
 
     /// Accepts and serves all rounds, once all threads have been started. After them the seat counts as taken.
-    pub fn serve<S: Source, L: Ledger + Send + Sync, H: Host>(
+    pub fn serve<S: Source + Send + Sync, L: Ledger + Send + Sync, H: Host>(
         &self,
         rt: &H,
         alloc: Global,

@@ -2,7 +2,7 @@
 ghost use Rattle.std.specs.Prelude.{◌≡◌, ◌+◌, ◌<◌};
 
 use crate::acceptor::Acceptor;
-use peer_host::Host;
+use peer_host::Network;
 use std::net::TcpStream;
 use std::thread;
 
@@ -33,7 +33,7 @@ impl<'a> Rounds<'a> {
 
     /// The next client. None where the accept failed, which uses up a round too, and is over after a pause, in which this seat counts as
     /// taken: silent clients make room where there are no more files.
-    pub fn accept<H: Host>(&mut self, rt: &H) -> Option<TcpStream>
+    pub fn accept<H: Network>(&mut self, rt: &H) -> Option<TcpStream>
         requires { 0 < self.old.left }
         ensures { self.new.left + 1 ≡ self.old.left }
     {

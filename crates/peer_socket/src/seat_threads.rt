@@ -12,7 +12,7 @@ use std::thread::{PromisedHandle, Scope};
 pub type SeatHandle<'a, S, L, T> = PromisedHandle<T, Keeps<'a, S, L, T>>;
 
 // Starts a thread that calls `run` with the seat. None where it was refused.
-fn start_seat<'s, E, S: Source, L: Ledger + Send + Sync, T, F>(
+fn start_seat<'s, E, S: Source + Send + Sync, L: Ledger + Send + Sync, T, F>(
     scope: &Scope<'s, E>,
     pool: &'s Pool<S, L>,
     seat: T,
@@ -36,7 +36,7 @@ where
 }
 
 /// Starts a thread for each seat of the list, which calls `run` with it. None where memory or a thread was refused.
-pub fn start_seats<'s, E, S: Source, L: Ledger + Send + Sync, T, F>(
+pub fn start_seats<'s, E, S: Source + Send + Sync, L: Ledger + Send + Sync, T, F>(
     scope: &Scope<'s, E>,
     pool: &'s Pool<S, L>,
     seats: &mut Vec<T>,

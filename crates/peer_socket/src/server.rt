@@ -50,7 +50,7 @@ pub struct Settings {
 }
 
 // Serves over a pool that was opened, and closes it. None where memory or a thread was refused.
-fn serve_opened<S: Source, L: Ledger + Send + Sync, H: Host>(
+fn serve_opened<S: Source + Send + Sync, L: Ledger + Send + Sync, H: Host>(
     rt: &H,
     alloc: Global,
     opened: Opened<S, L>,
@@ -76,7 +76,7 @@ fn serve_opened<S: Source, L: Ledger + Send + Sync, H: Host>(
 }
 
 // Opens a pool, serves, and closes it.
-fn over_pool<S: Source, L: Ledger + Send + Sync, H: Host>(
+fn over_pool<S: Source + Send + Sync, L: Ledger + Send + Sync, H: Host>(
     rt: &H,
     alloc: Global,
     source: S,
@@ -107,7 +107,7 @@ fn over_pool<S: Source, L: Ledger + Send + Sync, H: Host>(
 }
 
 /// `peer_server` with settings of one's own.
-pub fn serve_within<S: Source, H>(
+pub fn serve_within<S: Source + Send + Sync, H>(
     rt: &H,
     alloc: Global,
     source: S,
@@ -131,7 +131,7 @@ where
 /// Serves `rounds` connections on each of `conns` threads, with so many workers that call the source, and gives the
 /// pool's report once all have ended. The cache of each group keeps at most `cache_bytes` bytes. An accept that fails, or
 /// a stream that refuses its options, uses up a round.
-pub fn peer_server<S: Source, H>(
+pub fn peer_server<S: Source + Send + Sync, H>(
     rt: &H,
     alloc: Global,
     source: S,

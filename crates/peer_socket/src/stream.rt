@@ -27,7 +27,7 @@ fn is_closed_by_server<H: Clock>(
 }
 
 /// Serves a client until its connection ends. The stream can be closed then.
-pub fn serve_client<S: Source, L: Ledger + Send + Sync, H: Host>(
+pub fn serve_client<S: Source + Send + Sync, L: Ledger + Send + Sync, H: Host>(
     rt: &H,
     alloc: Global,
     pool: &Pool<S, L>,

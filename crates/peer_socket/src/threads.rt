@@ -28,7 +28,7 @@ struct ServerThreads<'a, S: Source, L: Ledger> {
     serving: Vec<SeatHandle<'a, S, L, ConnSeat<S, L>>>,
 }
 
-impl<'a, S: Source, L: Ledger + Send + Sync> ServerThreads<'a, S, L> {
+impl<'a, S: Source + Send + Sync, L: Ledger + Send + Sync> ServerThreads<'a, S, L> {
     // No thread was started.
     fn new(
         alloc: Global,
@@ -98,7 +98,7 @@ impl<'a, S: Source, L: Ledger + Send + Sync> ServerThreads<'a, S, L> {
 
 // Starts all threads, lets them serve, and joins them. None where a thread or memory was refused: then no connection was
 // accepted, and the threads that were started end.
-fn run_threads<'s, E, S: Source, L: Ledger + Send + Sync, H: Host>(
+fn run_threads<'s, E, S: Source + Send + Sync, L: Ledger + Send + Sync, H: Host>(
     scope: &Scope<'s, E>,
     rt: &'s H,
     alloc: Global,
@@ -120,7 +120,7 @@ fn run_threads<'s, E, S: Source, L: Ledger + Send + Sync, H: Host>(
 
 /// Each worker works, and each connection seat serves, in a thread of its own. No connection is accepted before all threads
 /// have been started. None where a thread or memory was refused: then none was accepted.
-pub fn use_seats<S: Source, L: Ledger + Send + Sync, H: Host>(
+pub fn use_seats<S: Source + Send + Sync, L: Ledger + Send + Sync, H: Host>(
     rt: &H,
     alloc: Global,
     pool: &Pool<S, L>,

@@ -55,6 +55,15 @@ fitting_first limit room e es beside =
     let left : limit - bytes_of e ≡ room = omega arith in
     rw (fits, left)
 
+-- behind the entry that was put first there is what the others take
+pub behind_first : (kept put : Kept) (k v : List ℕ) (others : ℕ) → kept.cap ≡ MAX_ENTRIES
+    → put ≡ lru_cache (first_of kept.cap k v kept.entries) kept.cap → others + bytes_of (k, v) ≡ bytes_in put.entries
+    → others ≡ bytes_in (drop 1 put.entries)
+behind_first kept put k v others most first counted =
+    let some : 0 < kept.cap = omega (arith, most) in
+    let is = first ∙ ap (λ es. lru_cache es kept.cap) (take_first kept.cap (k, v) (without k kept.entries) some) in
+    rw is (omega (arith, counted, ap (λ (m : Kept). bytes_in m.entries) is))
+
 module _ (kept put new : Kept) (k v : List ℕ) (limit room others : ℕ)
     (most : kept.cap ≡ MAX_ENTRIES)
     (first : put ≡ lru_cache (first_of kept.cap k v kept.entries) kept.cap)

@@ -25,4 +25,4 @@ pub use functional::FunctionalSource;
 pub use group::{GroupId, MAX_GROUPS};
 pub use kept::Kept;
 pub use names::Names;
-pub use source::{GetFault, GetResult, Source};
+pub use source::{GetFault, GetResult, Shared, Source};

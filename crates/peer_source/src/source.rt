@@ -36,8 +36,13 @@ impl GetFault {
 /// What a `get` came to: the sink has the value, or there is none.
 pub type GetResult = Result<(), GetFault>;
 
+/// What threads can share, under a name of its own: who asks for a source need not look for what that is made of.
+pub trait Shared {}
+
+impl<T: Send + Sync> Shared for T {}
+
 /// What has values by group and key. Its answers may differ from call to call.
-pub trait Source: Send + Sync + Drop {
+pub trait Source: Shared + Drop {
     ghost use Rattle.peer_source.specs.Reports.{reported};
 
     // The answers that this source may give for a group's number and a key.

@@ -79,7 +79,7 @@ pub fn in_one_thread(alloc: Global, call: Alone) -> Option<Seen> {
 }
 
 // Serves what a reader gives over a pool, with growths counted.
-fn serve_counted<S: Source, L: Ledger + Send + Sync, H: Threads + Wait + Sync>(
+fn serve_counted<S: Source + Send + Sync, L: Ledger + Send + Sync, H: Threads + Wait + Sync>(
     lent: &Lent<'_, S, L, H>,
     conn: ConnSeat<S, L>,
     reader: MemReader,
@@ -97,7 +97,7 @@ fn serve_counted<S: Source, L: Ledger + Send + Sync, H: Threads + Wait + Sync>(
 }
 
 /// Serves the three requests over a pool, beside its worker.
-pub fn serve_beside<S: Source, L: Ledger + Send + Sync, H: Threads + Wait + Sync>(
+pub fn serve_beside<S: Source + Send + Sync, L: Ledger + Send + Sync, H: Threads + Wait + Sync>(
     lent: &Lent<'_, S, L, H>,
     seats: LentSeats<S, L>,
 ) -> Option<(LentSeats<S, L>, Served<MemReader, MemWriter>)>

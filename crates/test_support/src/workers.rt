@@ -28,7 +28,12 @@ pub fn do_jobs<S: Source, L: Ledger, R: Wait>(
 }
 
 /// Has each worker work in a thread of its own until the pool is stopped.
-pub fn work_all<S: Source, L: Ledger + Send + Sync, G: Gate, H: Threads + Wait + Sync>(
+pub fn work_all<
+    S: Source + Send + Sync,
+    L: Ledger + Send + Sync,
+    G: Gate + Sync,
+    H: Threads + Wait + Sync,
+>(
     rt: &H,
     alloc: Global,
     pool: &Pool<S, L>,
@@ -47,7 +52,7 @@ pub fn work_all<S: Source, L: Ledger + Send + Sync, G: Gate, H: Threads + Wait +
 
 /// Makes a call beside a worker. The pool is stopped then, and the worker taken in. None where the thread was refused.
 pub fn beside_worker<
-    S: Source,
+    S: Source + Send + Sync,
     L: Ledger + Send + Sync,
     T: Drop,
     C: FnOnce() -> T,

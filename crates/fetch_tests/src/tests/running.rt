@@ -50,7 +50,7 @@ struct Beside<'t, 'k> {
 }
 
 // Asks beside the origin, and then tells the origin and the fetch thread to end.
-fn ask_beside<S: Source, L: Ledger + Send + Sync, H: Host>(
+fn ask_beside<S: Source + Send + Sync, L: Ledger + Send + Sync, H: Host>(
     rt: &H,
     alloc: Global,
     pool: &Pool<S, L>,
@@ -97,7 +97,7 @@ const UNANSWERED: Answered = Answered {
 };
 
 // Runs a fetch thread beside an origin and a client.
-fn run_all<S: Source, L: Ledger + Send + Sync, H: Host>(
+fn run_all<S: Source + Send + Sync, L: Ledger + Send + Sync, H: Host>(
     rt: &H,
     alloc: Global,
     pool: &Pool<S, L>,
@@ -132,7 +132,7 @@ fn run_all<S: Source, L: Ledger + Send + Sync, H: Host>(
 }
 
 // Runs a fetch thread with the seats of these lists.
-fn use_lists<S: Source, L: Ledger + Send + Sync, H: Host>(
+fn use_lists<S: Source + Send + Sync, L: Ledger + Send + Sync, H: Host>(
     rt: &H,
     alloc: Global,
     pool: &Pool<S, L>,
@@ -155,7 +155,7 @@ fn use_lists<S: Source, L: Ledger + Send + Sync, H: Host>(
 }
 
 // Runs a fetch thread with a pool's seats, and closes the pool.
-fn run_opened<S: Source, L: Ledger + Send + Sync, H: Host>(
+fn run_opened<S: Source + Send + Sync, L: Ledger + Send + Sync, H: Host>(
     rt: &H,
     alloc: Global,
     opened: (Pool<S, L>, Seats<S, L>),

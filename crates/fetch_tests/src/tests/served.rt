@@ -69,7 +69,7 @@ fn ask_all<H: Network>(rt: &H, alloc: Global, address: SocketAddr) -> Option<boo
 }
 
 // Serves while the clients ask.
-fn serve_clients<S: Source, H: Host + AllocGlobal>(
+fn serve_clients<S: Source + Send + Sync, H: Host + AllocGlobal>(
     rt: &H,
     source: S,
     listener: TcpListener,
@@ -101,7 +101,7 @@ fn limits() -> Limits {
 }
 
 // Serves in front of an origin that holds its replies back until as many requests are open as there are clients.
-fn serve_held<S: Source, H: Host + AllocGlobal>(
+fn serve_held<S: Source + Send + Sync, H: Host + AllocGlobal>(
     rt: &H,
     source: S,
     origin: TcpListener,

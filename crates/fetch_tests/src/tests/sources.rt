@@ -31,7 +31,7 @@ fn gives_both<S: Source>(alloc: Global, source: &S) -> bool {
 }
 
 // Asks a source while both services serve, and then tells them to end.
-fn ask_beside<S: Source, H: Host>(
+fn ask_beside<S: Source + Send + Sync, H: Host>(
     rt: &H,
     alloc: Global,
     source: &S,

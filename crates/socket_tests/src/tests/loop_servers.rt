@@ -50,7 +50,7 @@ pub fn settings_of<'a>(outside: &'a Outside, plan: &Plan) -> Settings<'a> {
 
 /// The report of a server with these settings, and what its clients answered, who were told its address.
 pub fn beside_loops<
-    S: Source,
+    S: Source + Send + Sync,
     T,
     C: FnOnce(SocketAddr) -> T,
     H: Net<Listener = TcpListener, Stream = TcpStream> + Threads + Wait + Clock + Sync,

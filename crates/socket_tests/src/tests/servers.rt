@@ -28,7 +28,7 @@ fn seats_of(plan: &Plan) -> Settings {
 
 // Serves as the plan says.
 fn serve<
-    S: Source,
+    S: Source + Send + Sync,
     H: Net<Listener = TcpListener, Stream = TcpStream> + Threads + Wait + Clock + Sync,
 >(rt: &H, source: S, listener: TcpListener, kind: Kind, plan: &Plan) -> Option<Report>
 where
@@ -89,7 +89,7 @@ where
 
 /// The report of a server that serves as the plan says, and what its clients answered, who were told its address.
 pub fn beside<
-    S: Source,
+    S: Source + Send + Sync,
     T,
     C: FnOnce(SocketAddr) -> T,
     H: Net<Listener = TcpListener, Stream = TcpStream> + Threads + Wait + Clock + Sync,

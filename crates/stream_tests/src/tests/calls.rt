@@ -29,7 +29,7 @@ struct Counts {
 // The counts of a text in one piece over two workers, whose connection ends clean.
 fn counts_of(
     rt: &(impl Abort + AllocGlobal + Threads + Wait + Sync),
-    gate: &impl Gate,
+    gate: &(impl Gate + Sync),
     cache_bytes: u64,
     text: &[u8],
 ) -> Counts {

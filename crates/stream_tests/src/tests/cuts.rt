@@ -18,7 +18,7 @@ use std::thread::Threads;
 use test_support::{open_pool, push_seat, work_all};
 
 // Whether a connection over a seat of this list gets the three replies.
-fn is_served_by_next<S: Source, L: Ledger + Send + Sync>(
+fn is_served_by_next<S: Source + Send + Sync, L: Ledger + Send + Sync>(
     rt: &(impl Abort + AllocGlobal + Threads + Wait + Sync),
     pool: &Pool<S, L>,
     conns: &mut Vec<ConnSeat<S, L>>,
@@ -36,7 +36,7 @@ fn is_served_by_next<S: Source, L: Ledger + Send + Sync>(
 }
 
 // Whether each second cut behind this first one changes nothing.
-fn is_same_behind<S: Source, L: Ledger + Send + Sync>(
+fn is_same_behind<S: Source + Send + Sync, L: Ledger + Send + Sync>(
     rt: &(impl Abort + AllocGlobal + Threads + Wait + Sync),
     pool: &Pool<S, L>,
     conns: &mut Vec<ConnSeat<S, L>>,
@@ -53,7 +53,7 @@ fn is_same_behind<S: Source, L: Ledger + Send + Sync>(
 }
 
 // The same behind each first cut.
-fn is_same_at_all<S: Source, L: Ledger + Send + Sync>(
+fn is_same_at_all<S: Source + Send + Sync, L: Ledger + Send + Sync>(
     rt: &(impl Abort + AllocGlobal + Threads + Wait + Sync),
     pool: &Pool<S, L>,
     conns: &mut Vec<ConnSeat<S, L>>,
@@ -69,7 +69,7 @@ fn is_same_at_all<S: Source, L: Ledger + Send + Sync>(
 }
 
 // The same beside the workers, each of which has a thread of its own.
-fn is_same_beside<S: Source, L: Ledger + Send + Sync>(
+fn is_same_beside<S: Source + Send + Sync, L: Ledger + Send + Sync>(
     rt: &(impl Abort + AllocGlobal + Threads + Wait + Sync),
     pool: &Pool<S, L>,
     lists: Seats<S, L>,

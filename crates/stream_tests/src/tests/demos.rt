@@ -30,7 +30,7 @@ pub enum Failing {
 }
 
 /// A connection whose reader gives these pieces, with so many reads.
-pub fn within<S: Source, G: Gate>(
+pub fn within<S: Source + Send + Sync, G: Gate + Sync>(
     rt: &(impl Abort + AllocGlobal + Threads + Wait + Sync),
     setup: Setup<'_, S, G>,
     pieces: Vec<Vec<u8>>,
@@ -51,7 +51,7 @@ pub fn within<S: Source, G: Gate>(
 }
 
 /// The same with more reads than are needed.
-pub fn over_pieces<S: Source, G: Gate>(
+pub fn over_pieces<S: Source + Send + Sync, G: Gate + Sync>(
     rt: &(impl Abort + AllocGlobal + Threads + Wait + Sync),
     setup: Setup<'_, S, G>,
     pieces: Vec<Vec<u8>>,

@@ -42,7 +42,7 @@ pub struct Pooled<R, W> {
 
 // Serves a connection with this seat, and has the workers of its pool end.
 fn serve_and_stop<
-    S: Source,
+    S: Source + Send + Sync,
     L: Ledger + Send + Sync,
     R: PeerRead + Send + Drop,
     W: PeerWrite + Drop,
@@ -69,11 +69,16 @@ fn serve_and_stop<
 
 // The same with the seats of these lists, while each worker works in a thread of its own. The number is how often the
 // connection asked.
-fn use_lists<S: Source, L: Ledger + Send + Sync, R: PeerRead + Send + Drop, W: PeerWrite + Drop>(
+fn use_lists<
+    S: Source + Send + Sync,
+    L: Ledger + Send + Sync,
+    R: PeerRead + Send + Drop,
+    W: PeerWrite + Drop,
+>(
     rt: &(impl Abort + AllocGlobal + Threads + Wait + Sync),
     pool: &Pool<S, L>,
     lists: Seats<S, L>,
-    gate: &impl Gate,
+    gate: &(impl Gate + Sync),
     devices: Devices<R, W>,
 ) -> (Seats<S, L>, Served<R, W>, u64)
     requires fills { All (IsFillSeatOf pool.now) lists.fills.items }
@@ -105,11 +110,11 @@ fn use_lists<S: Source, L: Ledger + Send + Sync, R: PeerRead + Send + Drop, W: P
 
 // Opens a pool with one connection, serves it and closes the pool.
 fn serve_over<
-    S: Source,
+    S: Source + Send + Sync,
     L: Ledger + Send + Sync,
     R: PeerRead + Send + Drop,
     W: PeerWrite + Drop,
-    G: Gate,
+    G: Gate + Sync,
     H: Abort + AllocGlobal + Threads + Wait + Sync,
 >(rt: &H, setup: Setup<'_, S, G>, devices: Devices<R, W>, blank: Blank) -> Pooled<R, W>
     requires name { blank.name ≡ L.name }
@@ -136,10 +141,10 @@ fn serve_over<
 
 /// A connection over a pool of its own.
 pub fn serve_pooled<
-    S: Source,
+    S: Source + Send + Sync,
     R: PeerRead + Send + Drop,
     W: PeerWrite + Drop,
-    G: Gate,
+    G: Gate + Sync,
     H: Abort + AllocGlobal + Threads + Wait + Sync,
 >(rt: &H, setup: Setup<'_, S, G>, devices: Devices<R, W>) -> Pooled<R, W>
     requires calls { R.calls devices.reader + devices.reads < 2 ^ 64 }

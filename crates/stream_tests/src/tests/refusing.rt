@@ -38,7 +38,7 @@ impl<'a> Hook for Held<'a> {
 
 // One connection of `a`, `b` and `c` in one piece, of which `b` is refused memory: whether it wrote the first reply, and
 // whether it ended so. It tells once it has asked for all, and reads again.
-fn serve_one<S: Source, L: Ledger + Send + Sync>(
+fn serve_one<S: Source + Send + Sync, L: Ledger + Send + Sync>(
     rt: &(impl Abort + AllocGlobal + Threads + Wait + Sync),
     pool: &Pool<S, L>,
     conn: ConnSeat<S, L>,
@@ -63,7 +63,7 @@ fn serve_one<S: Source, L: Ledger + Send + Sync>(
 
 // The same beside one worker, with seats from these lists. Then the seat asks for `b` and the worker runs again: whether
 // the claim shows the key.
-fn serve_and_ask<S: Source, L: Ledger + Send + Sync>(
+fn serve_and_ask<S: Source + Send + Sync, L: Ledger + Send + Sync>(
     rt: &(impl Abort + AllocGlobal + Threads + Wait + Sync),
     pool: &Pool<S, L>,
     lists: &mut Seats<S, L>,

@@ -1,12 +1,12 @@
 //! Two connections of one pool, served at the same moment, that wait for one slow key, and how each of them can end.
 ghost use Rattle.std.specs.Prelude.{◌≡◌, All};
-ghost use Rattle.peer_fill.specs.Pools.{IsConnSeatOf, IsFillSeatOf};
+ghost use Rattle.peer_fill.specs.Pools.{IsConnSeatOf, IsFillSeatOf, IsSeatOf};
 
 use super::demos::is_told;
 use super::runs::{READS, whole};
 use peer_conn::{End, serve_connection_functional};
-use peer_fill::{ConnSeat, Gate, Pool, Seats, pop_seat};
-use peer_source::{DemoSource, FunctionalSource, GroupId};
+use peer_fill::{ConnSeat, Gate, Pool, Seat, Seats, pop_seat};
+use peer_source::{DemoSource, FunctionalSource, GroupId, Source};
 use peer_view::{MemReader, MemWriter};
 use std::hint::spin_loop;
 use std::marker::Brand;
@@ -54,7 +54,7 @@ const ANSWERED: Case = Case {
 };
 
 // Whether a connection writes what it is to, and ends so.
-fn is_as_told<S: FunctionalSource, L: Ledger + Send + Sync>(
+fn is_as_told<S: FunctionalSource + Send + Sync, L: Ledger + Send + Sync>(
     rt: &(impl Abort + AllocGlobal + Threads + Wait + Sync),
     pool: &Pool<S, L>,
     seat: ConnSeat<S, L>,
@@ -70,8 +70,21 @@ fn is_as_told<S: FunctionalSource, L: Ledger + Send + Sync>(
     is_told(&served, case.told, case.end)
 }
 
+// The last seat of a list.
+fn take_seat<S: Source, L: Ledger, T: Seat>(
+    rt: &impl Abort,
+    pool: &Pool<S, L>,
+    seats: &mut Vec<T>,
+) -> T
+    requires { All (IsSeatOf T.pass_of pool.now) seats.old.items }
+    ensures seat { IsSeatOf T.pass_of pool.now result }
+    ensures rest { All (IsSeatOf T.pass_of pool.now) seats.new.items }
+{
+    pop_seat(pool, seats).expect(rt, "a seat")
+}
+
 // Whether two connections of a pool with one worker are.
-fn are_as_told<S: FunctionalSource, L: Ledger + Send + Sync>(
+fn are_as_told<S: FunctionalSource + Send + Sync, L: Ledger + Send + Sync>(
     rt: &(impl Abort + AllocGlobal + Threads + Wait + Sync),
     pool: &Pool<S, L>,
     lists: &mut Seats<S, L>,
@@ -80,9 +93,9 @@ fn are_as_told<S: FunctionalSource, L: Ledger + Send + Sync>(
     requires fills { All (IsFillSeatOf pool.now) lists.old.fills.items }
     requires conns { All (IsConnSeatOf pool.now) lists.old.conns.items }
 {
-    let fill = pop_seat(pool, &mut lists.fills).expect(rt, "a worker");
-    let one = pop_seat(pool, &mut lists.conns).expect(rt, "a seat");
-    let two = pop_seat(pool, &mut lists.conns).expect(rt, "a seat");
+    let fill = take_seat(rt, pool, &mut lists.fills);
+    let one = take_seat(rt, pool, &mut lists.conns);
+    let two = take_seat(rt, pool, &mut lists.conns);
     let (_seat, answered) = join(
         rt,
         move ||

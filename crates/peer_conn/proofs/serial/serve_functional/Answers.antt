@@ -8,8 +8,8 @@ use Rattle.peer_conn.proofs.serial.serve_functional.Goals as goal
 -- the source's answers are allowed, and so the one answer; its names are those of its type
 pub returns-clause-serves : goal.returns-clause-serves
 returns-clause-serves g c =
-    let functional = g.met.S.FunctionalSource g.world.𝓛 g.world.𝓜 g.world.𝓡 (λ s h. h, λ h. h, λ h. h, λ h. h) in
-    let source = g.met.S.Source g.world.𝓛 g.world.𝓜 g.world.𝓡 (λ s h. h, λ h. h, λ h. h, λ h. h) in
+    let functional = g.met.S.FunctionalSource in
+    let source = g.met.S.Source in
     serves (g.S.Source.answers c.args.source.now) (only g.S.FunctionalSource.the_answer)
     (λ closing bare group k r h. (h.0, functional.single group k h.0 (source.within c.args.source.now group k h.0 h.1), h.2))
     (g.S.Source.number_of c.args.source.now) c.args.reads _ _ c.serve_serial.result.end (fun_ext (functional.fixed_names c.args.source.now)) c.serve_serial.ensures.serves

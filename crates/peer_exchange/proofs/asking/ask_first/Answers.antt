@@ -9,9 +9,9 @@ use Rattle.peer_reply.specs.declared.wish.Wish.{Wish}
 use Rattle.peer_exchange.proofs.asking.ask_first.Goals as goal
 
 pub ticket_of-requires-clause-known : goal.ticket_of-requires-clause-known
-ticket_of-requires-clause-known g c κs within =
+ticket_of-requires-clause-known g c =
     let next : IsNextOf (g.S.Source.number_of c.args.names.now) c.args.intake.now.held (Some c.in-Ok-Some.next) = subst (λ t. IsNextOf (g.S.Source.number_of c.args.names.now) t (Some c.in-Ok-Some.next)) c.as_slice.ensures (rw c.in-Ok-Some.field-0-is at c.in-Ok-Some.ensures) in
-    let laws = g.met.S.Source g.world.𝓛 g.world.𝓜 g.world.𝓡 (λ s h. h, λ h. h, λ h. h, λ h. h) in
+    let laws = g.met.S.Source in
     subst (λ s. IsKnown (g.S.Source.count s) c.in-Ok-Some.next.wish.body) c.requires.names
     (next_known _ _ (laws.numbered c.args.names.now) _ c.in-Ok-Some.next.wish next.0)
 

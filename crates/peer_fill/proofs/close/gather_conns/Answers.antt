@@ -25,7 +25,7 @@ loop-seat-init g c =
     }
 
 pub add_conn-requires-clause-pass : goal.add_conn-requires-clause-pass
-add_conn-requires-clause-pass g c κs within = (
+add_conn-requires-clause-pass g c = (
   c.loop-seat.invariant.own,
   of_last (λ s. IsPassOf c.args.jobs.now s.pass) _ _ _ c.in-Some-pop.ensures.items
       c.loop-seat.invariant.others,

@@ -105,7 +105,7 @@ impl<'p, S: Source, L: Ledger, R: Wait> Taken<'p, S, L, R> {
 }
 
 // Asks in one thread, and takes jobs in another.
-fn ask_beside<S: Source, L: Ledger + Send + Sync, R: Threads + Wait + Sync>(
+fn ask_beside<S: Source + Send + Sync, L: Ledger + Send + Sync, R: Threads + Wait + Sync>(
     rt: &R,
     alloc: Global,
     pool: &Pool<S, L>,

@@ -152,7 +152,7 @@ impl<'p, S: Source, L: Ledger, R: Wait> Asked<'p, S, L, R> {
 }
 
 // Each connection asks in a thread of its own.
-fn ask_all<S: Source, L: Ledger + Send + Sync, R: Threads + Wait + Sync>(
+fn ask_all<S: Source + Send + Sync, L: Ledger + Send + Sync, R: Threads + Wait + Sync>(
     rt: &R,
     alloc: Global,
     pool: &Pool<S, L>,
@@ -172,7 +172,7 @@ fn ask_all<S: Source, L: Ledger + Send + Sync, R: Threads + Wait + Sync>(
 }
 
 // Each worker works in a thread of its own while the connections ask.
-fn use_every<S: Source, L: Ledger + Send + Sync, R: Threads + Wait + Sync>(
+fn use_every<S: Source + Send + Sync, L: Ledger + Send + Sync, R: Threads + Wait + Sync>(
     rt: &R,
     alloc: Global,
     pool: &Pool<S, L>,

@@ -23,13 +23,13 @@ returns-clause-gives g c =
 pub returns-then-closes_after-clause-known : goal.returns-then-closes_after-clause-known
 returns-then-closes_after-clause-known g c =
     let next : IsNextOf (g.S.Source.number_of c.args.names.now) c.args.self.now.held.held (Some c.in-Some.next) = subst (λ t. IsNextOf (g.S.Source.number_of c.args.names.now) t (Some c.in-Some.next)) c.rest.ensures.bytes (rw c.in-Some.is at c.in-Ok.ensures) in
-    let laws = g.met.S.Source g.world.𝓛 g.world.𝓜 g.world.𝓡 (λ s h. h, λ h. h, λ h. h, λ h. h) in
+    let laws = g.met.S.Source in
     next_known _ _ (laws.numbered c.args.names.now) _ c.in-Some.next.wish next.0
 
 pub returns-clause-known : goal.returns-clause-known
 returns-clause-known g c =
     let next : IsNextOf (g.S.Source.number_of c.args.names.now) c.args.self.now.held.held (Some c.in-Some.next) = subst (λ t. IsNextOf (g.S.Source.number_of c.args.names.now) t (Some c.in-Some.next)) c.rest.ensures.bytes (rw c.in-Some.is at c.in-Ok.ensures) in
-    let laws = g.met.S.Source g.world.𝓛 g.world.𝓜 g.world.𝓡 (λ s h. h, λ h. h, λ h. h, λ h. h) in
+    let laws = g.met.S.Source in
     next_known _ _ (laws.numbered c.args.names.now) _ c.in-Some.next.wish next.0
 
 pub drop_front-requires-clause-len : goal.drop_front-requires-clause-len

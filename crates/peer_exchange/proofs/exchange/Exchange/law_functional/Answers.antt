@@ -3,5 +3,5 @@ use Rattle.peer_exchange.proofs.exchange.Exchange.law_functional.Goals as goal
 
 pub returns : goal.returns
 returns g c =
-    let functional = g.met.S.FunctionalSource g.world.𝓛 g.world.𝓜 g.world.𝓡 (λ s h. h, λ h. h, λ h. h, λ h. h) in
+    let functional = g.met.S.FunctionalSource in
     by_fixed_names _ _ _ _ _ _ (functional.fixed_names c.args.self.now.names) (c.law_functional.ensures _ _) c.args.self.now.upholds

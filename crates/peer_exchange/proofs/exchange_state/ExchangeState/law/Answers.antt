@@ -5,7 +5,7 @@ use Rattle.peer_exchange.proofs.exchange_state.ExchangeState.law.Goals as goal
 -- each group and key has an answer, which is allowed
 pub returns-clause-sent : goal.returns-clause-sent
 returns-clause-sent g c came sent h =
-    let source = g.met.S.Source g.world.𝓛 g.world.𝓜 g.world.𝓡 (λ s h. h, λ h. h, λ h. h, λ h. h) in
+    let source = g.met.S.Source in
     let names = c.args.names.now in
     are_sent (g.S.Source.number_of names) (allows g.S.Source.allowed)
     (λ group k. ((source.answered names group k).0, ∣ source.within names group k (source.answered names group k).0 (source.answered names group k).1 ∣₁))

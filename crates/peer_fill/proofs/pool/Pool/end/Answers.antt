@@ -3,7 +3,7 @@ use Rattle.peer_fill.specs.Seats.{HaveAllConns, HaveAllFills}
 use Rattle.peer_fill.proofs.pool.Pool.end.Goals as goal
 
 pub gather_fills-totals-requires-clause-all : goal.gather_fills-totals-requires-clause-all
-gather_fills-totals-requires-clause-all g c κs within =
+gather_fills-totals-requires-clause-all g c =
     let all : c.has_all_fills-all_fills.result ≡ true = cc in
     subst (λ xs. HaveAllFills xs) c.deref.ensures.value (c.has_all_fills-all_fills.ensures.0 all)
 

@@ -1,5 +1,5 @@
 use Rattle.std.proofs.Common.{rules}
 use Rattle.peer_fill.proofs.pool.Pool.work_one.Goals as goal
 
-pub put_and_land-requires-after_bounds : goal.put_and_land-requires-after_bounds
-put_and_land-requires-after_bounds g c = search rules
+pub put_and_land-requires : goal.put_and_land-requires
+put_and_land-requires g c = search rules

@@ -14,8 +14,8 @@ returns-in_err-share-clause-missing g c missing =
     absurd (not_missing c.self.inside.group.number c.self.inside.limit c.self.inside.entries c.args.key.now c.in-Some.found.kept.now
     c.args.self.now c.self.view_is c.in-Some.ensures.value missing)
 
-pub of_value-fill-requires-after_bounds : goal.of_value-fill-requires-after_bounds
-of_value-fill-requires-after_bounds g c κs within =
+pub of_value-fill-requires : goal.of_value-fill-requires
+of_value-fill-requires g c =
     let there = there_at c.args.key.now c.self.inside.entries.entries c.in-Some.found.kept.now c.in-Some.ensures.value in
     let P = IsAnswer g.S.Source.allowed c.self.inside.group.number in
     rw (c.in_ok-own_key.ensures, c.in_ok-share.ensures, c.value.ensures)

@@ -1,7 +1,17 @@
 use Rattle.std.proofs.Common.{◌<◌, arith, ap, sym, subst}
 use Rattle.peer_source.specs.Caches.{Cache, IsAnswer}
-use Rattle.peer_source.proofs.CacheLemmas.{Keeps-put, cache_of-put}
+use Rattle.peer_source.proofs.CacheLemmas.{Keeps-put, behind_first, cache_of-put}
 use Rattle.peer_source.proofs.cache.MainCache.put.Goals as goal
+
+pub evict-requires : goal.evict-requires
+evict-requires g c =
+    let first = rw (c.in_ok-share.ensures, c.in_ok-of.ensures) at c.in_ok-others.ensures.front in
+    let counted = rw (c.in_ok-share.ensures, c.in_ok-of.ensures) at c.in_ok-others.ensures.others in
+    record {
+      others =
+          behind_first c.self.inside.entries c.put_in_front-2.new.entries c.args.key.now c.args.value.now c.in_ok-others.others
+          c.self.invariant.room first counted;
+    }
 
 pub invariant_of-self-2 : goal.invariant_of-self-2
 invariant_of-self-2 g c =
