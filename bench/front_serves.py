@@ -30,8 +30,18 @@ from contextlib import ExitStack
 from common import Listening, Service, ask, hangs, run_rows
 
 PROGRAM = sys.argv[1] if len(sys.argv) > 1 else "crates/peer_front/out/peer_front"
-PATIENCE = 10  # seconds until the page says what it is to say
+PATIENCE = 10  # seconds until what is waited for is so
 HEAD = b"HTTP/1.1 200 OK\r\nContent-Length: "
+
+
+def comes_to(is_so):
+    """Whether this is so before long."""
+    until = time.monotonic() + PATIENCE
+    while not is_so():
+        if time.monotonic() > until:
+            return False
+        time.sleep(0.02)
+    return True
 
 
 def replies(reply):
@@ -76,18 +86,13 @@ class Counted(Listening):
 
     def calls(self, number):
         """Waits until the source was called so often."""
-        until = time.monotonic() + PATIENCE
-        while self.counts()["calls_total"] < number and time.monotonic() < until:
-            time.sleep(0.02)
+        comes_to(lambda: self.counts()["calls_total"] >= number)
 
     def says(self, **numbers):
         """Whether the page comes to have these numbers."""
-        until = time.monotonic() + PATIENCE
-        while time.monotonic() < until:
-            counts = self.counts()
-            if all(counts[name] == number for name, number in numbers.items()):
-                return True
-            time.sleep(0.02)
+        if comes_to(lambda: numbers.items() <= self.counts().items()):
+            return True
+        counts = self.counts()
         print({name: counts[name] for name in numbers}, "and not", numbers)
         return False
 
@@ -139,13 +144,23 @@ def silent_clients_go_in_turn():
         def connect(count):
             return [streams.enter_context(socket.create_connection(server.address)) for _ in range(count)]
 
-        first = connect(32)
-        full = server.says(connections=30)
-        time.sleep(1.5)  # longer than the tick at which silent clients are let go
-        stayed = sum(map(is_open, first))
-        last = connect(2)
-        came = server.says(connections_accepted_total=34) and server.says(connections=30)
-        return full and stayed == 30 and came and all(map(is_open, last)) and sum(map(is_open, first)) == 28
+        def stay(clients, number):
+            return sum(map(is_open, clients)) == number
+
+        # The clients are asked, and not the page: a connection counts there once its loop has taken it in. All but the one that takes
+        # the last place have been silent for longer than a tick by then.
+        tick = 1.5
+        first = connect(31)
+        time.sleep(tick)
+        first += connect(1)
+        went = comes_to(lambda: stay(first, 30))
+        last = connect(1)
+        time.sleep(tick)
+        stayed = stay(first, 30)
+        last += connect(1)
+        went_again = comes_to(lambda: stay(first, 28))
+        said = server.says(connections_accepted_total=34, connections=30)
+        return went and stayed and went_again and said and stay(last, 2) and stay(first, 28)
 
 
 def silent_clients_go_where_the_system_gives_no_more_files():
@@ -242,9 +257,7 @@ def each_fetcher_has_its_values_under_way():
     with Counted(*words) as server, ExitStack() as streams:
         for number in range(5):
             streams.enter_context(socket.create_connection(server.address)).sendall(get(f"g/{number}"))
-        until = time.monotonic() + PATIENCE
-        while service.connections < 4 and time.monotonic() < until:
-            time.sleep(0.02)
+        comes_to(lambda: service.connections >= 4)
         time.sleep(0.3)
         return service.connections == 4
 

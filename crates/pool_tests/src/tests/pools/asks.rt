@@ -1,4 +1,5 @@
 //! What a pool keeps: which asks are hits, what they show, and which value goes first.
+ghost use Rattle.std.specs.Prelude.{◌≡◌};
 
 use super::desk::{Desk, Steps, run};
 use super::numbering::Numbering;
@@ -7,8 +8,9 @@ use peer_fill::{NoGate, Report};
 use peer_flight::Claim;
 use peer_source::{DemoSource, Source};
 use std::alloc::Global;
+use std::marker::Brand;
 use std::sync::Wait;
-use std::sync::ledger::Ledger;
+use std::sync::ledger::{Blank, Ledger};
 use test_support::all_called;
 
 /// What five asks gave: which were hits, and the last byte of what each showed, or 0.
@@ -115,22 +117,54 @@ fn a_value_is_kept_until_it_is_evicted(rt: HostRuntime) {
     assert_eq!(rt; second, expected((hits, *b"11234"), 2, 4, 4));
 }
 
-/// Asks for three keys, of which two have room.
-struct ThreeKeys;
+// Asks a stopped pool for a key of one byte, and has its worker run until no job is left: the pool, whether it was a hit, and the
+// last byte that it showed.
+fn ask_and_run<L: Ledger, R: Wait>(
+    rt: &R,
+    desk: Desk<DemoSource, L>,
+    key: u8,
+) -> (Desk<DemoSource, L>, Option<(bool, u8)>) {
+    let mut desk = desk;
+    let claim = desk.ask(rt, ECHO, &[key]);
+    let desk = desk.run_worker(rt);
+    let seen = match &claim {
+        Some(claim) => shown_last(claim),
+        None => None,
+    };
+    drop(claim);
+    (desk, seen)
+}
 
-impl Steps for ThreeKeys {
-    type Source = DemoSource;
-
-    type Seen = Shown;
-
-    fn take<L: Ledger, R: Wait>(&self, rt: &R, desk: &mut Desk<DemoSource, L>) -> Option<Shown> {
-        ask_for_each(rt, desk, b"abcac")
+// What asks for three keys showed, of which two have room, and the report of the pool.
+fn ask_stopped<L: Ledger, R: Wait>(
+    rt: &R,
+    alloc: Global,
+    keys: &[u8; 5],
+    blank: Blank,
+) -> Option<(Shown, Report)>
+    requires name { blank.name ≡ L.name }
+    requires parts { (blank.parts ≡ L.parts) × (blank.parts ≡ 16) }
+{
+    let mut desk = Desk::<DemoSource, L>::open(alloc, DemoSource, 4, blank)?;
+    desk.stop();
+    let mut shown = ([false; 5], [0; 5]);
+    for i in 0..5 {
+        let (next, seen) = ask_and_run(rt, desk, keys[i]);
+        desk = next;
+        (shown.0[i], shown.1[i]) = seen.unwrap_or((false, 0));
     }
+    let report = desk.close(rt)?;
+    Some((shown, report))
+}
+
+// The same over a pool of its own.
+fn asked_stopped<R: Wait>(rt: &R, alloc: Global, keys: &[u8; 5]) -> Option<(Shown, Report)> {
+    ask_stopped::<Brand, R>(rt, alloc, keys, Blank::new(16))
 }
 
 #[test]
 fn the_oldest_value_goes_first(rt: HostRuntime) {
-    let seen = run(&rt, rt.alloc(), DemoSource, 4, &ThreeKeys);
+    let seen = asked_stopped(&rt, rt.alloc(), b"abcac");
     let hits = [false, false, false, false, true];
     assert_eq!(rt; seen, expected((hits, *b"abcac"), 1, 4, 4));
 }

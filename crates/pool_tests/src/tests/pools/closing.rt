@@ -44,6 +44,7 @@ fn ask_thrice<L: Ledger, R: Wait>(
     desk.change_seats();
     let second = desk.ask(rt, ECHO, b"k");
     desk.change_seats();
+    desk.stop();
     let mut desk = desk.run_worker(rt);
     let shown = [is_shown_by(&first, b"k"), is_shown_by(&second, b"k")];
     drop(first);

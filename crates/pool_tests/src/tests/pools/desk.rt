@@ -135,11 +135,15 @@ impl<S: Source, L: Ledger> Desk<S, L> {
         ask_in(rt, self.alloc, &self.pool, &mut self.seats.conn, group, key)
     }
 
-    /// The same once the pool was stopped and its worker ran.
+    /// The worker waits for no job from now on.
+    pub fn stop(&self) {
+        self.pool.stop();
+    }
+
+    /// The same once the worker of a pool that was stopped ran until no job was left.
     pub fn run_worker<R: Wait>(self, rt: &R) -> Desk<S, L> {
         let Desk { alloc, pool, seats } = self;
         let DeskSeats { conn, other, fill } = seats;
-        pool.stop();
         let fill = pool.run_worker(rt, alloc, fill, &NoGate);
         let seats = DeskSeats { conn, other, fill };
         Desk { alloc, pool, seats }
