@@ -147,15 +147,15 @@ def silent_clients_go_in_turn():
         def stay(clients, number):
             return sum(map(is_open, clients)) == number
 
-        # The clients are asked, and not the page: a connection counts there once its loop has taken it in. All but the one that takes
-        # the last place have been silent for longer than a tick by then.
-        tick = 1.5
+        # Who goes has been silent for a second, and is looked at once in a second. All but the one that takes the last place have
+        # been silent for longer by then. They are asked, and not the page: a connection counts there once its loop has taken it in.
+        silence = 1.5
         first = connect(31)
-        time.sleep(tick)
+        time.sleep(silence)
         first += connect(1)
         went = comes_to(lambda: stay(first, 30))
         last = connect(1)
-        time.sleep(tick)
+        time.sleep(silence)
         stayed = stay(first, 30)
         last += connect(1)
         went_again = comes_to(lambda: stay(first, 28))
