@@ -1,6 +1,10 @@
 //! What the seats of a pool count.
-ghost use Rattle.std.specs.Prelude.{◌≡◌, ◌+◌, ◌<◌, ◌≤◌, ◌^◌};
-ghost use Rattle.peer_fill.specs.Counts.{no_asks, no_fills, with_found, AddsAsks};
+ghost use Rattle.std.specs.Prelude.{◌≡◌, ◌↔◌, ◌+◌, ◌%◌, ◌<◌, ◌≤◌, ◌^◌, IsTrue};
+ghost use Rattle.peer_fill.specs.Counts.{no_asks, no_fills, taken_of, with_found, AddsAsks};
+
+// One who waits for room in the queue is told each time that a worker has taken so many jobs, and wakes the next one. A notice for
+// each job would wake a reader for the place of one job. If the queue is empty, all are told.
+const JOBS_PER_NOTICE: u64 = 32;
 
 /// What connections counted.
 #[derive(Clone, Copy, Debug)]
@@ -90,5 +94,21 @@ impl FillCounts {
             calls: 0,
             rehits: 0,
         }
+    }
+
+    /// How many jobs were taken.
+    pub(crate) fn taken(&self) -> u64
+        requires { taken_of self.now < 2 ^ 64 }
+        ensures { result ≡ taken_of self.now }
+    {
+        self.calls + self.rehits
+    }
+
+    /// Whether one who waits for room in the queue is told now.
+    pub(crate) fn tells_of_room(&self) -> bool
+        requires { taken_of self.now < 2 ^ 64 }
+        ensures { IsTrue result ↔ (taken_of self.now % 32 ≡ 0) }
+    {
+        self.taken() % JOBS_PER_NOTICE == 0
     }
 }

@@ -13,10 +13,6 @@ use peer_wait::lock;
 use std::sync::Wait;
 use std::sync::ledger::Ledger;
 
-// One who waits for room in the queue is told each time that a worker has made so many fills, and wakes the next one. A
-// notice for each job would wake a reader for the place of one job. Where the queue is empty, all are told.
-const JOBS_PER_NOTICE: u64 = 32;
-
 impl<S: Source, L: Ledger> Pool<S, L> {
     ghost use Rattle.peer_fill.specs.Counts.{taken_of};
 
@@ -61,7 +57,7 @@ impl<S: Source, L: Ledger> Pool<S, L> {
         requires { taken_of fills.now ≤ 2 ^ 56 }
     {
         gate.after_count(fills.calls, fills.rehits);
-        if (fills.calls + fills.rehits) % JOBS_PER_NOTICE == 0 {
+        if fills.tells_of_room() {
             self.signals.room.notify_one();
         }
     }

@@ -71,8 +71,7 @@ impl<S: Source, L: Ledger> Pool<S, L> {
         for _ in rt.forever() {
             if self.put_left(rt, seat) {
                 if waiter.may_have_slept() {
-                    self.signals.room.acknowledge();
-                    self.signals.room.notify_one();
+                    self.signals.room.pass_on();
                 }
                 return;
             }

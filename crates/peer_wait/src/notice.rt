@@ -45,6 +45,12 @@ impl Notice {
         self.told_one.store(false, SeqCst);
     }
 
+    /// Wakes the next one in place of the one that was woken: what that one took was not all that is there.
+    pub fn pass_on(&self) {
+        self.acknowledge();
+        self.notify_one();
+    }
+
     /// Announces a sleep. What changes from now on is told; what changed before is found by the look behind it.
     pub(crate) fn announce(&self) -> Key<'_> {
         let key = self.changed.prepare_wait();
