@@ -11,7 +11,7 @@ many threads, and each fetcher has `--under-way` values; who has nothing to do t
 by `--connections`, and where all are taken, silent clients are let go until a sixteenth is free, and those who came last are not the
 next to go; where the system gives no more files, silent clients are let go too, and accepts that failed are counted. `--timeout` is
 how long a value may take; a value above `--cache` is not kept, and one below it is; and above `--memory` a client is asked for one
-value at a time.
+value at a time, until who holds so much has left.
 
 Its last line is `rows N failures 0`; where a row fails, so does the program.
 """
@@ -19,6 +19,7 @@ import os
 import re
 import resource
 import socket
+import struct
 import sys
 import tempfile
 import threading
@@ -317,9 +318,15 @@ def values_within_the_cache_are_kept():
     return [hits_of(), hits_of("--cache", "100006"), hits_of("--cache", "100005"), hits_of("--cache", "0")] == [1, 1, 0, 0]
 
 
-def asked_at_once(*words):
+def leave_at_once(stream):
+    """Ends a connection by a reset, so that nobody answers what was asked on it."""
+    stream.setsockopt(socket.SOL_SOCKET, socket.SO_LINGER, struct.pack("ii", 1, 0))
+    stream.close()
+
+
+def asked_at_once(*words, leaves=False):
     """How many of two values of a service are asked for at once for a client, beside another one that waits for a first value, while
-    two more of 1 MiB each are there for it."""
+    two more of 1 MiB each are there for it; or after that one has left."""
     asked, may_answer = [], threading.Event()
 
     def serve(stream):
@@ -336,6 +343,9 @@ def asked_at_once(*words):
         other.sendall(get("g/first", "fill/1048576", "fill/1048575"))
         server.calls(9)
         time.sleep(2.5)  # what clients hold is counted once a second
+        if leaves:
+            leave_at_once(other)
+            server.says(connections=1)
         client.sendall(get("g/one", "g/two"))
         server.calls(10)
         time.sleep(0.5)
@@ -345,6 +355,10 @@ def asked_at_once(*words):
 
 def above_the_memory_one_value_is_asked_for():
     return [asked_at_once("--memory", "64KiB"), asked_at_once()] == [1, 2]
+
+
+def who_leaves_holds_nothing():
+    return asked_at_once("--memory", "64KiB", leaves=True) == 2
 
 
 run_rows(
@@ -362,5 +376,6 @@ run_rows(
         a_value_is_late_by_the_flag,
         values_within_the_cache_are_kept,
         above_the_memory_one_value_is_asked_for,
+        who_leaves_holds_nothing,
     ]
 )

@@ -119,6 +119,7 @@ ROWS = [
     (HERE + ["a=http://name.invalid/"], 1, "peer_front: a=http://name.invalid/: "),
     (HERE + ["a=" + URL, "a=" + URL], 1, f"peer_front: a={URL}: a group of this name is served already\n"),
     (HERE + ["--table", GOOD, "colors=" + URL], 1, f"peer_front: colors={URL}: a group of this name is served already\n"),
+    (HERE + ["--table", GOOD, f"colors={URL}?key="], 1, f"peer_front: colors={URL}?key=: a group of this name is served already\n"),
     (HERE + ["--demo", "echo=" + URL], 1, f"peer_front: echo={URL}: a group of this name is served already\n"),
     (HERE + ["--demo", "--table", ECHO], 1, f"peer_front: --table {ECHO}: has a group of --demo, whose are echo, square and fill\n"),
     (HERE + [f"g{i}={URL}" for i in range(65)], 1, f"peer_front: g64={URL}: there are more than 64 groups\n"),

@@ -7,7 +7,8 @@
 Connections are kept for a service that is asked now, also where others, asked before, leave as many as are kept, and no more; none
 is kept that a service has ended, nor any with `--connection-for-each`; where a host is gone without a word one value is late, and
 the next ones ask anew; of two services each value comes from its own, also where one ends its connections now and then, and in its
-time where the other one hangs, as a table's do beside a service that hangs; a value that waited has its whole time; what comes on a
+time where the other one hangs, as a table's do beside a service that hangs; a value that waited has its whole time, and one that waits
+is late in its time, whatever those under way do; what comes on a
 kept connection without a request is no value; a reply that runs until its connection ends is no value where that is reset; and
 interim replies without end fill no memory.
 
@@ -181,6 +182,28 @@ def one_that_waited_has_its_whole_time():
         return all(reply.endswith(b"\x0a\x01v") for reply in replies) and first.connections == 1
 
 
+def one_that_waits_is_late_in_its_time():
+    """One value is under way at a time: the first one is slow, the second never comes, and the third waits for longer than it may."""
+    def is_slow_once(stream):
+        stream.recv(10000)
+        time.sleep(2.5)
+        stream.sendall(VALUE)
+        hangs(stream)
+
+    first, second = Service(is_slow_once), Service(gives(b"y"))
+    words = ("--under-way", "2", "--timeout", "4", "a=" + first.url, "b=" + second.url)
+    with Server(*words) as server, ThreadPoolExecutor(3) as threads:
+        asked = []
+        for path in ("a/1", "a/2", "a/3"):
+            asked.append(threads.submit(server.ask, path))
+            time.sleep(0.2)
+        waited = asked[2].result()
+        time.sleep(0.5)
+        hung = not asked[1].done()
+        replies = [future.result() for future in asked]
+        return hung and waited == replies[1] and b"origin timed out" in waited and replies[0].endswith(b"\x0a\x01v")
+
+
 def one_value_is_late_where_a_host_is_gone():
     """Three connections are kept when their host goes without a word, and another one has its address."""
     three, gone = threading.Barrier(3), threading.Event()
@@ -237,6 +260,7 @@ run_rows(
         a_service_that_hangs_leaves_room_to_others,
         a_service_that_hangs_leaves_room_to_a_table,
         one_that_waited_has_its_whole_time,
+        one_that_waits_is_late_in_its_time,
         one_value_is_late_where_a_host_is_gone,
         no_value_is_one_that_nobody_asked_for,
         no_value_is_cut_by_a_reset,

@@ -6,9 +6,10 @@
 
 The program runs in a mount namespace of its own, in which /etc/hosts is a file that this script writes; that takes root.
 The name stands first for a service that answers `one`, then for one that answers `two`, then for none, and each key is
-asked once. Two groups are at the name, which is looked up once for both. In the end the name has two addresses, of which the
-first answers nobody, and a value may take 2 seconds: the second one is asked within them. Its last line is `checks N failures 0`;
-where one fails, so does the program. Without the right to all that it says so, and checks nothing.
+asked once. Two groups are at the name, which is looked up once for both. The server of names is this script: it knows no name, and
+then answers no more, so that a look-up does not end; keys are answered meanwhile. In the end the name has two addresses, of which
+the first answers nobody, and a value may take 2 seconds: the second one is asked within them. Its last line is
+`checks N failures 0`; if one fails, so does the program. Without the right to all that it says so, and checks nothing.
 """
 import http.client
 import http.server
@@ -57,11 +58,38 @@ def deaf(address):
     return streams
 
 
-class Front:
-    """The program, before which /etc/hosts is a file of its own."""
+class NameServer:
+    """A server of names that knows none, and while it is silent answers nothing."""
 
-    def __init__(self, hosts, *words):
-        script = f"mount --bind {hosts} /etc/hosts && exec {PROGRAM} --listen 127.0.0.1:{SERVED} {' '.join(words)}"
+    ADDRESS = "127.0.0.9"
+    # The bits of a reply (RFC 1035, section 4.1.1): that it is one, and that there is no such name.
+    NO_SUCH_NAME = b"\x81\x83"
+
+    def __init__(self):
+        self.socket = socket.socket(socket.AF_INET, socket.SOCK_DGRAM)
+        self.socket.bind((self.ADDRESS, 53))
+        self.silent, self.was_asked = False, threading.Event()
+        threading.Thread(target=self.serve, daemon=True).start()
+
+    def serve(self):
+        while True:
+            query, client = self.socket.recvfrom(1000)
+            if self.silent:
+                self.was_asked.set()
+            else:
+                self.socket.sendto(query[:2] + self.NO_SUCH_NAME + query[4:], client)
+
+    def is_silent(self):
+        """Answers nothing from now on. Whether a name was asked for meanwhile."""
+        self.silent = True
+        return self.was_asked.wait(PATIENCE)
+
+
+class Front:
+    """The program, before which /etc/hosts is a file of its own, and the server of names is that of this script."""
+
+    def __init__(self, hosts, names, *words):
+        script = f"mount --bind {hosts} /etc/hosts && mount --bind {names} /etc/resolv.conf && exec {PROGRAM} --listen 127.0.0.1:{SERVED} {' '.join(words)}"
         # One at an address beside them: the others are looked up all the same.
         script += f" here=http://127.0.0.2:{PORT}/ first=http://{NAME}:{PORT}/ second=http://{NAME}:{PORT}/"
         self.process = subprocess.Popen(["unshare", "--mount", "sh", "-c", script], stdout=subprocess.PIPE, text=True)
@@ -93,7 +121,10 @@ def main():
     service("127.0.0.2", b"one")
     service("127.0.0.3", b"two")
     failures = 0
-    with tempfile.NamedTemporaryFile("w") as hosts:
+    name_server = NameServer()
+    with tempfile.NamedTemporaryFile("w") as hosts, tempfile.NamedTemporaryFile("w") as names:
+        names.write(f"nameserver {NameServer.ADDRESS}\noptions timeout:30 attempts:1\n")
+        names.flush()
 
         def stands_for(*addresses):
             hosts.seek(0)
@@ -102,7 +133,7 @@ def main():
             hosts.flush()
 
         stands_for("127.0.0.2")
-        front = Front(hosts.name)
+        front = Front(hosts.name, names.name)
         try:
             checks = [("the first address", front.gives_soon(b"one"))]
             stands_for("127.0.0.3")
@@ -112,13 +143,15 @@ def main():
             stands_for()
             time.sleep(PATIENCE / 2)
             checks.append(("the last address, where nothing is found", front.ask().endswith(b"two")))
+            checks.append(("a look-up that does not end", name_server.is_silent()))
+            checks.append(("the last address while the name is looked up", front.ask().endswith(b"two")))
         finally:
             front.process.kill()
             front.process.wait()
         # The resolver puts the nearer one to 127.0.0.1 first.
         streams = deaf("127.0.0.1")
         stands_for("127.0.0.1", "127.0.0.3")
-        front = Front(hosts.name, "--timeout", "2")
+        front = Front(hosts.name, names.name, "--timeout", "2")
         try:
             checks.append(("the second of two addresses, where the first one answers nobody", front.ask().endswith(b"two")))
         finally:

@@ -5,7 +5,8 @@
     python3 bench/restart.py [crates/peer_front/out/peer_front]
 
 A server that is told to end refuses new clients at once and answers those that wait; meanwhile another serves the address.
-And where more clients come at once than connections are had, all of them are connected, and wait.
+One that is told to end closes its clients, also if one of them left before. And where more clients come at once than connections are
+had, all of them are connected, and wait.
 
 Its last line is `rows N failures 0`; where a row fails, so does the program.
 """
@@ -90,6 +91,23 @@ def serves_while_another_ends():
         return asked and refused and new.listens and answered and served and old.process.wait(30) == 0
 
 
+def closes_all_at_its_end():
+    """One of three clients leaves, and the place of its connection stays free."""
+    address = ("127.0.0.1", free_port())
+    with Server(address, "--demo", "--loops", "1") as server:
+        clients = [socket.create_connection(address, 10) for _ in range(3)]
+        for client in clients:
+            ask(client, "echo/k")
+            client.recv(1000)
+        clients[0].close()
+        # Its end is read before the stop, as a loop reads what comes in order.
+        ask(clients[1], "echo/k")
+        clients[1].recv(1000)
+        server.process.stdin.close()
+        closed = [client.recv(1000) == b"" for client in clients[1:]]
+        return all(closed) and server.process.wait(30) == 0
+
+
 def begin_to_connect(address):
     stream = socket.socket()
     stream.setblocking(False)
@@ -118,4 +136,4 @@ def connects_all_that_wait():
         return server.listens and connected
 
 
-run_rows([serves_while_another_ends, connects_all_that_wait])
+run_rows([serves_while_another_ends, closes_all_at_its_end, connects_all_that_wait])
