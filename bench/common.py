@@ -1,11 +1,28 @@
-"""What several scripts of this folder share: a free port, a request, a server that ends with its block, a service, rows, and words
-of the command line."""
+"""What several scripts of this folder share: which programs each asks, a free port, a request, a server that ends with its block, a
+service, rows, and words of the command line."""
 import argparse
 import shutil
 import socket
 import subprocess
 import sys
 import threading
+
+# The scripts that are tests, and the programs that each asks, those first that take longest.
+SCRIPTS = {
+    "slow_clients": ["peer_front"],
+    "front_serves": ["peer_front"],
+    "lying_origin": ["peer_front"],
+    "kept": ["peer_front"],
+    "names": ["peer_front"],
+    "refused": ["refused", "peer_serve"],
+    "front_refused": ["peer_front"],
+    "front_statuses": ["peer_front"],
+    "serves": ["peer_serve"],
+    "statuses": ["peer_serve"],
+    "restart": ["peer_front"],
+    "itself": ["peer_front"],
+    "upper": ["upper_peer"],
+}
 
 
 def free_port():
