@@ -1,6 +1,7 @@
-"""What several scripts of this folder share: which programs each asks, a free port, a request, a server that ends with its block, a
-service, rows, and words of the command line."""
+"""What several scripts of this folder share: which programs each asks, edits, a free port, a request, a server that ends with its
+block, a service, rows, and words of the command line."""
 import argparse
+import os
 import shutil
 import socket
 import subprocess
@@ -23,6 +24,50 @@ SCRIPTS = {
     "itself": ["peer_front"],
     "upper": ["upper_peer"],
 }
+
+
+def edits_in(folder):
+    """The names of the edits in a folder, sorted."""
+    return sorted(name[: -len(".edit")] for name in os.listdir(folder) if name.endswith(".edit"))
+
+
+class Edit:
+    """A mistake: `self.pairs`, each a file, the text that stands there and the one in its place, and `self.fails`, what its line of
+    this name says."""
+
+    def __init__(self, path):
+        self.pairs, self.fails = [], ""
+        file = old = ""
+        with open(path, encoding="utf-8") as lines:
+            for line in lines:
+                word, _, text = line.rstrip("\n").partition(":")
+                text = text.removeprefix(" ")
+                if word == "file":
+                    file = text
+                elif word == "old":
+                    old = text
+                elif word == "new":
+                    self.pairs.append((file, old, text))
+                elif word == "fails":
+                    self.fails = text
+
+    def put_into(self, tree):
+        """The texts of the files of a tree with the mistake, by their paths. ValueError where it does not fit: each old text has to
+        stand exactly once in its file, over what the pair before left."""
+        right, texts = {}, {}
+        for file, old, new in self.pairs:
+            path = os.path.join(tree, file)
+            if not os.path.isfile(path):
+                raise ValueError(f"there is no file {file}")
+            if path not in texts:
+                with open(path, encoding="utf-8") as source:
+                    right[path] = texts[path] = source.read()
+            if texts[path].count(old) != 1:
+                raise ValueError(f"the old text stands {texts[path].count(old)} times: {old}")
+            texts[path] = texts[path].replace(old, new)
+        if texts == right:
+            raise ValueError("it changes nothing")
+        return texts
 
 
 def free_port():
