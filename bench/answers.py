@@ -1,16 +1,16 @@
 #!/usr/bin/env python3
-"""Goals that wrong bodies break and that have no answer: what makes a gate long. It can write an answer for each.
+"""Goals that wrong bodies break and that have no answer: what makes a try of these long. It can write an answer for each.
 
     ./build CRATE                                  # the crates below it
     (cd crates/CRATE && rt check)                  # what the tries begin with
     python3 bench/answers.py CRATE [--write]
 
 Where a goal has no answer, the prover searches for a proof until it meets a limit, and does so once more for the file that it
-offers. An answer that fails is given up at once. So a goal that a wrong body of must-fail/ breaks is to have one, though the
-search finds its proof in the right body. The wrong bodies are put into a copy of the crate, those of different functions
-together, and each goal is printed that the prover then left open. With --write those goals get the answer `search rules`, or
-`grind` where that proves more, in the crate's own proofs/; an answer by which the crate as it stands is not proved goes again, and
-a goal that only the wrong body has gets none. `rt tidy` then takes out the imports that nothing uses.
+offers. An answer that fails is given up at once. So a goal that a wrong body breaks is to have one, though the search finds its
+proof in the right body. The wrong bodies of the crate, of its must-fail/ and of bench/wrong/, are put into a copy of it, those of
+different functions together, and each goal is printed that the prover then left open. With --write those goals get the answer
+`search rules`, or `grind` where that proves more, in the crate's own proofs/; an answer by which the crate as it stands is not
+proved goes again, and a goal that only the wrong body has gets none. `rt tidy` then takes out the imports that nothing uses.
 """
 import argparse
 import os
@@ -21,6 +21,8 @@ import sys
 import tempfile
 import types
 from importlib.machinery import SourceFileLoader
+
+from common import Edit, edits_in
 
 ROOT = os.path.dirname(os.path.dirname(os.path.abspath(__file__)))
 sys.dont_write_bytecode = True
@@ -66,16 +68,13 @@ class Tried:
     def takes(self, edit):
         """Puts a wrong body in, unless one stands in the same function."""
         texts, functions = {}, set()
-        for word, text in re.findall(r"^(file|old|new): ?(.*)$", read(edit), re.M):
-            if word == "file":
-                path = os.path.join(self.at, text)
-            elif word == "old":
-                old, whole = text, texts.get(path) or read(path)
-                functions.add((path, whole.rfind("fn ", 0, whole.find(old))))
-                if whole.count(old) != 1 or functions & self.functions:
-                    return False
-            else:
-                texts[path] = whole.replace(old, text)
+        for file, old, new in Edit(edit).pairs:
+            path = os.path.join(self.at, file)
+            whole = texts.get(path) or read(path)
+            functions.add((path, whole.rfind("fn ", 0, whole.find(old))))
+            if whole.count(old) != 1 or functions & self.functions:
+                return False
+            texts[path] = whole.replace(old, new)
         for path, text in texts.items():
             write(path, text)
         self.functions |= functions
@@ -102,8 +101,9 @@ class Tried:
 
 def open_goals(crate):
     """The goals that the wrong bodies of a crate leave open, by the file of their answers, and the functions that they are of."""
-    folder = os.path.join(crate.folder, "must-fail")
-    left, goals, functions = sorted(os.path.join(folder, name) for name in os.listdir(folder) if name.endswith(".edit")), {}, set()
+    folders = [os.path.join(crate.folder, "must-fail"), os.path.join(ROOT, "bench", "wrong", crate.name)]
+    left = [os.path.join(at, f"{name}.edit") for at in folders if os.path.isdir(at) for name in edits_in(at)]
+    goals, functions = {}, set()
     while left:
         with Tried(crate) as tried:
             took = [edit for edit in left if tried.takes(edit)]

@@ -3,9 +3,10 @@
 
     docs/check_promises.py
 
-Of the first table: each wrong body that a row names is an edit of some crate's must-fail/ folder; each function, type and
-crate that carries a promise is there; and each clause that stands behind a dot is one of a function of that name. Of the
-tables of wrong programs in threads: each test and each edit that they name is there. Each edit stands in one of these rows.
+Of the first table: each wrong body that a row names is an edit of some crate's must-fail/ folder, or, after the word `also:`, of
+bench/wrong/; each function, type and crate that carries a promise is there; and each clause that stands behind a dot is one of a
+function of that name. Each edit stands in one of these rows, and in one of the two tiers. Of the tables of wrong programs in
+threads: each test and each edit that they name is there.
 
 Prints what is not so, and how much was looked at, and ends with status 1 where something is not so. `*` stands for all
 functions of a type.
@@ -13,9 +14,11 @@ functions of a type.
 import os
 import re
 import sys
+from collections import Counter
 
 ROOT = os.path.dirname(os.path.dirname(os.path.abspath(__file__)))
 CRATES = os.path.join(ROOT, "crates")
+WRONG = os.path.join(ROOT, "bench", "wrong")
 NAME = re.compile(r"`([^`]+)`")
 CONTRACT = re.compile(r"^((?:[A-Za-z_]\w*::)*)(\w+|\*)?((?:\.\w+)*)$")
 DECLARED = re.compile(r"\b(?:fn|struct|enum|trait|mod|type) (\w+)")
@@ -46,10 +49,15 @@ class Declared:
                 self.methods.update((word, name) for word in types)
 
 
-def edits():
-    """The names of all edits."""
-    folders = [os.path.join(CRATES, name, "must-fail") for name in os.listdir(CRATES)]
-    return {file[: -len(".edit")] for folder in folders if os.path.isdir(folder) for file in os.listdir(folder)}
+def edits_in(folders):
+    """How often each name is that of an edit of these folders."""
+    return Counter(file.removesuffix(".edit") for folder in folders if os.path.isdir(folder) for file in os.listdir(folder))
+
+
+def tiers():
+    """The edits that the gate tries, and the others."""
+    gate = edits_in(os.path.join(CRATES, name, "must-fail") for name in os.listdir(CRATES))
+    return gate, edits_in(os.path.join(WRONG, name) for name in os.listdir(WRONG))
 
 
 def rows_of(page):
@@ -59,8 +67,11 @@ def rows_of(page):
 
 
 def wrong_bodies(column):
-    """The edits that a column names, where it does not name the function of another row."""
-    return set() if column.strip().startswith("those of") else set(NAME.findall(column))
+    """The edits that a column names, those that the gate tries and the others, where it does not name the function of another row."""
+    if column.strip().startswith("those of"):
+        return set(), set()
+    first, _, others = column.partition("also: ")
+    return set(NAME.findall(first)), set(NAME.findall(others))
 
 
 def untrue_contracts(column, declared):
@@ -86,22 +97,32 @@ def untrue_contracts(column, declared):
                 yield name
 
 
+def untrue_edits(named, there):
+    """What is not so of the edits that the rows name, those that the gate tries and the others, beside those that are there."""
+    for folder, names, edits in zip(("must-fail/", "bench/wrong/"), named, there):
+        yield from (f"no edit of {folder}: {name}" for name in sorted(names - set(edits)))
+    found = sum(there, Counter())
+    yield from (f"no row: {name}" for name in sorted(set(found) - named[0] - named[1]))
+    yield from (f"stands twice: {name}" for name in sorted(found) if found[name] > 1)
+
+
 def main():
     with open(os.path.join(ROOT, "docs/PROMISES.md"), encoding="utf-8") as page:
         promises, _, others = page.read().partition("\n## Memory that is refused")
-    declared, found, wrong = Declared(), edits(), []
-    named, contracts = set(), 0
+    declared, there, wrong = Declared(), tiers(), []
+    named, contracts = (set(), set()), 0
     for row in rows_of(promises):
         contracts += len(NAME.findall(row[1]))
         wrong += [f"no contract: {name}" for name in untrue_contracts(row[1], declared)]
-        named |= wrong_bodies(row[2])
-    wrong += [f"no edit: {name}" for name in sorted(named - found)]
+        for names, of_row in zip(named, wrong_bodies(row[2])):
+            names.update(of_row)
+    wrong += untrue_edits(named, there)
     threads = others.partition("\n## Wrong programs in threads")[2].partition("\n## ")[0]
     told = [re.split(r"[:.]+", name)[-1] for row in rows_of(threads) for name in NAME.findall(row[-1]) if "/" not in name]
-    known = declared.names | found | {clause for _, clause in declared.clauses}
+    known = declared.names.union(*there, (clause for _, clause in declared.clauses))
     wrong += [f"no test, contract or edit: {name}" for name in told if name not in known]
-    wrong += [f"no row: {name}" for name in sorted(found - named - set(told))]
-    print("\n".join([*wrong, f"edits {len(found)} contracts {contracts} of wrong programs {len(told)} untrue {len(wrong)}"]))
+    counts = f"edits {len(there[0])} and {len(there[1])} contracts {contracts} of wrong programs {len(told)}"
+    print("\n".join([*wrong, f"{counts} untrue {len(wrong)}"]))
     sys.exit(1 if wrong else 0)
 
 
