@@ -5,14 +5,14 @@
     python3 bench/wrong.py --fit                  # only whether each still fits the sources, as the gate does
 
 bench/wrong/CRATE/ has edits in the form of those of crates/CRATE/must-fail/. With no name it goes through all crates that have some.
-They are put in the place of all wrong bodies of a copy of the tree, in which `rt ci` tries them, with N checks beside one another, or
-as many as it takes itself. It takes what an earlier run on this machine proved, and proves the rest: so run it after a gate that
-passed. A crate's edits still begin with a check of the crate. What was tried is kept as well, and tried again only where something
-that it stands on has changed.
+They are put into a copy of the tree, in place of all wrong bodies there, and `rt ci` tries them in it. It has N checks beside one
+another, or as many as it takes itself. It takes what an earlier run on this machine proved, and proves the rest: so run it after a
+gate that passed. A crate's edits still begin with a check of the crate. What was tried is kept as well, and tried again only if
+something that it stands on has changed.
 
-It tells each crate that is begun, and at the end how many edits of each the prover refused, and what `rt` says of the others: of one
-with which the crate is still proved, one that does not reach the prover, one that was not tried, and one that is refused only for a
-name that it takes away. Its last line is `edits N failures 0`; where an edit was not refused, it fails.
+It tells each crate that is begun, and at the end how many edits of each the prover refused. Of each other edit it prints what `rt`
+says: the crate is still proved with it, it does not reach the prover, it was not tried, or it is refused only for a name that it
+takes away. Its last line is `edits N failures 0`; if an edit was not refused, it fails.
 """
 import argparse
 import os
