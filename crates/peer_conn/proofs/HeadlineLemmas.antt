@@ -3,8 +3,8 @@ use Rattle.std.proofs.Common.{◌≡◌, ℕ, List, [], ◌++◌, inl, inr, refl
 use Rattle.std.specs.Io.KnownBytes.{Appends}
 use Rattle.peer_source.specs.Answers.{Answer}
 use Rattle.peer_reply.specs.declared.wish.Wish.{Wish}
-use Rattle.peer_outbox.specs.Joins.{join}
-use Rattle.peer_outbox.proofs.JoinLemmas.{join-append}
+use Rattle.peer_reply.specs.Joins.{join}
+use Rattle.peer_reply.proofs.JoinLemmas.{join-append}
 use Rattle.peer_wish.specs.Allowed.{allows}
 use Rattle.peer_wish.specs.Wishes.{AreFirst, IsWhole}
 use Rattle.peer_wish.specs.Replies.{Replies, AreFrontOfReplies}

@@ -10,8 +10,8 @@ use Rattle.peer_fill.specs.declared.seats.ConnSeat.{ConnSeat}
 use Rattle.peer_flight.specs.declared.table.AskFault.{AskFault}
 use Rattle.peer_lane.specs.Lanes.{IsSameIn, tickets_put}
 use Rattle.peer_lane.specs.declared.lane_in.LaneIn.{LaneIn}
-use Rattle.peer_lane.specs.declared.ticket.Body.{Body}
-use Rattle.peer_lane.specs.declared.ticket.Ticket.{Ticket}
+use Rattle.peer_wish.specs.declared.ticket.Body.{Body}
+use Rattle.peer_wish.specs.declared.ticket.Ticket.{Ticket}
 use Rattle.peer_reply.specs.declared.wish.Wish.{Wish}
 use Rattle.peer_reply.specs.declared.wish.WishBody.{WishBody}
 use Rattle.peer_wish.specs.Tickets.{body_by, wishes_by, asks_in_body}

@@ -6,8 +6,8 @@ use Rattle.peer_view.proofs.MovingLemmas.{Moves-along, Moves-more, Moves-none, M
 use Rattle.peer_reply.specs.declared.wish.Wish.{Wish}
 use Rattle.peer_wish.specs.Replies.{IsReply}
 use Rattle.peer_wish.proofs.ReplyLemmas.{Replies-append}
-use Rattle.peer_outbox.specs.Joins.{join}
-use Rattle.peer_outbox.proofs.JoinLemmas.{join-append}
+use Rattle.peer_reply.specs.Joins.{join}
+use Rattle.peer_reply.proofs.JoinLemmas.{join-append}
 use Rattle.peer_conn.specs.Sending.{Sending, Sent, Broke, Answered}
 use Rattle.peer_conn.specs.WriterStates.{Still, IsOfFirst, RepliesFrom, FlushesFrom}
 use Rattle.peer_conn.specs.declared.end.WriterState.{WriterState}

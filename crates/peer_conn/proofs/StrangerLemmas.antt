@@ -6,7 +6,7 @@ use Rattle.peer_fill.specs.declared.counts.AskCounts.{AskCounts}
 use Rattle.peer_flight.specs.Claims.{Looked}
 use Rattle.peer_flight.specs.declared.claim.Claim.{Claim}
 use Rattle.peer_flight.specs.declared.claim.Claim.TheVariants as claim
-use Rattle.peer_lane.specs.declared.ticket.Ticket.{Ticket}
+use Rattle.peer_wish.specs.declared.ticket.Ticket.{Ticket}
 use Rattle.peer_wish.specs.Strangers.{flight_count, flights_in, flights_in_body}
 use Rattle.peer_wish.proofs.TicketLemmas.{flights-append, own_of_ready}
 use Rattle.peer_conn.specs.Strangers.{CountsAmong, CountsFew, CountsFill, Rises, flights_of}

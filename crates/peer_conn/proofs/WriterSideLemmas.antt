@@ -5,7 +5,7 @@ use Rattle.peer_source.specs.declared.source.Source as Source
 use Rattle.peer_view.specs.declared.writer.PeerWrite as Write
 use Rattle.peer_lane.specs.Lanes.{IsSameOut, tickets_taken, tickets_known}
 use Rattle.peer_lane.specs.declared.lane_out.LaneOut.{LaneOut}
-use Rattle.peer_lane.specs.declared.ticket.Ticket.{Ticket}
+use Rattle.peer_wish.specs.declared.ticket.Ticket.{Ticket}
 use Rattle.peer_reply.specs.declared.wish.Wish.{Wish}
 use Rattle.peer_wish.specs.Tickets.{wish_by, wishes_by}
 use Rattle.peer_wish.proofs.TicketLemmas.{wishes-append}

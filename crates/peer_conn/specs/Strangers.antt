@@ -3,7 +3,7 @@ use Rattle.std.specs.Prelude.{◌≡◌, ◌≤◌, ◌⊎◌, ℕ, ◌+◌, ◌
 use Rattle.peer_source.specs.Answers.{Filled}
 use Rattle.peer_fill.specs.declared.counts.AskCounts.{AskCounts}
 use Rattle.peer_flight.specs.declared.claim.Claim.{Claim}
-use Rattle.peer_lane.specs.declared.ticket.Ticket.{Ticket}
+use Rattle.peer_wish.specs.declared.ticket.Ticket.{Ticket}
 use Rattle.peer_wish.specs.Strangers.{IsOwn, flights_in}
 use Rattle.peer_conn.specs.WriterStates.{is_active}
 use Rattle.peer_conn.specs.declared.end.WriterState.{WriterState}

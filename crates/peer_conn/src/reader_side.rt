@@ -13,10 +13,11 @@ use crate::end::ReaderStop;
 use crate::requests::{NextRequest, Requests};
 use peer_fill::{ConnSeat, Pool};
 use peer_flight::AskFault;
-use peer_lane::{Body, LaneIn, Signal, Ticket};
+use peer_lane::{LaneIn, Signal};
 use peer_reply::{Wish, WishBody};
 use peer_source::{Names, Source};
 use peer_view::PeerRead;
+use peer_wish::{Body, Ticket};
 use std::sync::Wait;
 use std::sync::ledger::Ledger;
 

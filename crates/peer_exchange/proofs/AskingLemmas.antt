@@ -3,17 +3,17 @@ use Rattle.std.proofs.Common.{Option, ◌≡◌, ◌∙◌, ℕ, ◌+◌, ◌≤
 use Rattle.std.proofs.lemmas.Bool.{le-leb, true≢false}
 use Rattle.std.specs.VecDeque.{deque_len}
 use Rattle.peer_fill.specs.declared.counts.AskCounts.{AskCounts}
-use Rattle.peer_lane.specs.declared.ticket.Ticket.{Ticket}
+use Rattle.peer_wish.specs.declared.ticket.Ticket.{Ticket}
 use Rattle.peer_wish.specs.Tickets.{asks_in_body, asks_in, wish_by, wishes_by}
 use Rattle.peer_wish.proofs.TicketLemmas.{asks_in-append, flights-append, wishes-append}
 use Rattle.peer_exchange.specs.AnsweringReady.{AnswersTicket, AnswersReady}
 use Rattle.peer_exchange.specs.Asking.{CountsAsks, AddsTicket, AddsTickets, IsJudgedThrough}
-use Rattle.peer_outbox.specs.Joins.{join}
-use Rattle.peer_outbox.specs.Windows.{window_after, window_behind}
+use Rattle.peer_reply.specs.Joins.{join}
+use Rattle.peer_exchange.specs.Windows.{window_after, window_behind}
 use Rattle.peer_exchange.specs.ExchangeStates.{unsent}
 use Rattle.peer_exchange.specs.declared.exchange_state.ExchangeState.{ExchangeState}
 use Rattle.peer_exchange.proofs.ExchangeLemmas.{went_well}
-use Rattle.peer_outbox.proofs.JoinLemmas.{join-append}
+use Rattle.peer_reply.proofs.JoinLemmas.{join-append}
 
 capped : (a c x most : ℕ) → min (min (a + c) most + x) most ≡ min (a + (c + x)) most
 capped a c x most = omega arith

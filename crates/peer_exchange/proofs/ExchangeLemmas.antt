@@ -3,9 +3,9 @@ use Rattle.std.proofs.Common.{◌≡◌, ◌∙◌, inl, inr, ℕ, ◌+◌, ◌<
 use borrow.Author.Tests.{eqb-true}
 use Rattle.peer_source.specs.Answers.{Answer}
 use Rattle.peer_reply.specs.declared.wish.Wish.{Wish}
-use Rattle.peer_lane.specs.declared.ticket.Ticket.{Ticket}
+use Rattle.peer_wish.specs.declared.ticket.Ticket.{Ticket}
 use Rattle.peer_wish.specs.Replies.{IsReply, Replies}
-use Rattle.peer_outbox.specs.Joins.{join}
+use Rattle.peer_reply.specs.Joins.{join}
 use Rattle.peer_wish.specs.Tickets.{wish_by, wishes_by}
 use Rattle.peer_wish.proofs.ReplyLemmas.{IsReplyOf, replies, replies_of, Replies-append}
 use Rattle.peer_wish.proofs.WishLemmas.{first_of}
@@ -17,7 +17,7 @@ use Rattle.peer_exchange.specs.Intakes.{is_judging, Judged, JudgesOne, KeepsJudg
 use Rattle.peer_exchange.specs.ExchangeStates.{is_over, unsent, AreFew, Upholds, Keeps, AreSent, HoldsLittle}
 use Rattle.peer_exchange.specs.declared.exchange_state.ExchangeState.{ExchangeState}
 use Rattle.peer_exchange.proofs.IntakeLemmas.{judged_first}
-use Rattle.peer_outbox.proofs.JoinLemmas.{join-append}
+use Rattle.peer_reply.proofs.JoinLemmas.{join-append}
 
 -- one wish more behind those that wait
 pub one_behind : (answered waiting : List Wish) (w : Wish) → (answered ++ (waiting ++ [])) ++ w ∷ [] ≡ answered ++ (waiting ++ w ∷ [])

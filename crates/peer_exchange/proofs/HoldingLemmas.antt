@@ -1,7 +1,7 @@
 -- Laws of how many bytes came for tickets.
 use Rattle.std.proofs.Common.{◌≡◌, ℕ, zero, suc, ◌+◌, ◌<◌, ◌≤◌, List, [], ◌∷◌, length, take, get_or, refl, ap, subst, arith}
 use Rattle.std.proofs.lemmas.List.{take_all}
-use Rattle.peer_lane.specs.declared.ticket.Ticket.{Ticket}
+use Rattle.peer_wish.specs.declared.ticket.Ticket.{Ticket}
 use Rattle.peer_exchange.specs.Holdings.{CameFor, CameForAll}
 
 module _ {S : Type 0} where

@@ -4,9 +4,9 @@ use Rattle.std.specs.Bool.{OnFalse, OnTrue}
 use Rattle.peer_source.specs.Answers.{Answer, Filled}
 use Rattle.peer_flight.specs.declared.claim.Claim.{Claim}
 use Rattle.peer_flight.specs.declared.claim.Claim.TheVariants as claim
-use Rattle.peer_lane.specs.declared.ticket.Body.{Body}
-use Rattle.peer_lane.specs.declared.ticket.Body.TheVariants as ticket
-use Rattle.peer_lane.specs.declared.ticket.Ticket.{Ticket}
+use Rattle.peer_wish.specs.declared.ticket.Body.{Body}
+use Rattle.peer_wish.specs.declared.ticket.Body.TheVariants as ticket
+use Rattle.peer_wish.specs.declared.ticket.Ticket.{Ticket}
 use Rattle.peer_reply.specs.declared.wish.ReplyForm.{ReplyForm}
 use Rattle.peer_reply.specs.declared.wish.Wish.{Wish}
 use Rattle.peer_wish.specs.Replies.{IsReply}

@@ -2,12 +2,12 @@
 use Rattle.std.specs.Prelude.{◌≡◌, ◌≤◌, ℕ, ◌+◌, ◌^◌, ◌⊎◌, min, length, true, cond, List, [], ◌∷◌, ◌++◌, Result, Ok, Err, OnOk}
 use Rattle.std.specs.VecDeque.{deque_len}
 use Rattle.peer_fill.specs.declared.counts.AskCounts.{AskCounts}
-use Rattle.peer_lane.specs.declared.ticket.Ticket.{Ticket}
+use Rattle.peer_wish.specs.declared.ticket.Ticket.{Ticket}
 use Rattle.peer_wish.specs.Strangers.{flights_in, flights_in_body}
 use Rattle.peer_exchange.specs.Answering.{waits_on_flight}
 use Rattle.peer_exchange.specs.Intakes.{IsGivenUpFor}
-use Rattle.peer_outbox.specs.Joins.{join}
-use Rattle.peer_outbox.specs.Windows.{window_after, window_behind}
+use Rattle.peer_reply.specs.Joins.{join}
+use Rattle.peer_exchange.specs.Windows.{window_after, window_behind}
 use Rattle.peer_exchange.specs.ExchangeStates.{has_much_output, unsent}
 use Rattle.peer_exchange.specs.declared.outgoing.Answered.{Answered}
 use Rattle.peer_exchange.specs.declared.outgoing.Answered.TheVariants as answered

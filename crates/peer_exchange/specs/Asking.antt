@@ -5,7 +5,7 @@ use Rattle.peer_head.specs.Blocks.{IsFrontLength, IsUnfinished}
 use Rattle.peer_flight.specs.declared.table.AskFault.{AskFault}
 use Rattle.peer_flight.specs.declared.table.AskFault.TheVariants as ask
 use Rattle.peer_fill.specs.declared.counts.AskCounts.{AskCounts}
-use Rattle.peer_lane.specs.declared.ticket.Ticket.{Ticket}
+use Rattle.peer_wish.specs.declared.ticket.Ticket.{Ticket}
 use Rattle.peer_reply.specs.declared.wish.WishBody.{WishBody}
 use Rattle.peer_wish.specs.Tickets.{asks_in_body, asks_in, wish_by, wishes_by}
 use Rattle.peer_wish.specs.Nexts.{IsNextWish}

@@ -6,7 +6,7 @@ use Rattle.peer_head.specs.Blocks.{LIMIT}
 use Rattle.peer_reply.specs.declared.wish.Wish.{Wish}
 use Rattle.peer_wish.specs.Wishes.{AreFirst}
 use Rattle.peer_wish.specs.Replies.{Replies}
-use Rattle.peer_outbox.specs.Joins.{join}
+use Rattle.peer_reply.specs.Joins.{join}
 use Rattle.peer_wish.specs.AllReplies.{AreAllReplies}
 use Rattle.peer_wish.specs.Tickets.{wishes_by}
 use Rattle.peer_exchange.specs.Intakes.{Judged, is_open, is_judging}

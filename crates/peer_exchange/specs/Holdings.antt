@@ -3,9 +3,9 @@ use Rattle.std.specs.Prelude.{◌≡◌, ℕ, ◌+◌, ◌⊎◌, true, List, []
 use Rattle.peer_source.specs.Answers.{Answer, Filled, Found, Failed}
 use Rattle.peer_flight.specs.Claims.{Looked}
 use Rattle.peer_flight.specs.declared.claim.Claim.{Claim}
-use Rattle.peer_lane.specs.declared.ticket.Body.{Body}
-use Rattle.peer_lane.specs.declared.ticket.Body.TheVariants as ticket
-use Rattle.peer_lane.specs.declared.ticket.Ticket.{Ticket}
+use Rattle.peer_wish.specs.declared.ticket.Body.{Body}
+use Rattle.peer_wish.specs.declared.ticket.Body.TheVariants as ticket
+use Rattle.peer_wish.specs.declared.ticket.Ticket.{Ticket}
 use Rattle.peer_exchange.specs.Answering.{is_pending}
 
 -- the bytes of a value or a text, none where there is no answer

@@ -7,3 +7,4 @@ pub mod Histories
 pub mod Holdings
 pub mod Intakes
 pub mod Rests
+pub mod Windows

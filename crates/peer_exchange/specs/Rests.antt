@@ -2,9 +2,9 @@
 use Rattle.std.specs.Prelude.{◌≡◌, ℕ, Option, None, Some, true, false, ◌&&◌, not, ◌==◌, List, [], ◌∷◌, length}
 use Rattle.std.specs.VecDeque.{deque_len}
 use Rattle.peer_flight.specs.declared.claim.Claim.TheVariants.{Pending}
-use Rattle.peer_lane.specs.declared.ticket.Body.{Body}
-use Rattle.peer_lane.specs.declared.ticket.Body.TheVariants.{Claim}
-use Rattle.peer_lane.specs.declared.ticket.Ticket.{Ticket}
+use Rattle.peer_wish.specs.declared.ticket.Body.{Body}
+use Rattle.peer_wish.specs.declared.ticket.Body.TheVariants.{Claim}
+use Rattle.peer_wish.specs.declared.ticket.Ticket.{Ticket}
 use Rattle.peer_exchange.specs.Asking.{IsJudgedThrough}
 use Rattle.peer_exchange.specs.ExchangeStates.{takes_bytes, unsent, has_much_output, is_full, is_over}
 use Rattle.peer_exchange.specs.declared.exchange_state.ExchangeState.{ExchangeState}

@@ -7,9 +7,9 @@ ghost use Rattle.peer_exchange.specs.Holdings.{CameForAll};
 
 use crate::intake::{GivenUp, Intake};
 use crate::outgoing::{Outgoing, len_of};
-use peer_lane::Ticket;
-use peer_outbox::{MAX_UNSENT, Window};
+use crate::window::{MAX_UNSENT, Window};
 use peer_source::{FunctionalSource, Names, Source};
+use peer_wish::Ticket;
 use std::alloc::{AllocError, Global};
 use std::collections::VecDeque;
 

@@ -1,8 +1,8 @@
 //! A connection as a state, without input or output.
 //!
-//! It stands on the wishes of `peer_wish`, the pool of `peer_fill`, the tickets of `peer_lane`, the replies of
-//! `peer_reply` and what waits to be sent of `peer_outbox`. It promises, at every moment, that what was sent is a front of
-//! the replies to what came; and once it is over, which replies were sent.
+//! It stands on the wishes and tickets of `peer_wish`, the pool of `peer_fill`, the replies of `peer_reply` and what waits to
+//! be sent of `peer_outbox`. It promises, at every moment, that what was sent is a front of the replies to what came; and
+//! once it is over, which replies were sent.
 #![tactic(auto)]
 
 mod answering;
@@ -12,6 +12,7 @@ mod exchange_state;
 mod intake;
 mod outgoing;
 mod rest;
+mod window;
 
 pub use exchange::Exchange;
 pub use intake::GivenUp;

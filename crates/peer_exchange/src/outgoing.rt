@@ -13,11 +13,11 @@ ghost use Rattle.peer_exchange.specs.Answering.{Answers, AnswersClaim, AnswersFi
 
 use peer_fill::Pool;
 use peer_flight::Claim;
-use peer_lane::{Body, Ticket};
 use peer_outbox::Outbox;
 use peer_reply::{Fault, HeadRoom, Reply, ReplyForm};
 use peer_source::{Fill, Outcome, Source};
 use peer_view::ByteView;
+use peer_wish::{Body, Ticket};
 use std::alloc::{AllocError, Global};
 use std::sync::ledger::Ledger;
 

@@ -6,9 +6,8 @@ ghost use Rattle.std.specs.Prelude.{◌≡◌};
 use crate::exchange_state::ExchangeState;
 use crate::intake::{GivenUp, Stage};
 use peer_flight::Claim;
-use peer_lane::Body;
 use peer_source::{FunctionalSource, Source};
-use peer_wish::End;
+use peer_wish::{Body, End};
 
 /// What would let an exchange go on, once what it holds was judged. Where it is nothing, the exchange is over.
 #[derive(Clone, Copy, Debug, PartialEq, Eq)]

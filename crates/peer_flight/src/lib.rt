@@ -15,9 +15,3 @@ pub use claim::Claim;
 pub use flight::{FillRight, Flight, Note, Put};
 pub use place::Place;
 pub use table::{Ask, AskFault, Table};
-
-/// How many replies a connection gets at most. The last of them closes.
-pub const MAX_REPLIES: u64 = 10_000;
-
-/// How many tickets of a connection wait at most.
-pub const MAX_TICKETS: usize = 64;

@@ -2,7 +2,7 @@
 use Rattle.std.specs.Prelude.{◌≡◌, ℕ, List}
 use Rattle.rtrb.specs.Ring.{sent, known_free, received, known_items, IsPair, SameProducer, SameConsumer}
 use Rattle.peer_source.specs.declared.source.Source.{Ghosts}
-use Rattle.peer_lane.specs.declared.ticket.Ticket.{Ticket}
+use Rattle.peer_wish.specs.declared.ticket.Ticket.{Ticket}
 use Rattle.peer_lane.specs.declared.lane_in.LaneIn.{LaneIn}
 use Rattle.peer_lane.specs.declared.lane_out.LaneOut.{LaneOut}
 

@@ -4,8 +4,8 @@ ghost use Rattle.peer_flight.specs.Events.{TICKETS};
 ghost use Rattle.rtrb.specs.Ring.{producer_capacity};
 
 use crate::signal::Signal;
-use crate::ticket::Ticket;
 use peer_source::Source;
+use peer_wish::Ticket;
 use rtrb::{Producer, PushError};
 use std::sync::Wait;
 

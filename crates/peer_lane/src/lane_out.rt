@@ -4,8 +4,8 @@ ghost use Rattle.peer_flight.specs.Events.{TICKETS};
 ghost use Rattle.rtrb.specs.Ring.{consumer_capacity};
 
 use crate::signal::Signal;
-use crate::ticket::Ticket;
 use peer_source::Source;
+use peer_wish::Ticket;
 use rtrb::Consumer;
 use std::sync::Wait;
 

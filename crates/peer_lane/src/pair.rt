@@ -5,8 +5,8 @@ ghost use Rattle.peer_lane.specs.Lanes.{tickets_put, tickets_taken, tickets_know
 
 use crate::lane_in::LaneIn;
 use crate::lane_out::LaneOut;
-use peer_flight::MAX_TICKETS;
 use peer_source::Source;
+use peer_wish::MAX_TICKETS;
 use rtrb::RingBuffer;
 use std::alloc::{AllocError, Global};
 

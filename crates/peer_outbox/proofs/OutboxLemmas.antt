@@ -5,9 +5,9 @@ use Rattle.std.specs.Prelude.{Bool, false, codes, decimal, Option, None, Some, o
 use Rattle.peer_source.specs.Answers.{Answer, Found}
 use Rattle.peer_reply.specs.Bodies.{body_of, tag_and_length}
 use Rattle.peer_reply.specs.Texts.{crlf, field, connection_field, value_start, value_reply, answer_reply}
-use Rattle.peer_outbox.specs.Joins.{join}
+use Rattle.peer_reply.specs.Joins.{join}
 use Rattle.peer_outbox.specs.Outboxes.{EachHasByte, StartsIn, BeginsWithBoth, EndsIn}
-use Rattle.peer_outbox.proofs.JoinLemmas.{join-append}
+use Rattle.peer_reply.proofs.JoinLemmas.{join-append}
 
 -- what is sent of the first piece is no more than there is
 starts_le : (ps : List (List ℕ)) (start : ℕ) → StartsIn ps start → start ≤ length (join ps)

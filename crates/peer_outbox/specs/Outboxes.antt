@@ -1,6 +1,6 @@
 -- The bytes that wait to be sent, in pieces.
 use Rattle.std.specs.Prelude.{◌≡◌, ℕ, ◌<◌, List, [], ◌∷◌, ◌++◌, length, drop}
-use Rattle.peer_outbox.specs.Joins.{join}
+use Rattle.peer_reply.specs.Joins.{join}
 
 -- all bytes, the first of them that lie together, and those that do behind these
 pub record Output : Type 0 where

@@ -37,7 +37,7 @@ pub struct Outbox {
 
 impl Model for Outbox {
     ghost use Rattle.std.specs.Prelude.{◌≡◌, ◌+◌, ◌++◌, length};
-    ghost use Rattle.peer_outbox.specs.Joins.{join};
+    ghost use Rattle.peer_reply.specs.Joins.{join};
     ghost use Rattle.peer_outbox.specs.Outboxes.{Output, StartsIn, output_of};
 
     ghost Value = { Output };

@@ -1,4 +1,5 @@
 pub mod Bodies
+pub mod Joins
 pub mod Laws
 pub mod Lengths
 pub mod Openings

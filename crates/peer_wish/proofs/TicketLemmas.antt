@@ -2,7 +2,7 @@
 use Rattle.std.proofs.Common.{◌≡◌, ◌+◌, List, [], ◌∷◌, ◌++◌, Some, refl, sym, ap, arith}
 use Rattle.peer_source.specs.Answers.{Filled}
 use Rattle.peer_flight.specs.SingleFlight.{place_of}
-use Rattle.peer_lane.specs.declared.ticket.Ticket.{Ticket}
+use Rattle.peer_wish.specs.declared.ticket.Ticket.{Ticket}
 use Rattle.peer_reply.specs.declared.wish.Wish.{Wish}
 use Rattle.peer_wish.specs.Tickets.{wish_by, wishes_by, asks_in}
 use Rattle.peer_wish.specs.Strangers.{flights_in}

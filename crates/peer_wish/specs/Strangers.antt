@@ -5,9 +5,9 @@ use Rattle.peer_flight.specs.Claims.{claim_place}
 use Rattle.peer_flight.specs.SingleFlight.{place_of}
 use Rattle.peer_flight.specs.declared.claim.Claim.{Claim}
 use Rattle.peer_flight.specs.declared.claim.Claim.TheVariants as claim
-use Rattle.peer_lane.specs.declared.ticket.Body.{Body}
-use Rattle.peer_lane.specs.declared.ticket.Body.TheVariants as ticket
-use Rattle.peer_lane.specs.declared.ticket.Ticket.{Ticket}
+use Rattle.peer_wish.specs.declared.ticket.Body.{Body}
+use Rattle.peer_wish.specs.declared.ticket.Body.TheVariants as ticket
+use Rattle.peer_wish.specs.declared.ticket.Ticket.{Ticket}
 
 module _ {S : Type 0} where
   -- the fill is of the group and key that the claim is of

@@ -8,9 +8,9 @@ use Rattle.peer_reply.specs.declared.wish.WishBody.TheVariants as wish
 use Rattle.peer_flight.specs.Claims.{claim_place}
 use Rattle.peer_flight.specs.declared.claim.Claim.{Claim}
 use Rattle.peer_wish.specs.Wishes.{get_wish}
-use Rattle.peer_lane.specs.declared.ticket.Body.{Body}
-use Rattle.peer_lane.specs.declared.ticket.Body.TheVariants as ticket
-use Rattle.peer_lane.specs.declared.ticket.Ticket.{Ticket}
+use Rattle.peer_wish.specs.declared.ticket.Body.{Body}
+use Rattle.peer_wish.specs.declared.ticket.Body.TheVariants as ticket
+use Rattle.peer_wish.specs.declared.ticket.Ticket.{Ticket}
 
 -- what a ticket's body answers
 abbrev pub body_by : {S : Type 0} → Body S → WishBody

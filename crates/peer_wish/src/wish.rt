@@ -9,7 +9,6 @@ ghost use Rattle.peer_wish.specs.Wishes.{head_wish, head_body, target_body, in_g
 ghost use Rattle.peer_wish.specs.LentWishes.{lent_body};
 ghost use Rattle.peer_wish.specs.Nexts.{IsNextOf};
 
-use peer_flight::MAX_REPLIES;
 use peer_head::{FieldPlaces, HeadFault, HeadView, Look, look_held};
 use peer_path::{PathFault, Place, locate};
 use peer_reply::{Fault, Wish, WishBody};
@@ -17,6 +16,9 @@ use peer_source::{GroupId, Names, Source};
 use peer_view::ByteView;
 use std::alloc::{AllocError, Global};
 use std::marker::Model;
+
+/// How many replies a connection gets at most. The last of them closes.
+pub const MAX_REPLIES: u64 = 10_000;
 
 /// A `WishBody` whose key is lent.
 #[derive(Drop)]

@@ -4,10 +4,10 @@ mod flags;
 mod full;
 mod threads;
 
-use peer_lane::{Body, Ticket};
 use peer_reply::Fault;
 use peer_source::DemoSource;
 use peer_view::ByteView;
+use peer_wish::{Body, Ticket};
 use std::alloc::{AllocError, Global};
 
 // A ticket that bears this number as the name of a group.

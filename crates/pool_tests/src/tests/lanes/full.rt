@@ -5,9 +5,10 @@ ghost use Rattle.peer_lane.specs.Lanes.{free_places, IsSameIn};
 use super::{has_number, ticket_with};
 use crate::tests::values::ECHO;
 use peer_flight::Claim;
-use peer_lane::{Body, LaneIn, LaneOut, Ticket, beside, lane};
+use peer_lane::{LaneIn, LaneOut, beside, lane};
 use peer_source::{DemoSource, Fill};
 use peer_view::ByteView;
+use peer_wish::{Body, Ticket};
 use std::alloc::{AllocError, Global};
 
 // Puts the tickets from 0 on. That the lane takes 64 is proved.

@@ -1,6 +1,6 @@
 use Rattle.std.proofs.Common.{◌≡◌, ◌∙◌, ◌<◌, ◌∷◌, [], ◌++◌, ◌+◌, length, drop, sym, ap, subst, arith, length-append}
 use Rattle.peer_reply.specs.Texts.{joined}
-use Rattle.peer_outbox.specs.Joins.{join}
+use Rattle.peer_reply.specs.Joins.{join}
 use Rattle.peer_outbox.specs.Outboxes.{StartsIn}
 use Rattle.peer_outbox.proofs.OutboxLemmas.{lend_two, lend_length, starts_more}
 use Rattle.peer_outbox.proofs.outbox.Outbox.lend.Goals as goal

@@ -1,6 +1,6 @@
 -- Laws of lists of bytes, joined.
 use Rattle.std.proofs.Common.{◌≡◌, ℕ, List, [], ◌∷◌, ◌++◌, refl, ◌∙◌, ap, append_assoc}
-use Rattle.peer_outbox.specs.Joins.{join}
+use Rattle.peer_reply.specs.Joins.{join}
 
 pub join-append : (rs ss : List (List ℕ)) → join rs ++ join ss ≡ join (rs ++ ss)
 join-append [] ss = refl

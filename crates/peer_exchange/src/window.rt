@@ -1,19 +1,19 @@
 //! How many tickets of an exchange may wait.
 //!
-//! It stands on the number of tickets of `peer_flight`. It promises 1 to 64, by the lengths of the replies that were put.
+//! It stands on the number of tickets of `peer_wish`. It promises 1 to 64, by the lengths of the replies that were put.
 ghost use Rattle.std.specs.Prelude.{◌≡◌, ◌≤◌, ◌*◌};
-ghost use Rattle.peer_outbox.specs.Windows.{window_after};
+ghost use Rattle.peer_exchange.specs.Windows.{window_after};
 
-use peer_flight::MAX_TICKETS;
+use peer_wish::MAX_TICKETS;
 use std::cmp::{max, min};
 
 /// Where so many bytes wait to be sent, nothing is asked or put until some were sent.
-pub const MAX_UNSENT: usize = 65_536;
+pub(crate) const MAX_UNSENT: usize = 65_536;
 
 /// How many tickets may wait.
 #[derive(Drop)]
-pub struct Window {
-    pub tickets: usize,
+pub(crate) struct Window {
+    pub(crate) tickets: usize,
     ghost some: { 1 ≤ tickets },
     ghost few: { tickets ≤ 64 },
 }
@@ -30,17 +30,17 @@ fn tickets_after(len: usize, tickets: usize) -> usize
 
 impl Window {
     ghost use Rattle.std.specs.Prelude.{◌≡◌};
-    ghost use Rattle.peer_outbox.specs.Windows.{window_after};
+    ghost use Rattle.peer_exchange.specs.Windows.{window_after};
 
     /// One ticket.
-    pub fn new() -> Window
+    pub(crate) fn new() -> Window
         ensures { result.tickets ≡ 1 }
     {
         Window { tickets: 1 }
     }
 
     /// A reply of `len` bytes was put.
-    pub fn put(&mut self, len: usize)
+    pub(crate) fn put(&mut self, len: usize)
         ensures { self.new.tickets ≡ window_after len self.old.tickets }
     {
         self.tickets = tickets_after(len, self.tickets);

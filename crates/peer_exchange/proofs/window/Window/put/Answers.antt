@@ -1,5 +1,5 @@
 use Rattle.std.proofs.Common.{rules}
-use Rattle.peer_outbox.proofs.window.tickets_after.Goals as goal
+use Rattle.peer_exchange.proofs.window.Window.put.Goals as goal
 
 pub returns : goal.returns
 returns c = search rules

@@ -3,6 +3,9 @@ use peer_flight::Claim;
 use peer_reply::Fault;
 use peer_source::Source;
 
+/// How many tickets of a connection wait at most.
+pub const MAX_TICKETS: usize = 64;
+
 /// What the reply answers.
 #[derive(Drop)]
 pub enum Body<S: Source> {
