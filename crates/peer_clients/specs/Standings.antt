@@ -1,7 +1,7 @@
 -- What a client does at the moment.
 use Rattle.std.specs.Prelude.{Bool, ◌||◌, cond}
-use Rattle.peer_activity.specs.declared.standing.Standing.{Standing}
-use Rattle.peer_activity.specs.declared.standing.Standing.TheVariants as standing
+use Rattle.peer_site.specs.declared.standing.Standing.{Standing}
+use Rattle.peer_site.specs.declared.standing.Standing.TheVariants as standing
 use Rattle.peer_exchange.specs.Rests.{rest_of}
 use Rattle.peer_exchange.specs.declared.exchange_state.ExchangeState.{ExchangeState}
 use Rattle.peer_exchange.specs.declared.rest.Rest.{Rest}

@@ -3,7 +3,7 @@
 //! It stands on the connection as a state (`Exchange`), on the seat of its loop, and on what the system reports of the stream.
 //! It promises that the seat stays one of the pool, with its parts, and that the connection stays one of the pool's source.
 ghost use Rattle.std.specs.Prelude.{◌≡◌, ◌↔◌, IsTrue, Some};
-ghost use Rattle.peer_activity.specs.Activities.{IsOverdue};
+ghost use Rattle.peer_site.specs.Activities.{IsOverdue};
 ghost use Rattle.peer_clients.specs.Parts.{KeepsParts};
 ghost use Rattle.peer_clients.specs.Standings.{standing_of};
 
@@ -17,11 +17,9 @@ use crate::skip::skip;
 use mio::event::Event;
 use mio::net::TcpStream;
 use mio::{Interest, Registry, Token};
-use peer_activity::{Activity, Standing};
 use peer_exchange::Exchange;
-use peer_limits::Limits;
-use peer_poll::Readiness;
-use peer_site::Occupancy;
+use peer_runtime::{Limits, Readiness};
+use peer_site::{Activity, Occupancy, Standing};
 use peer_source::Source;
 use std::io;
 use std::marker::PhantomData;

@@ -5,7 +5,7 @@ ghost use Rattle.peer_clients.specs.Parts.{filling_parts};
 
 use crate::limits::{JOBS_OF_TURN, LOOKS};
 use peer_fill::{FillSeat, Pool};
-use peer_poll::PollWakers;
+use peer_runtime::PollWakers;
 use peer_site::FillGate;
 use peer_source::Source;
 use std::alloc::Global;

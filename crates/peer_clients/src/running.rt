@@ -10,7 +10,7 @@ use crate::loop_seats::LoopSeats;
 use crate::seat::LoopSeat;
 use crate::work::{LoopParts, LoopWork};
 use peer_fill::Pool;
-use peer_host::Network;
+use peer_runtime::Network;
 use peer_source::Source;
 use std::alloc::Global;
 use std::marker::{Brand, PhantomData};

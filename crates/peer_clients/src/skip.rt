@@ -3,8 +3,7 @@
 use crate::client_state::ClientState;
 use crate::limits::ROUNDS_OF_TURN;
 use mio::net::TcpStream;
-use peer_limits::MAX_SKIPPED;
-use peer_poll::{was_interrupted, would_block};
+use peer_runtime::{MAX_SKIPPED, was_interrupted, would_block};
 use std::io::Read;
 
 /// Reads and discards, as a lingering close does, adds what was read to what was skipped, and says what is waited for.

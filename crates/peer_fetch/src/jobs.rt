@@ -13,7 +13,7 @@ use crate::fetcher::Fetcher;
 use crate::opening::System;
 use crate::settings::FetchPlan;
 use peer_fill::{FillSeat, Gate, Pool, TakenJob};
-use peer_host::Network;
+use peer_runtime::Network;
 use peer_source::{Outcome, Source};
 use peer_value::Done;
 use std::alloc::Global;

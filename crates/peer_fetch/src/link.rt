@@ -12,7 +12,7 @@ use crate::transfer::{Halt, receive, send};
 use mio::event::Event;
 use mio::net::TcpStream;
 use peer_origin::{Failure, FetchFault, is_to_itself};
-use peer_poll::{Readiness, would_block};
+use peer_runtime::{Readiness, would_block};
 use peer_source::Source;
 use peer_value::{Answer, Done, UnderWay};
 use std::io::{ErrorKind, Write};

@@ -5,8 +5,8 @@
 
 use mio::net::TcpStream;
 use mio::{Interest, Registry, Token};
-use peer_host::Network;
 use peer_origin::Addresses;
+use peer_runtime::Network;
 use std::alloc::{AllocError, Global};
 use std::net::SocketAddr;
 use std::sync::{Arc, Wait};

@@ -4,7 +4,7 @@ ghost use Rattle.peer_value.specs.UnderWays.{HasSameJob, IsAnswerTo, IsAsked};
 
 use mio::net::TcpStream;
 use peer_origin::Failure;
-use peer_poll::{Readiness, was_interrupted, would_block};
+use peer_runtime::{Readiness, was_interrupted, would_block};
 use peer_source::Source;
 use peer_value::{Answer, UnderWay};
 use std::io;

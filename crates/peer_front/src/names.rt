@@ -1,8 +1,8 @@
 //! Names of services, which are looked up again while it serves: a service may move to other addresses.
 
 use crate::end::End;
-use peer_host::Network;
 use peer_origin::Endpoint;
+use peer_runtime::Network;
 use std::time::Duration;
 
 // The seconds between two look-ups of a name.

@@ -6,8 +6,8 @@ ghost use Rattle.peer_groups.specs.Besides.{AnswersOrigins};
 
 use crate::beside::Beside;
 use peer_fetch::{FetchPlan, FetchThreadSettings};
-use peer_host::Network;
 use peer_origin::{Endpoint, FetchSettings, OriginSource};
+use peer_runtime::Network;
 use peer_source::Source;
 use peer_stats::FailureSlots;
 use peer_value::Endpoints;

@@ -6,8 +6,7 @@
 use crate::listening::Listening;
 use crate::stop::Stop;
 use mio::net::TcpStream;
-use peer_host::Network;
-use peer_poll::{lacks_files, would_block};
+use peer_runtime::{Network, lacks_files, would_block};
 use peer_site::Site;
 use std::{io, thread};
 

@@ -6,8 +6,7 @@ ghost use Rattle.peer_fetch.specs.Threads.{Allows};
 
 use peer_fetch::{FetchParts, FetchPlan, FetchThread};
 use peer_fill::{FillSeat, Pool};
-use peer_host::Network;
-use peer_poll::{OwnWaker, PollWakers};
+use peer_runtime::{Network, OwnWaker, PollWakers};
 use peer_site::FillGate;
 use peer_source::Source;
 use std::alloc::Global;

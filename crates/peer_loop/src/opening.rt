@@ -6,7 +6,7 @@ use crate::settings::Orders;
 use crate::work::{FillerParts, ThreadParts};
 use peer_clients::LoopParts;
 use peer_fetch::FetchParts;
-use peer_poll::PollWakers;
+use peer_runtime::PollWakers;
 use peer_site::{Mailboxes, Occupancy};
 use std::alloc::Global;
 use std::net::{Net, TcpListener};

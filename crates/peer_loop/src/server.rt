@@ -13,7 +13,7 @@ use crate::settings::{Orders, Settings};
 use crate::threads::use_threads;
 use peer_fetch::FetchPlan;
 use peer_fill::{MAX_SEATS, OpenFault, Opened, Pool, Report, Seats};
-use peer_host::Host;
+use peer_runtime::Host;
 use peer_site::Site;
 use peer_source::Source;
 use std::alloc::Global;

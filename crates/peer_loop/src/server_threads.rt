@@ -16,7 +16,7 @@ use crate::starting::{FillHandle, LoopHandle, spawn_filler, spawn_loop};
 use crate::work::{AllWork, FillWork, ThreadParts};
 use peer_clients::LoopWork;
 use peer_fill::{Pool, Seats, join_seats, pop_seat};
-use peer_host::Host;
+use peer_runtime::Host;
 use peer_site::{LoopSite, Site};
 use peer_source::Source;
 use std::alloc::Global;

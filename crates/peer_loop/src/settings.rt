@@ -3,7 +3,7 @@
 use crate::fillers::Fillers;
 use crate::stop::Stop;
 use peer_fetch::FetchPlan;
-use peer_limits::Limits;
+use peer_runtime::Limits;
 use peer_stats::Counters;
 use std::hash::RandomState;
 

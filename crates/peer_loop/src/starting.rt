@@ -11,7 +11,7 @@ use crate::filler::run_filler;
 use crate::work::FillWork;
 use peer_clients::{LoopSeats, LoopWork, run_loop};
 use peer_fill::{FillSeat, Keeps, Pool};
-use peer_host::Host;
+use peer_runtime::Host;
 use peer_source::Source;
 use std::alloc::Global;
 use std::sync::ledger::Ledger;

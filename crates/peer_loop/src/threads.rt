@@ -8,7 +8,7 @@ use crate::acceptor::Acceptor;
 use crate::server_threads::ServerThreads;
 use crate::work::{AllWork, ThreadParts};
 use peer_fill::{Pool, Seats};
-use peer_host::Host;
+use peer_runtime::Host;
 use peer_source::Source;
 use std::alloc::Global;
 use std::sync::ledger::Ledger;

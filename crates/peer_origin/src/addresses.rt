@@ -1,7 +1,7 @@
 //! The addresses of an origin's host. Those of a name are looked up again while others connect to what was found last.
 
 use crate::endpoint::EndpointFault;
-use peer_host::Network;
+use peer_runtime::Network;
 use peer_wait::lock;
 use std::alloc::{AllocError, Global};
 use std::io;

@@ -9,7 +9,7 @@ use crate::fault::FetchFault;
 use crate::origin::Origin;
 use crate::settings::FetchSettings;
 use crate::stream::{StreamReader, StreamWriter};
-use peer_host::Network;
+use peer_runtime::Network;
 use std::alloc::Global;
 use std::cmp::min;
 use std::io;

@@ -12,7 +12,7 @@ use crate::fault::{FetchFault, get_fault};
 use crate::origin::Origin;
 use crate::settings::FetchSettings;
 use crate::sockets::Sockets;
-use peer_host::Network;
+use peer_runtime::Network;
 use peer_source::{GetFault, GetResult, GroupId, Source};
 use peer_stats::FailureSlots;
 use peer_view::{AllocSink, ByteView, SinkFault};

@@ -25,7 +25,7 @@ use crate::pipe::peer_pipe;
 use crate::table::table_exit;
 use crate::totals::write_totals;
 use peer_fill::Report;
-use peer_host::Host;
+use peer_runtime::Host;
 use peer_socket::peer_server;
 use peer_source::{DemoSource, Source};
 use peer_table::{NamedTable, TABLE_READS, TableSource, TableText};

@@ -20,7 +20,7 @@ ghost use Rattle.std.specs.Prelude.{◌<◌};
 use crossbeam_queue::ArrayQueue;
 use mio::Poll;
 use mio::net::TcpStream;
-use peer_poll::PollWaker;
+use peer_runtime::PollWaker;
 use std::alloc::Global;
 use std::sync::Wait;
 use std::sync::atomic::Ordering::SeqCst;

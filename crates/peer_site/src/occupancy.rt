@@ -5,7 +5,7 @@
 
 use crossbeam_utils::CachePadded;
 use mio::Poll;
-use peer_poll::PollWaker;
+use peer_runtime::PollWaker;
 use std::cmp::{max, min};
 use std::sync::atomic::AtomicUsize;
 use std::sync::atomic::Ordering::SeqCst;

@@ -4,8 +4,7 @@ use crate::fill_gate::FillGate;
 use crate::mailbox::Mailbox;
 use crate::mailboxes::Mailboxes;
 use crate::occupancy::Occupancy;
-use peer_limits::Limits;
-use peer_poll::PollWakers;
+use peer_runtime::{Limits, PollWakers};
 use peer_stats::{Counters, LoopSlot};
 
 /// What the threads of a server share.

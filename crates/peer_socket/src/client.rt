@@ -1,7 +1,7 @@
 //! The client of one connection: its stream, what it is allowed, and whether something was written to it.
 
 use crate::occupancy::Occupancy;
-use peer_limits::Limits;
+use peer_runtime::Limits;
 use std::io;
 use std::io::ErrorKind;
 use std::net::TcpStream;

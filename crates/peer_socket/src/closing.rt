@@ -1,7 +1,7 @@
 //! The close of a connection that the client did not end (RFC 9112, section 9.6).
 
 use crate::client::Client;
-use peer_limits::MAX_SKIPPED;
+use peer_runtime::MAX_SKIPPED;
 use std::io::{ErrorKind, Read};
 use std::net::Shutdown;
 use std::time::{Clock, Duration, Instant};

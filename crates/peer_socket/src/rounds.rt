@@ -2,7 +2,7 @@
 ghost use Rattle.std.specs.Prelude.{◌≡◌, ◌+◌, ◌<◌};
 
 use crate::acceptor::Acceptor;
-use peer_host::Network;
+use peer_runtime::Network;
 use std::net::TcpStream;
 use std::thread;
 

@@ -8,7 +8,7 @@ use crate::client_writer::ClientWriter;
 use crate::closing::linger;
 use peer_conn::{End, READS, Served, serve_connection};
 use peer_fill::{ConnSeat, Pool};
-use peer_host::Host;
+use peer_runtime::Host;
 use peer_source::Source;
 use std::alloc::Global;
 use std::sync::ledger::Ledger;

@@ -9,7 +9,7 @@ ghost use Rattle.peer_socket.specs.Threads.{all_conns, all_fills, AreNew, AreSta
 use crate::acceptor::Acceptor;
 use crate::seat_threads::{SeatHandle, start_seats};
 use peer_fill::{ConnSeat, FillSeat, NoGate, Pool, Seats, join_seats};
-use peer_host::Host;
+use peer_runtime::Host;
 use peer_source::Source;
 use std::alloc::Global;
 use std::sync::Wait;

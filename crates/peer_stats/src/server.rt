@@ -6,7 +6,7 @@ use crate::end::StatsEnd;
 use crate::service::StatsService;
 use mio::net::{TcpListener, TcpStream};
 use mio::{Events, Interest, Poll, Token};
-use peer_host::Network;
+use peer_runtime::Network;
 use slab::Slab;
 use std::alloc::Global;
 use std::hash::RandomState;

@@ -3,7 +3,7 @@ ghost use Rattle.peer_fill.specs.Pools.{IsConnSeatOf};
 
 use peer_fill::{ConnSeat, Pool};
 use peer_flight::Claim;
-use peer_poll::PollWaker;
+use peer_runtime::PollWaker;
 use peer_source::{Fill, Outcome, Source};
 use std::alloc::Global;
 use std::sync::Wait;

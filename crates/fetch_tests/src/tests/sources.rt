@@ -3,8 +3,8 @@
 use super::lookup::{LOOPBACK, endpoint_of};
 use super::origin::{Told, serve};
 use super::running::patient;
-use peer_host::{Host, Network};
 use peer_origin::{Origin, OriginSource};
+use peer_runtime::{Host, Network};
 use peer_source::{GroupId, Source};
 use peer_stats::Counters;
 use peer_view::AllocSink;

@@ -2,7 +2,7 @@
 //! as many as can take what came.
 
 use mio::{Events, Poll};
-use peer_poll::{PollWaker, PollWakers, WOKEN};
+use peer_runtime::{PollWaker, PollWakers, WOKEN};
 use std::alloc::Global;
 use std::net::Net;
 use std::time::Duration;

@@ -9,7 +9,7 @@ use super::Client;
 use crate::facts::Facts;
 use crate::limits::ROUNDS_OF_TURN;
 use mio::net::TcpStream;
-use peer_poll::{was_interrupted, would_block};
+use peer_runtime::{was_interrupted, would_block};
 use peer_source::Source;
 use std::cmp::min;
 use std::io;

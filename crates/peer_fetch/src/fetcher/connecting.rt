@@ -6,8 +6,8 @@
 use super::Fetcher;
 use crate::link::Link;
 use crate::opening::{System, Untried, open};
-use peer_host::Network;
 use peer_origin::FetchFault;
+use peer_runtime::Network;
 use peer_source::Source;
 use peer_value::{Done, UnderWay};
 use std::alloc::AllocError;

@@ -3,7 +3,7 @@
 use super::plans::{Kind, attentive, plan_of};
 use super::visits::Visit::{Asks, Comes, Pauses, SaysNothing};
 use super::visits::{Visit, serves};
-use peer_limits::Limits;
+use peer_runtime::Limits;
 use std::net::{Net, TcpListener, TcpStream};
 use std::random::RandomSource;
 use std::sync::Wait;

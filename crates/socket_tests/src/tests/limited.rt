@@ -4,7 +4,7 @@ use super::clients::{connect, is_served, send};
 use super::plans::{Kind, attentive, plan_of};
 use super::servers::{beside, has_asked};
 use super::visits::{Visit, serve_within_limits};
-use peer_limits::Limits;
+use peer_runtime::Limits;
 use peer_source::DemoSource;
 use std::net::{Net, SocketAddr, TcpListener, TcpStream};
 use std::sync::Wait;

@@ -5,7 +5,7 @@ use super::plans::{Kind, attentive, patient, plan_of};
 use super::servers::{beside, has_asked};
 use super::slow::{ASK_SLOW, Call, FOUND_SLOW, Slow, await_call};
 use super::visits::{Visit, serve_within_limits};
-use peer_limits::Limits;
+use peer_runtime::Limits;
 use std::net::{Net, SocketAddr, TcpListener, TcpStream};
 use std::sync::Wait;
 use std::sync::atomic::Ordering::SeqCst;

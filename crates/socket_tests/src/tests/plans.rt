@@ -1,6 +1,6 @@
 //! Which server is to serve, and how: what a test asks of each of them.
 
-use peer_limits::Limits;
+use peer_runtime::Limits;
 use std::hash::RandomState;
 use std::io;
 use std::random::RandomSource;

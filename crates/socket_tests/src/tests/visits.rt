@@ -3,8 +3,7 @@
 use super::clients::{connect, drips_in_vain, is_answered, is_answered_last, receives, send};
 use super::plans::{Kind, Plan, plan_of};
 use super::servers::{beside, has_asked};
-use peer_host::Network;
-use peer_limits::Limits;
+use peer_runtime::{Limits, Network};
 use peer_source::DemoSource;
 use std::net::{Net, SocketAddr, TcpListener, TcpStream};
 use std::random::RandomSource;

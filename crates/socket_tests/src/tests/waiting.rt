@@ -5,7 +5,7 @@ use super::loop_servers::{Outside, beside_slow, settings_of};
 use super::plans::{patient, plan_of};
 use super::servers::has_asked;
 use super::slow::{ASK_SLOW, Call, FOUND_SLOW, await_call};
-use peer_limits::Limits;
+use peer_runtime::Limits;
 use peer_stats::Counters;
 use std::io::Read;
 use std::net::{Net, SocketAddr, TcpListener, TcpStream};

@@ -2,8 +2,6 @@
 //!
 //! It stands on the handles of `std` alone. It promises nothing of its own: a type that has the parts has the whole, and a
 //! function that asks for the whole may use each part, so it may wait, and what it promises holds where it returns.
-#![tactic(auto)]
-
 use std::net::{Net, TcpListener, TcpStream};
 use std::sync::Wait;
 use std::thread::Threads;

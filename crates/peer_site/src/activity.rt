@@ -1,9 +1,9 @@
 //! When a client last did something, and for how long it may do nothing.
 ghost use Rattle.std.specs.Prelude.{◌≡◌, ◌↔◌, IsTrue, None, Some, unwrap_or};
-ghost use Rattle.peer_activity.specs.Activities.{IsLonger, IsOverdue, IsSilent, IsSlow, TakesNothing};
+ghost use Rattle.peer_site.specs.Activities.{IsLonger, IsOverdue, IsSilent, IsSlow, TakesNothing};
 
 use crate::standing::Standing;
-use peer_limits::Limits;
+use peer_runtime::Limits;
 use std::time::Duration;
 
 /// What a client did last, each by the time since its loop began.

@@ -1,8 +1,6 @@
 //! How long a server waits for its clients, and how much it reads and discards: each number with its reason.
 //!
 //! It stands on the durations of `std` alone, and has numbers and no rule: who waits, and for what, stands where it is done.
-#![tactic(auto)]
-
 use std::time::Duration;
 
 /// How many bytes are read and discarded behind a closing reply: more than a full buffer of heads, and less than what

@@ -2,10 +2,10 @@
 use Rattle.std.specs.Prelude.{◌<◌, ◌-◌, ◌⊎◌, Bool, IsSomeAnd, IsTrue}
 use Rattle.std.specs.Duration.{as_nanos}
 use Rattle.std.specs.declared.time.Duration.{Duration}
-use Rattle.peer_limits.specs.declared.Limits.{Limits}
-use Rattle.peer_activity.specs.declared.activity.Activity.{Activity}
-use Rattle.peer_activity.specs.declared.standing.Standing.{Standing}
-use Rattle.peer_activity.specs.declared.standing.Standing.TheVariants as standing
+use Rattle.peer_runtime.specs.declared.limits.Limits.{Limits}
+use Rattle.peer_site.specs.declared.activity.Activity.{Activity}
+use Rattle.peer_site.specs.declared.standing.Standing.{Standing}
+use Rattle.peer_site.specs.declared.standing.Standing.TheVariants as standing
 
 -- from the one time to the other it takes longer than the limit
 abbrev pub IsLonger : Duration → Duration → Duration → Type 0

@@ -1,0 +1,21 @@
+//! What a server asks of its runtime: sockets, time and threads (`Network`, `Host`), how long it waits for its clients (`Limits`), and
+//! how a thread is woken that waits in a poll of `mio` (`PollWaker`, `PollWakers`), with what the system says of a stream.
+//!
+//! It stands on the handles, the durations and the atomics of `std` and on `mio`. It promises little: a type that has the parts of a
+//! bound has the whole, and the limits are numbers alone. That no wake-up is lost no clause says: it is argued where it is done, and
+//! tested.
+#![tactic(auto)]
+
+mod faults;
+mod host;
+mod limits;
+mod poll_waker;
+mod poll_wakers;
+mod readiness;
+
+pub use faults::{lacks_files, was_interrupted, would_block};
+pub use host::{Host, Network};
+pub use limits::{Limits, MAX_SKIPPED};
+pub use poll_waker::{PollWaker, WOKEN};
+pub use poll_wakers::{OwnWaker, PollWakers};
+pub use readiness::Readiness;
