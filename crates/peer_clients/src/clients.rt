@@ -10,6 +10,7 @@ use crate::facts::Facts;
 use crate::wait_lists::WaitLists;
 use mio::event::Event;
 use mio::{Registry, Token};
+use peer_runtime::keys_of;
 use peer_source::Source;
 use slab::Slab;
 use std::alloc::{AllocError, Global};
@@ -123,7 +124,7 @@ impl<'a, S: Source, F: Facts<S>> Clients<'a, S, F> {
 
     /// Has those have their turn that are listed at a slot.
     pub fn take_listed(&mut self, slot: usize) {
-        for _ in 0..self.each.capacity() {
+        for _ in keys_of(&self.each) {
             let Some(key) = self.waiting.pop(slot) else {
                 return;
             };

@@ -10,6 +10,7 @@ use crate::facts::Facts;
 use crate::limits::STILL_TICKS;
 use crate::seat::LoopSeat;
 use mio::Registry;
+use peer_runtime::keys_of;
 use peer_site::{LoopSite, MAX_ARRIVED, SLOTS_OF_WORD, WORDS, slot_of};
 use peer_source::Source;
 use std::alloc::Global;
@@ -218,7 +219,7 @@ impl<'a, S: Source, F: Facts<S>> Turns<'a, S, F> {
     // Lets those go that were silent, or took nothing, for too long, and counts what the others hold. Where no more connections
     // could be had, which `full` says, others than these are let go until some are free again.
     fn sweep(&mut self, mut full: bool) {
-        let keys = self.clients.each.capacity();
+        let keys = keys_of(&self.clients.each).end;
         let first = self.next_sweep_key;
         for n in 0..keys {
             let key = first.wrapping_add(n) % keys;
@@ -248,7 +249,7 @@ impl<'a, S: Source, F: Facts<S>> Turns<'a, S, F> {
     /// Reads nothing more of the clients. They are closed as others are, so that none loses a reply that is on its way.
     pub fn stop_clients(&mut self) {
         self.stopped = true;
-        for key in 0..self.clients.each.capacity() {
+        for key in keys_of(&self.clients.each) {
             self.stop_client(key);
         }
     }

@@ -11,6 +11,7 @@ use crate::link::{Link, Reusable};
 use crate::opening::Untried;
 use mio::Token;
 use mio::event::Event;
+use peer_runtime::keys_of;
 use peer_source::Source;
 use slab::Slab;
 use std::alloc::{AllocError, Global};
@@ -232,7 +233,7 @@ impl<'a, S: Source> Connections<'a, S> {
     // behind their turn.
     fn sweep(&mut self) {
         self.next_due = None;
-        for key in 0..self.links.capacity() {
+        for key in keys_of(&self.links) {
             let due = self.links.get(key).and_then(|link| link.due());
             self.next_due = earlier(self.next_due, due);
             if let Some(due) = due {

@@ -1,13 +1,15 @@
 //! What a server asks of its runtime: sockets, time and threads (`Network`, `Host`), how long it waits for its clients (`Limits`), and
-//! how a thread is woken that waits in a poll of `mio` (`PollWaker`, `PollWakers`), with what the system says of a stream.
+//! how a thread is woken that waits in a poll of `mio` (`PollWaker`, `PollWakers`), with what the system says of a stream, and the keys
+//! of those whom a loop serves (`keys_of`).
 //!
-//! It stands on the handles, the durations and the atomics of `std` and on `mio`. It promises little: a type that has the parts of a
-//! bound has the whole, and the limits are numbers alone. That no wake-up is lost no clause says: it is argued where it is done, and
+//! It stands on the handles, the durations and the atomics of `std`, on `mio` and on `slab`. It promises little: a type that has the parts
+//! of a bound has the whole, the limits are numbers alone, and `keys_of` leaves out no value. That no wake-up is lost no clause says: it is argued where it is done, and
 //! tested.
 #![tactic(auto)]
 
 mod faults;
 mod host;
+mod keys;
 mod limits;
 mod poll_waker;
 mod poll_wakers;
@@ -15,6 +17,7 @@ mod readiness;
 
 pub use faults::{lacks_files, was_interrupted, would_block};
 pub use host::{Host, Network};
+pub use keys::keys_of;
 pub use limits::{Limits, MAX_SKIPPED};
 pub use poll_waker::{PollWaker, WOKEN};
 pub use poll_wakers::{OwnWaker, PollWakers};

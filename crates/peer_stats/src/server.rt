@@ -6,7 +6,7 @@ use crate::end::StatsEnd;
 use crate::service::StatsService;
 use mio::net::{TcpListener, TcpStream};
 use mio::{Events, Interest, Poll, Token};
-use peer_runtime::Network;
+use peer_runtime::{Network, keys_of};
 use slab::Slab;
 use std::alloc::Global;
 use std::hash::RandomState;
@@ -130,7 +130,7 @@ impl<'a> Running<'a> {
 
     // Lets those go that have taken too long.
     fn sweep(&mut self) {
-        for key in 0..self.clients.capacity() {
+        for key in keys_of(&self.clients) {
             let overdue = match self.clients.get(key) {
                 Some(client) => client.is_overdue(self.service.uptime),
                 None => false,
