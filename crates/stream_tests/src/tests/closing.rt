@@ -1,7 +1,6 @@
 //! Replies that close their connection.
 
-use super::runs::{READS, demand_each, served, whole};
-use peer_conn::End;
+use super::runs::demand_each;
 use stream_model::FOUND_K_LAST;
 
 /// GET of the key `a` of the group `echo`, which closes its connection.
@@ -31,11 +30,4 @@ const CLOSING: [(&[u8], &[u8]); 3] = [
 #[test]
 fn nothing_follows_a_closing_reply(rt: HostRuntime) {
     demand_each(&rt, &CLOSING);
-}
-
-#[test]
-fn nothing_is_read_behind_a_closing_reply(rt: HostRuntime) {
-    let served = served(rt.alloc(), whole(&rt, ASK_A_LAST), true, READS);
-    assert_eq!(rt; served.end, End::Clean);
-    assert_eq!(rt; served.writer.taken(), FOUND_A_LAST);
 }

@@ -7,8 +7,8 @@ use std::alloc::Global;
 use std::process::Abort;
 use stream_model::{Dice, Outcome, outcome_of};
 
-// The texts of each test.
-const TEXTS: usize = 1000;
+// The texts of each seed.
+const TEXTS: usize = 100;
 
 // Whether a connection over these pieces writes what the model says, and ends so.
 fn is_as_modelled(alloc: Global, pieces: Vec<Vec<u8>>, outcome: &Outcome) -> bool {
@@ -26,21 +26,13 @@ fn compare_one(rt: &(impl Abort + AllocGlobal), dice: &mut Dice, text: &[u8]) {
     assert!(rt; same, "at {shown}");
 }
 
-// Demands what the model says of so many texts from a seed.
-fn compare(rt: &(impl Abort + AllocGlobal), seed: u64) {
-    let mut dice = Dice::new(seed);
-    for _ in 0..TEXTS {
-        let text = dice.text(rt.alloc()).expect(rt, "memory");
-        compare_one(rt, &mut dice, &text);
+#[test]
+fn streams_of_two_seeds(rt: HostRuntime) {
+    for seed in [1, 20_261_122] {
+        let mut dice = Dice::new(seed);
+        for _ in 0..TEXTS {
+            let text = dice.text(rt.alloc()).expect(&rt, "memory");
+            compare_one(&rt, &mut dice, &text);
+        }
     }
-}
-
-#[test]
-fn streams_of_one_seed(rt: HostRuntime) {
-    compare(&rt, 1);
-}
-
-#[test]
-fn streams_of_another_seed(rt: HostRuntime) {
-    compare(&rt, 20_261_122);
 }

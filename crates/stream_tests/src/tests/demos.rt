@@ -2,11 +2,12 @@
 //! memory.
 
 use super::pooled::{Devices, Pooled, Setup, serve_pooled};
-use super::runs::READS;
+use super::runs::{READS, served, served_into};
 use peer_conn::{End, Served};
 use peer_fill::{Gate, NoGate};
 use peer_source::{DemoSource, Source};
 use peer_view::{MemReader, MemWriter};
+use std::alloc::Global;
 use std::process::Abort;
 use std::sync::Wait;
 use std::thread::Threads;
@@ -29,7 +30,21 @@ pub enum Failing {
     Writer(usize),
 }
 
-/// A connection whose reader gives these pieces, with so many reads.
+/// A connection in one thread whose reader gives these pieces, with so many reads. A writer that fails takes seven bytes a call.
+pub fn alone(
+    alloc: Global,
+    pieces: Vec<Vec<u8>>,
+    failing: Failing,
+    reads: u64,
+) -> Served<MemReader, MemWriter> {
+    match failing {
+        Failing::Nothing => served(alloc, pieces, false, reads),
+        Failing::Reader => served(alloc, pieces, true, reads),
+        Failing::Writer(limit) => served_into(alloc, pieces, limit, reads),
+    }
+}
+
+/// A connection over a pool whose reader gives these pieces, with so many reads.
 pub fn within<S: Source + Send + Sync, G: Gate + Sync>(
     rt: &(impl Abort + AllocGlobal + Threads + Wait + Sync),
     setup: Setup<'_, S, G>,

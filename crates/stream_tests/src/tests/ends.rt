@@ -1,9 +1,11 @@
-//! Ends of connections: cuts at every place, and reads that are used up.
+//! Ends of connections: cuts at every place, and devices that fail there.
 
-use super::runs::{add_piece, by_bytes, cut, demand, demand_all_ways, demand_within, whole};
+use super::demos::{Failing, alone, demo, is_served_over, is_told};
+use super::runs::{READS, add_piece, by_bytes, demand, whole};
 use peer_conn::End;
 use std::process::Abort;
-use stream_model::{ASK_K, FOUND_K, TOO_LONG, repeated};
+use std::sync::Wait;
+use std::thread::Threads;
 
 /// Two requests of 45 bytes.
 pub const TWO: &[u8; 90] =
@@ -41,19 +43,15 @@ pub fn thirds(
     pieces
 }
 
+// The second cut is behind a byte or two, and round the end of a head that the first cut begins.
 #[test]
 fn cuts_change_nothing(rt: HostRuntime) {
     for first in 0..=135 {
-        for second in 0..=135 - first {
-            demand(
-                &rt,
-                thirds(&rt, THREE, first, second),
-                THREE_REPLIES,
-                End::Clean,
-            );
+        for second in [1, 2, 44, 45, 46] {
+            let pieces = thirds(&rt, THREE, first, second);
+            demand(&rt, pieces, THREE_REPLIES, End::Clean);
         }
     }
-    demand(&rt, by_bytes(&rt, THREE), THREE_REPLIES, End::Clean);
 }
 
 // How a text ends that was cut behind so many bytes of the three requests.
@@ -65,33 +63,54 @@ fn end_at(count: usize) -> End {
     }
 }
 
+// Whether a connection whose device fails so writes this and ends so, in one piece and byte by byte, in one thread and over a pool.
+fn is_told_each_way(
+    rt: &(impl Abort + AllocGlobal + Threads + Wait + Sync),
+    text: &[u8],
+    failing: Failing,
+    told: (&[u8], End),
+) -> bool {
+    let one = alone(rt.alloc(), whole(rt, text), failing, READS);
+    let each = alone(rt.alloc(), by_bytes(rt, text), failing, READS);
+    is_told(&one, told.0, told.1)
+        && is_told(&each, told.0, told.1)
+        && is_served_over(rt, demo(2, 0), whole(rt, text), failing, told)
+        && is_served_over(rt, demo(2, 4), by_bytes(rt, text), failing, told)
+}
+
+// Within the first head, and round the ends of all.
+const COUNTS: [usize; 24] = [
+    0, 1, 2, 3, 4, 15, 16, 31, 32, 33, 34, 41, 42, 43, 44, 45, 46, 47, 89, 90, 91, 133, 134, 135,
+];
+
+// The client ends behind so many bytes, or the reader fails there.
 #[test]
 fn each_beginning_gets_its_whole_replies(rt: HostRuntime) {
-    for count in 0..=135 {
+    let mut right = true;
+    for count in COUNTS {
         let (text, _) = THREE.as_slice().split_at(count);
         let (replies, _) = THREE_REPLIES.as_slice().split_at(count / 45 * 79);
-        demand_all_ways(&rt, text, replies, end_at(count));
+        right &= is_told_each_way(&rt, text, Failing::Nothing, (replies, end_at(count)));
+        right &= is_told_each_way(&rt, text, Failing::Reader, (replies, End::ReadFault));
     }
+    assert!(rt; right);
 }
 
+// Within the first reply, and round the ends of all.
+const LIMITS: [usize; 14] = [0, 1, 7, 10, 14, 77, 78, 79, 80, 157, 158, 159, 235, 236];
+
 #[test]
-fn reads_are_used_up(rt: HostRuntime) {
-    let text = repeated(rt.alloc(), ASK_K, 3).expect(&rt, "memory");
-    for (reads, count) in [(100, 2), (90, 2), (89, 1), (0, 0)] {
-        let replies = repeated(rt.alloc(), FOUND_K, count).expect(&rt, "memory");
-        demand_within(&rt, by_bytes(&rt, &text), reads, &replies, End::Spent);
+fn a_writer_fails_at_each_limit(rt: HostRuntime) {
+    let clean = (THREE_REPLIES.as_slice(), End::Clean);
+    let mut right = is_told_each_way(&rt, THREE, Failing::Writer(237), clean);
+    for limit in LIMITS {
+        let (replies, _) = THREE_REPLIES.as_slice().split_at(limit);
+        right &= is_told_each_way(
+            &rt,
+            THREE,
+            Failing::Writer(limit),
+            (replies, End::WriteFault),
+        );
     }
-}
-
-#[test]
-fn pairs_use_up_reads_and_the_limit(rt: HostRuntime) {
-    let pairs = repeated(rt.alloc(), b"\r\n", 8200).expect(&rt, "memory");
-    demand_within(&rt, cut(&rt, &pairs, 2), 8191, b"", End::Spent);
-    demand_within(&rt, cut(&rt, &pairs, 2), 8192, TOO_LONG, End::Clean);
-}
-
-#[test]
-fn the_last_read_may_tell_the_end(rt: HostRuntime) {
-    demand_within(&rt, whole(&rt, THREE), 1, THREE_REPLIES, End::Spent);
-    demand_within(&rt, whole(&rt, THREE), 2, THREE_REPLIES, End::Clean);
+    assert!(rt; right);
 }

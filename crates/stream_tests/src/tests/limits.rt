@@ -3,18 +3,13 @@
 use super::runs::{demand_all_ways, demand_each};
 use peer_conn::End;
 use std::alloc::{AllocError, Global};
-use std::process::Abort;
-use std::sync::Wait;
-use std::thread::Threads;
-use stream_model::{FOUND_K, TOO_LONG, Then, Told, joined, repeated, reply};
+use stream_model::{FOUND_K, TOO_LONG, Then, Told, add_repeated, joined, repeated, reply};
 
 // So many pairs, and then a request whose field `Pad` has so many letters.
 fn padded(alloc: Global, pairs: usize, letters: usize) -> Result<Vec<u8>, AllocError> {
     let mut text = repeated(alloc, b"\r\n", pairs)?;
     text.extend_from_slice(b"GET /_groupcache/echo/k HTTP/1.1\r\nHost: h\r\nPad: ")?;
-    for _ in 0..letters {
-        text.push(b'a')?;
-    }
+    add_repeated(&mut text, b"a", letters)?;
     text.extend_from_slice(b"\r\n\r\n")?;
     Ok(text)
 }
@@ -32,42 +27,35 @@ fn with_fields(alloc: Global, count: usize) -> Result<Vec<u8>, AllocError> {
     )
 }
 
-// Demands these replies for a padded request of so many bytes.
-fn demand_padded(
-    rt: &(impl Abort + AllocGlobal + Threads + Wait + Sync),
-    pairs: usize,
-    letters: usize,
-    length: usize,
-    replies: &[u8],
-) {
-    let text = padded(rt.alloc(), pairs, letters).expect(rt, "memory");
-    assert_eq!(rt; text.len(), length);
-    demand_each(rt, &[(&text, replies)]);
-}
-
 #[test]
-fn pairs_alone_are_no_request(rt: HostRuntime) {
-    demand_each(&rt, &[(b"", b""), (b"\r\n\r\n\r\n", b"")]);
+fn pairs_are_no_request_and_count_for_the_limit(rt: HostRuntime) {
+    let most = repeated(rt.alloc(), b"\r\n", 8191).expect(&rt, "memory");
+    let more = repeated(rt.alloc(), b"\r\n", 8192).expect(&rt, "memory");
+    demand_each(
+        &rt,
+        &[
+            (b"", b""),
+            (b"\r\n\r\n\r\n", b""),
+            (&most, b""),
+            (&more, TOO_LONG),
+        ],
+    );
     demand_all_ways(&rt, b"\r", b"", End::Cut);
 }
 
-#[test]
-fn pairs_count_for_the_limit(rt: HostRuntime) {
-    let most = repeated(rt.alloc(), b"\r\n", 8191).expect(&rt, "memory");
-    let more = repeated(rt.alloc(), b"\r\n", 8192).expect(&rt, "memory");
-    demand_each(&rt, &[(&most, b""), (&more, TOO_LONG)]);
-}
-
+// The last one is twice as long: the limit counts anew behind a head.
 #[test]
 fn a_head_has_16384_bytes_at_most(rt: HostRuntime) {
-    demand_padded(&rt, 0, 16_332, 16_384, FOUND_K);
-    demand_padded(&rt, 1, 16_330, 16_384, FOUND_K);
-    demand_padded(&rt, 0, 16_333, 16_385, TOO_LONG);
-    demand_padded(&rt, 1, 16_331, 16_385, TOO_LONG);
-}
-
-#[test]
-fn the_limit_counts_anew_behind_a_head(rt: HostRuntime) {
+    for (pairs, letters, length, replies) in [
+        (0, 16_332, 16_384, FOUND_K),
+        (1, 16_330, 16_384, FOUND_K),
+        (0, 16_333, 16_385, TOO_LONG),
+        (1, 16_331, 16_385, TOO_LONG),
+    ] {
+        let text = padded(rt.alloc(), pairs, letters).expect(&rt, "memory");
+        assert_eq!(rt; text.len(), length);
+        demand_each(&rt, &[(&text, replies)]);
+    }
     let long = padded(rt.alloc(), 0, 16_332).expect(&rt, "memory");
     let text = repeated(rt.alloc(), &long, 2).expect(&rt, "memory");
     let replies = repeated(rt.alloc(), FOUND_K, 2).expect(&rt, "memory");

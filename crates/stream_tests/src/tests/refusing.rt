@@ -3,12 +3,12 @@ ghost use Rattle.std.specs.Prelude.{◌≡◌, All};
 ghost use Rattle.peer_fill.specs.Pools.{IsConnSeatOf, IsFillSeatOf};
 
 use super::ends::{THREE, THREE_REPLIES};
-use super::numbers::shows;
 use super::runs::{READS, whole};
 use super::tellers::{Acting, TellingLater};
 use peer_conn::{End, serve_connection};
 use peer_fill::{ConnSeat, Pool, Report, Seats, pop_seat};
-use peer_source::Source;
+use peer_flight::Claim;
+use peer_source::{Fill, Outcome, Source};
 use peer_view::{MemReader, MemWriter};
 use std::alloc::Global;
 use std::marker::Brand;
@@ -59,6 +59,26 @@ fn serve_one<S: Source + Send + Sync, L: Ledger + Send + Sync>(
     let (reply, _) = THREE_REPLIES.as_slice().split_at(79);
     let told = [served.writer.taken() == reply, served.end == End::Memory];
     (conn, told)
+}
+
+// Whether a claim is there, and its fill found this value.
+fn shows<S: Source>(claim: &Option<Claim<S>>, value: &[u8]) -> bool {
+    let Some(claim) = claim else {
+        return false;
+    };
+    let mut note = claim.note();
+    match claim.look(&mut note) {
+        Some(fill) => finds(fill, value),
+        None => false,
+    }
+}
+
+// Whether a fill found this value.
+fn finds<S: Source>(fill: &Fill<S>, value: &[u8]) -> bool {
+    match fill.outcome() {
+        Outcome::Found(found) => found.as_slice() == value,
+        Outcome::Failed(_) | Outcome::NoMemory => false,
+    }
 }
 
 // The same beside one worker, with seats from these lists. Then the seat asks for `b` and the worker runs again: whether

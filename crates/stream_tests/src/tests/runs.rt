@@ -1,5 +1,5 @@
 //! Runs of a connection over texts cut into pieces. They end the test where memory or a thread is refused.
-ghost use Rattle.std.specs.Prelude.{◌≤◌, ◌<◌, length};
+ghost use Rattle.std.specs.Prelude.{◌≤◌, length};
 
 use super::demos::{Failing, demo, is_served_over};
 use peer_conn::{End, Served, serve_serial, serve_told};
@@ -14,7 +14,7 @@ use stream_model::{Then, Told, reply, request};
 /// More reads than any text here needs.
 pub const READS: u64 = 1_000_000;
 
-// Texts up to this length are cut in two at every place.
+// Texts up to this length are cut in two at every place, and into their bytes.
 const SHORT: usize = 400;
 
 /// Adds a piece with these bytes.
@@ -70,87 +70,70 @@ pub fn served(
     )
 }
 
-/// The same with a writer that takes so many bytes a call, and fails at a limit.
+/// The same with a writer that takes seven bytes a call, and fails at a limit.
 pub fn served_into(
     alloc: Global,
     pieces: Vec<Vec<u8>>,
-    step: usize,
     limit: usize,
-) -> Served<MemReader, MemWriter>
-    requires { 0 < step }
-{
+    reads: u64,
+) -> Served<MemReader, MemWriter> {
     serve_serial(
         alloc,
         &DemoSource,
         MemReader::new(pieces, false),
-        MemWriter::new(alloc, step, Some(limit)),
-        READS,
+        MemWriter::new(alloc, 7, Some(limit)),
+        reads,
     )
 }
 
-/// Demands these bytes and this end for the pieces, with so many reads.
-pub fn demand_within(
-    rt: &(impl Abort + AllocGlobal),
-    pieces: Vec<Vec<u8>>,
-    reads: u64,
-    replies: &[u8],
-    end: End,
-) {
-    let served = served(rt.alloc(), pieces, false, reads);
+/// Demands these bytes and this end for the pieces.
+pub fn demand(rt: &(impl Abort + AllocGlobal), pieces: Vec<Vec<u8>>, replies: &[u8], end: End) {
+    let served = served(rt.alloc(), pieces, false, READS);
     assert_eq!(rt; served.end, end);
     assert_eq!(rt; served.writer.taken(), replies);
 }
 
-/// The same with more reads than are needed.
-pub fn demand(rt: &(impl Abort + AllocGlobal), pieces: Vec<Vec<u8>>, replies: &[u8], end: End) {
-    demand_within(rt, pieces, READS, replies, end);
-}
+// The workers of pools, and the bytes of their caches: for a text in one piece, and for the same in small ones.
+const POOLS: [(usize, u64, u64); 3] = [(1, 0, 1_048_576), (2, 4, 0), (16, 1_048_576, 4)];
 
-// The workers of pools, and the bytes of their caches.
-const POOLS: [(usize, u64); 9] = [
-    (1, 0),
-    (1, 4),
-    (1, 1_048_576),
-    (2, 0),
-    (2, 4),
-    (2, 1_048_576),
-    (16, 0),
-    (16, 4),
-    (16, 1_048_576),
-];
-
-// Whether each pool answers a text so, in one piece and byte by byte.
+// Whether each pool answers a text so, in one piece and in pieces of so many bytes.
 fn is_served_by_pools(
     rt: &(impl Abort + AllocGlobal + Threads + Wait + Sync),
     text: &[u8],
+    size: usize,
     told: (&[u8], End),
 ) -> bool {
     let mut same = true;
-    for (workers, cache_bytes) in POOLS {
-        let setup = demo(workers, cache_bytes);
+    for (workers, in_one, in_many) in POOLS {
+        let setup = demo(workers, in_one);
         same &= is_served_over(rt, setup, whole(rt, text), Failing::Nothing, told);
-        let setup = demo(workers, cache_bytes);
-        same &= is_served_over(rt, setup, by_bytes(rt, text), Failing::Nothing, told);
+        let setup = demo(workers, in_many);
+        same &= is_served_over(rt, setup, cut(rt, text, size), Failing::Nothing, told);
     }
     same
 }
 
-/// Demands these bytes and this end for a text in one thread: in one piece, byte by byte, and in two pieces at every
-/// place of a short text. And the same over pools.
+/// Demands these bytes and this end for a text in one thread: in one piece, in small ones, and of a short text in two pieces
+/// at every place. And the same over pools, but for the two pieces. The small pieces of a short text are its bytes.
 pub fn demand_all_ways(
     rt: &(impl Abort + AllocGlobal + Threads + Wait + Sync),
     text: &[u8],
     replies: &[u8],
     end: End,
 ) {
+    let is_short = text.len() <= SHORT;
+    let size = if is_short { 1 } else { 1000 };
     demand(rt, whole(rt, text), replies, end);
-    demand(rt, by_bytes(rt, text), replies, end);
-    if text.len() <= SHORT {
+    demand(rt, cut(rt, text, size), replies, end);
+    if is_short {
         for at in 0..text.len() {
             demand(rt, halves(rt, text, at), replies, end);
         }
     }
-    assert!(rt; is_served_by_pools(rt, text, (replies, end)), "over pools");
+    assert!(rt;
+        is_served_by_pools(rt, text, size, (replies, end)),
+        "over pools"
+    );
 }
 
 /// Demands for each text the replies beside it, and that its connection ends between two heads.
