@@ -1,23 +1,22 @@
 //! What clients of both servers receive, and when servers end: a file for each group of tests, and for what they share.
 
 mod asking;
+mod calls;
 mod clients;
 mod crowds;
 mod grouped;
 mod limited;
 mod lingering;
 mod long_values;
-mod loop_servers;
 mod loops;
 mod meeting;
 mod memory;
 mod pipelining;
 mod plans;
+mod scenes;
 mod servers;
 mod serving;
-mod slow;
 mod stalls;
 mod stopping;
 mod visits;
 mod waiting;
-mod working;

@@ -1,20 +1,18 @@
 //! Clients that ask for many keys, one after the other or all at once, of each server: its threads sleep, and are woken.
 
+use super::calls::Calls;
 use super::clients::{connect, receive, send};
-use super::plans::{Kind, plan_of};
-use super::servers::{beside, beside_both, has_asked};
-use super::slow::Call;
+use super::plans::{BOTH, Expect, Held, Kind, plan_of, play};
+use super::scenes::Scene;
+use super::servers::is_played;
 use std::alloc::Global;
-use std::hint::spin_loop;
 use std::io::Read;
 use std::net::{Net, SocketAddr, TcpListener, TcpStream};
 use std::sync::Wait;
-use std::sync::atomic::Ordering::SeqCst;
-use std::test::Fail;
 use std::thread;
 use std::time::{Clock, Duration};
 use stream_model::{ASK_K_LAST, FOUND_K_LAST};
-use test_support::{Hook, Hooked};
+use test_support::all_called;
 
 // The digits of a number below 100,000.
 fn digits(number: u32) -> [u8; 5] {
@@ -26,6 +24,9 @@ fn digits(number: u32) -> [u8; 5] {
     }
     digits
 }
+
+// For how many keys a client asks whose calls last longer from key to key: the calls of some thousands begin anew.
+const MOMENTS: u32 = 3_999;
 
 // A request for the key 00000.
 const ASK_NUMBER: &[u8; 49] = b"GET /_groupcache/echo/00000 HTTP/1.1\r\nHost: h\r\n\r\n";
@@ -58,50 +59,17 @@ pub fn ask_each<H: AllocGlobal + Net<Listener = TcpListener, Stream = TcpStream>
 }
 
 #[test]
-fn one_client_is_woken_for_each_of_a_thousand_keys(rt: HostRuntime) -> Result<(), Fail> {
-    let plan = plan_of(&rt, 1, 1, 1)?;
-    let seen = beside_both(&rt, &plan, 1_100, |address| ask_each(&rt, address, 1_100))?;
-    assert_eq!(rt; seen, [(true, true); 2]);
-    Ok(())
-}
-
-// A source whose calls last longer from key to key, so that a fill comes at each moment of a thread that falls asleep.
-#[derive(Clone, Copy)]
-struct Sweeping;
-
-// How many steps a call lasts longer than the one before, and after how many calls it begins anew.
-const STEPS: usize = 4;
-
-const SWEEP: usize = 1_000;
-
-impl Hook for Sweeping {
-    fn may_call(&self, _alloc: Global, key: &[u8]) -> bool {
-        let number = key.iter().fold(
-            0usize,
-            |sum, digit| sum.wrapping_mul(10).wrapping_add(*digit as usize),
+fn a_fill_comes_at_each_moment_of_falling_asleep(rt: HostRuntime) {
+    let plan = plan_of(1, 1, 1).holding(Held::Longer);
+    for kind in BOTH {
+        let play = play(
+            kind,
+            plan,
+            Scene::AskEach(MOMENTS),
+            Expect::Asked(MOMENTS as u64),
         );
-        for _ in 0..number % SWEEP * STEPS {
-            spin_loop();
-        }
-        true
+        assert!(rt; is_played(&rt, play), "at {kind:?}");
     }
-}
-
-#[test]
-fn a_fill_comes_at_each_moment_of_falling_asleep(rt: HostRuntime) -> Result<(), Fail> {
-    let plan = plan_of(&rt, 1, 1, 1)?;
-    for kind in [Kind::Seats, Kind::Loops] {
-        let source = Hooked { hook: Sweeping };
-        let (report, asked) = beside(&rt, source, kind, &plan, |address| {
-            ask_each(&rt, address, 9_999)
-        })?;
-        assert_eq!(rt;
-            [asked, has_asked(&report, 9_999)],
-            [true; 2],
-            "at {kind:?}"
-        );
-    }
-    Ok(())
 }
 
 /// So many requests, each for a key of its own from this number on, and one that closes.
@@ -120,8 +88,11 @@ pub fn many_requests(alloc: Global, first: u32, count: u32) -> Option<Vec<u8>> {
     Some(bytes)
 }
 
+// For how many keys each of six clients asks.
+const SIX_KEYS: u32 = 300;
+
 // Sends the requests on each connection, and says whether as many replies come as there are requests, and the end.
-fn all_answered(alloc: Global, clients: &[Option<TcpStream>], requests: &[Vec<u8>]) -> [bool; 2] {
+fn all_answered(alloc: Global, clients: &[Option<TcpStream>], requests: &[Vec<u8>]) -> bool {
     let mut sent = true;
     for i in 0..clients.len() {
         sent &= match (clients.get(i), requests.get(i)) {
@@ -131,20 +102,21 @@ fn all_answered(alloc: Global, clients: &[Option<TcpStream>], requests: &[Vec<u8
     }
     let received = clients.iter().all(|client| match client {
         Some(stream) => match receive(alloc, stream) {
-            Some(bytes) => bytes.len() == 700 * 83 + 98 && bytes.ends_with(FOUND_K_LAST),
+            Some(bytes) => bytes.len() == SIX_KEYS as usize * 83 + 98
+                && bytes.ends_with(FOUND_K_LAST),
             None => false,
         },
         None => false,
     });
-    [sent, received]
+    sent && received
 }
 
-/// Six clients ask for 700 keys each, and for one more. The keys of each begin so many behind those of the one before.
+/// Six clients ask for 300 keys each, and for one more. The keys of each begin so many behind those of the one before.
 pub fn six_ask<H: AllocGlobal + Net<Listener = TcpListener, Stream = TcpStream> + Wait + Clock>(
     rt: &H,
     address: SocketAddr,
     apart: u32,
-) -> [bool; 2] {
+) -> bool {
     let clients: [Option<TcpStream>; 6] = [
         connect(rt, address),
         connect(rt, address),
@@ -155,45 +127,78 @@ pub fn six_ask<H: AllocGlobal + Net<Listener = TcpListener, Stream = TcpStream> 
     ];
     let mut requests = Vec::new(rt.alloc());
     for i in 0..6u32 {
-        let Some(more) = many_requests(rt.alloc(), i.saturating_mul(apart), 700) else {
-            return [false; 2];
+        let Some(more) = many_requests(rt.alloc(), i.saturating_mul(apart), SIX_KEYS) else {
+            return false;
         };
         if requests.push(more).is_err() {
-            return [false; 2];
+            return false;
         }
     }
     all_answered(rt.alloc(), &clients, &requests)
 }
 
+// The same keys, by threads and by loops, and keys of their own: more jobs than a loop fills in one turn, and than the queue has
+// room for. And one client alone asks loops, which sleep between two requests.
 #[test]
-fn six_clients_ask_for_the_same_keys_at_once(rt: HostRuntime) -> Result<(), Fail> {
-    let plan = plan_of(&rt, 1, 6, 1)?.on_loops(3);
-    let seen = beside_both(&rt, &plan, 6 * 701, |address| six_ask(&rt, address, 0))?;
-    assert_eq!(rt; seen, [([true; 2], true); 2]);
-    Ok(())
-}
-
-// A source whose calls wait for the gate to be open, for some seconds at most.
-#[derive(Clone, Copy, Drop)]
-struct Gated<'a> {
-    call: &'a Call,
-}
-
-impl Hook for Gated<'_> {
-    fn may_call(&self, _alloc: Global, _key: &[u8]) -> bool {
-        self.call.wait()
+fn clients_ask_for_many_keys_at_once(rt: HostRuntime) {
+    let asked = Expect::Asked(6 * (SIX_KEYS as u64 + 1));
+    let plan = plan_of(1, 6, 1).on_loops(3);
+    let crowd = plan_of(1, 100, 1).filling(Some(6));
+    let one = plan_of(1, 1, 1).filling(Some(1));
+    for (what, play) in [
+        ("seats", play(Kind::Seats, plan, Scene::SixAsk(0), asked)),
+        ("loops", play(Kind::Loops, plan, Scene::SixAsk(0), asked)),
+        (
+            "a loop that fills",
+            play(Kind::Loops, crowd, Scene::SixAsk(1_000), asked),
+        ),
+        (
+            "three loops that fill",
+            play(Kind::Loops, crowd.on_loops(3), Scene::SixAsk(1_000), asked),
+        ),
+        (
+            "a loop that fills for one",
+            play(
+                Kind::Loops,
+                one,
+                Scene::AskEach(300),
+                Expect::Counted(all_called(300)),
+            ),
+        ),
+    ] {
+        assert!(rt; is_played(&rt, play), "{what}");
     }
 }
 
-// So many clients ask for so many keys of their own each, and for one more. Then the gate is opened, and each gets its
-// replies.
-fn each_asks<H: AllocGlobal + Net<Listener = TcpListener, Stream = TcpStream> + Wait + Clock>(
+/// So many clients ask for so many keys of their own each, and for one more. Then the source may be called, and each gets its
+/// replies.
+pub fn each_asks<H: AllocGlobal + Net<Listener = TcpListener, Stream = TcpStream> + Wait + Clock>(
     rt: &H,
     address: SocketAddr,
     count: u32,
     keys: u32,
-    call: &Call,
-) -> Option<bool> {
+    calls: &Calls,
+) -> bool {
+    let clients = all_sent(rt, address, count, keys);
+    thread::sleep(rt, Duration::from_millis(300));
+    calls.slow.open();
+    let length = (keys as usize).wrapping_mul(83).wrapping_add(98);
+    match clients {
+        Some(clients) => clients.iter().all(|stream| match receive(rt.alloc(), stream) {
+            Some(bytes) => bytes.len() == length,
+            None => false,
+        }),
+        None => false,
+    }
+}
+
+// So many clients that have asked for so many keys of their own each, and for one more.
+fn all_sent<H: AllocGlobal + Net<Listener = TcpListener, Stream = TcpStream> + Wait + Clock>(
+    rt: &H,
+    address: SocketAddr,
+    count: u32,
+    keys: u32,
+) -> Option<Vec<TcpStream>> {
     let mut clients = Vec::new(rt.alloc());
     for number in 0..count {
         let stream = connect(rt, address)?;
@@ -203,37 +208,19 @@ fn each_asks<H: AllocGlobal + Net<Listener = TcpListener, Stream = TcpStream> + 
         }
         clients.push(stream).ok()?;
     }
-    thread::sleep(rt, Duration::from_millis(300));
-    call.open.store(true, SeqCst);
-    let length = (keys as usize).wrapping_mul(83).wrapping_add(98);
-    Some(
-        clients.iter().all(|stream| match receive(rt.alloc(), stream) {
-            Some(bytes) => bytes.len() == length,
-            None => false,
-        }),
-    )
+    Some(clients)
 }
 
 // The queue of jobs has room for 256: who finds it full, and waits for no other fill, is told once there is room.
 #[test]
-fn more_clients_ask_than_the_queue_has_room_for(rt: HostRuntime) -> Result<(), Fail> {
+fn more_clients_ask_than_the_queue_has_room_for(rt: HostRuntime) {
     for (kind, clients, keys, asked) in [
-        (Kind::Seats, 16u32, 40, 16 * 41),
-        (Kind::Loops, 300u32, 8, 300 * 9),
+        (Kind::Seats, 16, 40, 16 * 41),
+        (Kind::Loops, 300, 8, 300 * 9),
     ] {
-        let call = Call::new();
-        let plan = plan_of(&rt, 1, clients as usize, 1)?;
-        let source = Hooked {
-            hook: Gated { call: &call },
-        };
-        let (report, answered) = beside(&rt, source, kind, &plan, |address| {
-            each_asks(&rt, address, clients, keys, &call)
-        })?;
-        assert_eq!(rt;
-            (answered, has_asked(&report, asked)),
-            (Some(true), true),
-            "at {kind:?}"
-        );
+        let plan = plan_of(1, clients, 1).holding(Held::Numbers);
+        let scene = Scene::EachAsks(clients as u32, keys);
+        let play = play(kind, plan, scene, Expect::Asked(asked));
+        assert!(rt; is_played(&rt, play), "at {kind:?}");
     }
-    Ok(())
 }

@@ -1,25 +1,16 @@
 //! Clients of a server in the same process.
 
+use super::calls::FOUND_SLOW;
 use std::alloc::Global;
 use std::io::{Read, Write};
 use std::net::{Net, Shutdown, SocketAddr, TcpListener, TcpStream};
 use std::sync::Wait;
-use std::test::Fail;
 use std::thread;
 use std::time::{Clock, Duration};
 use stream_model::{ASK_K, ASK_K_LAST, FOUND_K, FOUND_K_LAST};
 
 /// How many seconds a client waits at most for a server that hangs.
 const PATIENCE: u64 = 30;
-
-/// A listener on a free port of the loopback address.
-pub fn listen<H: AllocGlobal + Net<Listener = TcpListener, Stream = TcpStream> + Wait + Clock>(
-    rt: &H,
-) -> Result<(TcpListener, SocketAddr), Fail> {
-    let listener = TcpListener::bind(rt, "127.0.0.1:0")?;
-    let address = listener.local_addr()?;
-    Ok((listener, address))
-}
 
 /// A client that is connected.
 pub fn connect<H: AllocGlobal + Net<Listener = TcpListener, Stream = TcpStream> + Wait + Clock>(
@@ -81,6 +72,13 @@ pub fn has_reply(stream: &TcpStream) -> bool {
     let mut reader = stream;
     let mut reply = [0; 79];
     reader.read_exact(&mut reply).is_ok() && reply.as_slice() == FOUND_K
+}
+
+/// Whether a client gets the value of the key `slow`.
+pub fn has_value(stream: &TcpStream) -> bool {
+    let mut reader = stream;
+    let mut reply = [0; 82];
+    reader.read_exact(&mut reply).is_ok() && reply.as_slice() == FOUND_SLOW
 }
 
 /// Whether a client gets the reply to one request.

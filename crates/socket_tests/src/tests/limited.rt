@@ -1,14 +1,13 @@
 //! Clients that a server gives up, of each server.
 
 use super::clients::{connect, is_served, send};
-use super::plans::{Kind, attentive, plan_of};
-use super::servers::{beside, has_asked};
-use super::visits::{Visit, serve_within_limits};
+use super::plans::{Expect, Kind, attentive, plan_of, play};
+use super::scenes::Scene;
+use super::servers::is_played;
+use super::visits::{Visit, are_found};
 use peer_runtime::Limits;
-use peer_source::DemoSource;
 use std::net::{Net, SocketAddr, TcpListener, TcpStream};
 use std::sync::Wait;
-use std::test::Fail;
 use std::time::{Clock, Duration};
 use stream_model::ASK_K;
 
@@ -18,7 +17,7 @@ const ASK_AND_MORE: &[u8] = b"GET /_groupcache/echo/k HTTP/1.1\r\nHost: h\r\n\r\
 // Each client sends a request, or the beginning of another too, and is silent then, or sends a request a byte at a time: it has
 // the reply to what came whole and loses its place, and the next one has its own.
 #[test]
-fn a_client_that_is_silent_or_slow_is_closed(rt: HostRuntime) -> Result<(), Fail> {
+fn a_client_that_is_silent_or_slow_is_closed(rt: HostRuntime) {
     let time = Duration::from_millis(100);
     let always = Limits {
         silence: time,
@@ -42,16 +41,17 @@ fn a_client_that_is_silent_or_slow_is_closed(rt: HostRuntime) -> Result<(), Fail
         ("silent within a request, when full", when_full, within, 2),
         ("slow, when full", slow, Visit::Drips, 1),
     ] {
-        let seen = serve_within_limits(&rt, limits, &[visit, Visit::Asks], asked)?;
-        assert_eq!(rt; seen, [[true; 2]; 2], "{what}");
+        assert!(rt;
+            are_found(&rt, limits, &[visit, Visit::Asks], asked),
+            "{what}"
+        );
     }
-    Ok(())
 }
 
 // A loop that has no clients sleeps, and is woken by the first that comes. And a request takes as long as it is not answered,
 // and not as long as the client was idle before it.
 #[test]
-fn a_client_that_is_late_or_was_idle_is_not_closed(rt: HostRuntime) -> Result<(), Fail> {
+fn a_client_that_is_late_or_was_idle_is_not_closed(rt: HostRuntime) {
     let silent = Limits {
         silence: Duration::from_secs(1),
         ..attentive()
@@ -65,18 +65,16 @@ fn a_client_that_is_late_or_was_idle_is_not_closed(rt: HostRuntime) -> Result<()
         ("late", silent, [late, late], 2),
         ("idle", slow, [Visit::PausesWithin(3000), Visit::Asks], 3),
     ] {
-        let seen = serve_within_limits(&rt, limits, &visits, asked)?;
-        assert_eq!(rt; seen, [[true; 2]; 2], "{what}");
+        assert!(rt; are_found(&rt, limits, &visits, asked), "{what}");
     }
-    Ok(())
 }
 
-// Whether a client beside one that asks so often and takes nothing is served.
-fn ask_beside_greedy<
+/// Whether a client beside one that asks so often and takes nothing is served.
+pub fn ask_beside_greedy<
     H: AllocGlobal + Net<Listener = TcpListener, Stream = TcpStream> + Wait + Clock,
->(rt: &H, address: SocketAddr, count: u32) -> [bool; 2] {
+>(rt: &H, address: SocketAddr, count: u32) -> bool {
     let Some(held) = connect(rt, address) else {
-        return [false; 2];
+        return false;
     };
     let sent = (0..count).all(|_| {
         send(
@@ -86,29 +84,24 @@ fn ask_beside_greedy<
     });
     let served = is_served(rt, address);
     drop(held);
-    [sent, served]
+    sent && served
 }
 
 // A loop judges no more requests of a client that takes nothing than it has room for.
 #[test]
-fn a_client_that_takes_nothing_is_closed(rt: HostRuntime) -> Result<(), Fail> {
-    for (kind, count) in [(Kind::Seats, 8), (Kind::Loops, 64)] {
-        let limits = Limits {
-            unread: Duration::from_millis(100),
-            ..attentive()
-        };
-        let plan = plan_of(&rt, 1, 1, 2)?.within(limits);
-        let (report, seen) = beside(&rt, DemoSource, kind, &plan, |address| {
-            ask_beside_greedy(&rt, address, count)
-        })?;
-        assert_eq!(rt; seen, [true; 2], "at {kind:?}");
-        let counted = match kind {
-            Kind::Loops => report.is_some(),
-            _ => has_asked(&report, 9),
-        };
-        assert!(rt; counted, "at {kind:?}");
+fn a_client_that_takes_nothing_is_closed(rt: HostRuntime) {
+    let limits = Limits {
+        unread: Duration::from_millis(100),
+        ..attentive()
+    };
+    let plan = plan_of(1, 1, 2).within(limits).caching(2_097_152);
+    for (kind, count, expect) in [
+        (Kind::Seats, 8, Expect::Asked(9)),
+        (Kind::Loops, 64, Expect::Ends),
+    ] {
+        let play = play(kind, plan, Scene::BesideGreedy(count), expect);
+        assert!(rt; is_played(&rt, play), "at {kind:?}");
     }
-    Ok(())
 }
 
 #[test]

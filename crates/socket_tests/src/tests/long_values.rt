@@ -1,12 +1,12 @@
 //! Values that are lent to the stream with their heads before them: each reply arrives as it is, one behind the other.
 
 use super::clients::{connect, is_text, receive, send};
-use super::plans::plan_of;
-use super::servers::beside_both;
+use super::plans::{BOTH, Expect, plan_of, play};
+use super::scenes::Scene;
+use super::servers::is_played;
 use std::alloc::{AllocError, Global};
 use std::net::{Net, SocketAddr, TcpListener, TcpStream};
 use std::sync::Wait;
-use std::test::Fail;
 use std::thread;
 use std::time::{Clock, Duration};
 use stream_model::{
@@ -80,11 +80,10 @@ impl Script {
     }
 }
 
-// Whether a client that takes nothing for a while receives what it is to receive.
-fn receives_all<H: AllocGlobal + Net<Listener = TcpListener, Stream = TcpStream> + Wait + Clock>(
-    rt: &H,
-    address: SocketAddr,
-) -> bool {
+/// Whether a client that takes nothing for a while receives what it is to receive.
+pub fn receives_all<
+    H: AllocGlobal + Net<Listener = TcpListener, Stream = TcpStream> + Wait + Clock,
+>(rt: &H, address: SocketAddr) -> bool {
     let (Ok(script), Some(stream)) = (Script::new(rt.alloc()), connect(rt, address)) else {
         return false;
     };
@@ -93,10 +92,12 @@ fn receives_all<H: AllocGlobal + Net<Listener = TcpListener, Stream = TcpStream>
     sent && is_text(&receive(rt.alloc(), &stream), &script.replies)
 }
 
+// The values are kept, so that each is made once.
 #[test]
-fn each_long_value_arrives_behind_its_head(rt: HostRuntime) -> Result<(), Fail> {
-    let plan = plan_of(&rt, 1, 1, 1)?;
-    let seen = beside_both(&rt, &plan, 49, |address| receives_all(&rt, address))?;
-    assert_eq!(rt; seen, [(true, true); 2]);
-    Ok(())
+fn each_long_value_arrives_behind_its_head(rt: HostRuntime) {
+    let plan = plan_of(1, 1, 1).caching(4_194_304);
+    for kind in BOTH {
+        let play = play(kind, plan, Scene::LongValues, Expect::Asked(49));
+        assert!(rt; is_played(&rt, play), "at {kind:?}");
+    }
 }

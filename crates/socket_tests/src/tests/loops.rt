@@ -1,104 +1,66 @@
-//! What the server on event loops has alone: counters that it publishes, and numbers that it refuses.
+//! What the server on event loops has alone: counters that it publishes.
 
-use super::clients::{exchange, is_served, listen};
-use super::loop_servers::{Outside, beside_loops, settings_of};
-use super::plans::{Plan, plan_of};
-use super::servers::has_asked;
-use peer_fill::OpenFault;
-use peer_loop::{Fillers, ServerFault, Settings, serve_loops};
-use peer_source::DemoSource;
-use std::net::{Net, TcpListener, TcpStream};
+use super::clients::{exchange, is_served, is_soon};
+use super::plans::{Expect, Kind, plan_of, play};
+use super::scenes::Scene;
+use super::servers::{Outside, is_played};
+use peer_stats::Counters;
+use std::net::{Net, SocketAddr, TcpListener, TcpStream};
 use std::sync::Wait;
-use std::test::Fail;
-use std::thread::Threads;
 use std::time::Clock;
 
 const ASK_TWICE: &[u8] = b"GET /_groupcache/echo/k HTTP/1.1\r\nHost: h\r\n\r\n\
       GET /_groupcache/echo/k HTTP/1.1\r\nHost: h\r\nConnection: close\r\n\r\n";
 
-#[test]
-fn a_server_publishes_what_it_counts(rt: HostRuntime) -> Result<(), Fail> {
-    let outside = Outside::new();
-    let settings = settings_of(&outside, &plan_of(&rt, 1, 1, 1)?);
-    let (report, _) = beside_loops(&rt, DemoSource, &settings, |address| {
-        exchange(&rt, address, ASK_TWICE)
-    })?;
-    let counts = outside.counters.read();
-    let (loops, fillers) = (counts.loops, counts.fillers);
+// Whether a server publishes that one client came and has gone that asked twice, and each call.
+fn has_counted(counters: &Counters) -> bool {
+    let counts = counters.read();
+    let loops = counts.loops;
     let parts = loops
         .hits
         .wrapping_add(loops.led)
         .wrapping_add(loops.joined);
-    let jobs = fillers.calls.wrapping_add(fillers.rehits);
-    assert!(rt; has_asked(&report, loops.asked));
-    assert_eq!(rt;
-        [
-            loops.asked,
-            parts,
-            loops.connections,
-            counts.accepts.accepted
-        ],
-        [2, 2, 0, 1]
+    let jobs = counts.fillers.calls.wrapping_add(counts.fillers.rehits);
+    [loops.asked, parts, loops.connections] == [2, 2, 0]
+        && [jobs, counts.accepts.accepted, counts.accepts.failed] == [loops.led, 1, 0]
+}
+
+/// Whether a server soon publishes what a client did.
+pub fn is_published<
+    H: AllocGlobal + Net<Listener = TcpListener, Stream = TcpStream> + Wait + Clock,
+>(rt: &H, address: SocketAddr, outside: &Outside) -> bool {
+    let answered = exchange(rt, address, ASK_TWICE).is_some();
+    answered && is_soon(rt, || has_counted(&outside.counters))
+}
+
+#[test]
+fn a_server_publishes_what_it_counts(rt: HostRuntime) {
+    let play = play(
+        Kind::Loops,
+        plan_of(1, 1, 1),
+        Scene::Published,
+        Expect::Asked(2),
     );
-    assert_eq!(rt; [jobs, counts.accepts.failed], [loops.led, 0]);
-    Ok(())
+    assert!(rt; is_played(&rt, play));
 }
 
-#[test]
-fn clients_are_dealt_to_the_loops_in_turn(rt: HostRuntime) -> Result<(), Fail> {
-    let outside = Outside::new();
-    let plan = plan_of(&rt, 1, 4, 1)?.on_loops(2);
-    let settings = settings_of(&outside, &plan);
-    let (report, served) = beside_loops(&rt, DemoSource, &settings, |address| {
-        (0..4).all(|_| is_served(&rt, address))
-    })?;
-    let counters = &outside.counters;
-    let asked = [
-        counters.of_loop(0).read().asked,
-        counters.of_loop(1).read().asked,
-    ];
-    assert!(rt; served);
-    assert!(rt; has_asked(&report, 4));
-    assert_eq!(rt; asked, [2, 2]);
-    Ok(())
+// Whether each of two loops has counted two requests.
+fn has_dealt(counters: &Counters) -> bool {
+    counters.of_loop(0).read().asked == 2 && counters.of_loop(1).read().asked == 2
 }
 
-// Whether a server with these numbers is refused by this fault.
-fn is_refused<H: Net<Listener = TcpListener, Stream = TcpStream> + Threads + Wait + Clock + Sync>(
+/// Whether four clients are served, two by each of two loops.
+pub fn is_dealt<H: AllocGlobal + Net<Listener = TcpListener, Stream = TcpStream> + Wait + Clock>(
     rt: &H,
-    plan: &Plan,
-    fillers: Fillers,
-    fault: OpenFault,
-) -> Result<bool, Fail>
-where
-    H: AllocGlobal,
-{
-    let (listener, _) = listen(rt)?;
-    let outside = Outside::new();
-    let settings = Settings {
-        fillers,
-        ..settings_of(&outside, plan)
-    };
-    let answered = serve_loops(rt, rt.alloc(), DemoSource, listener, &settings);
-    Ok(match answered {
-        Err(ServerFault::Open(found)) => found == fault,
-        _ => false,
-    })
+    address: SocketAddr,
+    outside: &Outside,
+) -> bool {
+    (0..4).all(|_| is_served(rt, address)) && is_soon(rt, || has_dealt(&outside.counters))
 }
 
 #[test]
-fn loops_refuse_each_number(rt: HostRuntime) -> Result<(), Fail> {
-    for (fillers, loops, fault) in [
-        (Fillers::Threads(0), 1, OpenFault::Workers),
-        (Fillers::Threads(17), 1, OpenFault::Workers),
-        (Fillers::Threads(1), 0, OpenFault::Conns),
-        (Fillers::Threads(1), 17, OpenFault::Conns),
-        (Fillers::Loops, 0, OpenFault::Workers),
-        (Fillers::Loops, 17, OpenFault::Workers),
-    ] {
-        let plan = plan_of(&rt, 1, 1, 1)?.on_loops(loops);
-        let refused = is_refused(&rt, &plan, fillers, fault)?;
-        assert!(rt; refused, "at {fillers:?} {loops}");
-    }
-    Ok(())
+fn clients_are_dealt_to_the_loops_in_turn(rt: HostRuntime) {
+    let plan = plan_of(1, 4, 1).on_loops(2);
+    let play = play(Kind::Loops, plan, Scene::Dealt, Expect::Asked(4));
+    assert!(rt; is_played(&rt, play));
 }

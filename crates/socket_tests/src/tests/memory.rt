@@ -1,55 +1,18 @@
 //! What a client is asked for while all clients together hold too much.
 
+use super::calls::Calls;
 use super::clients::{connect, is_answered, send};
-use super::loop_servers::{Outside, beside_loops, settings_of};
-use super::plans::{attentive, plan_of};
-use super::slow::{Call, await_call};
+use super::plans::{Expect, Kind, attentive, plan_of, play};
+use super::scenes::Scene;
+use super::servers::is_played;
 use std::alloc::{AllocError, Global};
 use std::io::Read;
 use std::net::{Net, SocketAddr, TcpListener, TcpStream};
 use std::sync::Wait;
 use std::sync::atomic::Ordering::SeqCst;
-use std::test::Fail;
 use std::thread;
 use std::time::{Clock, Duration};
 use stream_model::add_request;
-use test_support::{Hook, Hooked};
-
-// The calls for the key `hold`, and for keys that begin with `one` and with `two`.
-#[derive(Drop)]
-struct Calls {
-    hold: Call,
-    one: Call,
-    two: Call,
-}
-
-impl Calls {
-    // None of them began.
-    fn new() -> Calls {
-        Calls {
-            hold: Call::new(),
-            one: Call::new(),
-            two: Call::new(),
-        }
-    }
-}
-
-// A source whose calls for these keys wait until they may go on.
-#[derive(Clone, Copy, Drop)]
-struct Waiting<'a> {
-    calls: &'a Calls,
-}
-
-impl Hook for Waiting<'_> {
-    fn may_call(&self, _alloc: Global, key: &[u8]) -> bool {
-        match key {
-            b"hold" => self.calls.hold.wait(),
-            [b'o', b'n', b'e', ..] => self.calls.one.wait(),
-            [b't', b'w', b'o', ..] => self.calls.two.wait(),
-            _ => true,
-        }
-    }
-}
 
 // Sends requests for these targets in one text.
 fn ask_all(alloc: Global, stream: &TcpStream, targets: &[&str]) -> bool {
@@ -89,15 +52,13 @@ fn is_asked_for_one<H: AllocGlobal + Clock>(
     calls: &Calls,
     attempt: [u8; 2],
 ) -> bool {
-    for call in [&calls.one, &calls.two] {
-        call.called.store(false, SeqCst);
-        call.open.store(false, SeqCst);
-    }
-    let asked = ask_for_pair(rt.alloc(), stream, attempt) && await_call(rt, &calls.one.called);
+    calls.one.close();
+    calls.two.close();
+    let asked = ask_for_pair(rt.alloc(), stream, attempt) && calls.one.is_called(rt);
     thread::sleep(rt, Duration::from_millis(250));
     let alone = !calls.two.called.load(SeqCst);
-    calls.one.open.store(true, SeqCst);
-    calls.two.open.store(true, SeqCst);
+    calls.one.open();
+    calls.two.open();
     let mut reader = stream;
     let mut replies = [0; 166];
     asked && reader.read_exact(&mut replies).is_ok() && alone
@@ -114,9 +75,9 @@ fn is_soon_asked_for_one<H: AllocGlobal + Clock>(
     })
 }
 
-// Whether a client is asked for one value at a time beside one that waits for three, of which two of 1 MiB came. That one has no
-// turn when they come, since it asked for all in one text and waits for the first.
-fn is_narrowed<H: AllocGlobal + Net<Listener = TcpListener, Stream = TcpStream> + Wait + Clock>(
+/// Whether a client is asked for one value at a time beside one that waits for three, of which two of 1 MiB came. That one has no
+/// turn when they come, since it asked for all in one text and waits for the first.
+pub fn is_narrowed<H: AllocGlobal + Net<Listener = TcpListener, Stream = TcpStream> + Wait + Clock>(
     rt: &H,
     address: SocketAddr,
     calls: &Calls,
@@ -125,7 +86,7 @@ fn is_narrowed<H: AllocGlobal + Net<Listener = TcpListener, Stream = TcpStream> 
         return false;
     };
     let targets = [
-        "/_groupcache/echo/hold",
+        "/_groupcache/echo/slow",
         "/_groupcache/fill/1048576",
         "/_groupcache/fill/1048575",
     ];
@@ -134,20 +95,8 @@ fn is_narrowed<H: AllocGlobal + Net<Listener = TcpListener, Stream = TcpStream> 
 }
 
 #[test]
-fn a_client_is_asked_for_one_value_where_others_hold_too_much(rt: HostRuntime) -> Result<(), Fail> {
-    let calls = Calls::new();
-    let outside = Outside::new();
-    let plan = plan_of(&rt, 8, 2, 1)?.within(attentive());
-    let settings = settings_of(&outside, &plan);
-    let source = Hooked {
-        hook: Waiting { calls: &calls },
-    };
-    let (report, narrowed) = beside_loops(&rt, source, &settings, |address| {
-        let narrowed = is_narrowed(&rt, address, &calls);
-        calls.hold.open.store(true, SeqCst);
-        narrowed
-    })?;
-    assert!(rt; narrowed);
-    assert!(rt; report.is_some());
-    Ok(())
+fn a_client_is_asked_for_one_value_where_others_hold_too_much(rt: HostRuntime) {
+    let plan = plan_of(8, 2, 1).within(attentive());
+    let play = play(Kind::Loops, plan, Scene::Narrowed, Expect::Ends);
+    assert!(rt; is_played(&rt, play));
 }

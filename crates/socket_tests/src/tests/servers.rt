@@ -1,42 +1,116 @@
-//! Servers of each kind in threads of their own, beside their clients.
+//! A server of each kind in a thread of its own, beside its clients.
 
-use super::clients::listen;
-use super::loop_servers::{Outside, settings_of};
-use super::plans::{Kind, Plan};
-use peer_fill::Report;
-use peer_loop::serve_loops;
-use peer_socket::{Settings, peer_server, serve_within};
-use peer_source::{DemoSource, Source};
+use super::calls::{Calls, Waiting};
+use super::plans::{Ended, Kind, Plan, Play};
+use super::scenes::is_seen;
+use peer_fill::{OpenFault, Report};
+use peer_loop::{Stop, serve_loops};
+use peer_socket::{peer_server, serve_within};
+use peer_stats::Counters;
+use std::hash::RandomState;
 use std::net::{Net, SocketAddr, TcpListener, TcpStream};
+use std::random::RandomSource;
 use std::sync::Wait;
-use std::test::Fail;
 use std::thread;
 use std::thread::Threads;
 use std::time::Clock;
+use test_support::Hooked;
+
+/// What a server has from outside: what it counts on loops, by what it is told to end there, and the calls of its source.
+#[derive(Drop)]
+pub struct Outside {
+    pub counters: Counters,
+    pub stop: Stop,
+    pub calls: Calls,
+}
+
+impl Outside {
+    // Nothing was counted or called, and no server was told to end.
+    fn new() -> Outside {
+        Outside {
+            counters: Counters::new(),
+            stop: Stop::new(),
+            calls: Calls::new(),
+        }
+    }
+}
 
 // A server in threads that serves as the plan says.
-fn seats_of(plan: &Plan) -> Settings {
-    Settings {
+fn seats_of(plan: &Plan, seed: RandomState) -> peer_socket::Settings {
+    peer_socket::Settings {
         workers: plan.workers,
         conns: plan.connections,
         rounds: plan.rounds,
         cache_bytes: plan.cache_bytes,
-        seed: plan.seed,
+        seed,
         limits: plan.limits,
     }
 }
 
+// A server on loops that serves as the plan says.
+fn loops_of<'a>(outside: &'a Outside, plan: &Plan, seed: RandomState) -> peer_loop::Settings<'a> {
+    peer_loop::Settings {
+        fillers: plan.fillers,
+        loops: plan.loops,
+        connections: plan.connections,
+        memory: 1_048_576,
+        accepts: plan.accepts,
+        cache_bytes: plan.cache_bytes,
+        seed,
+        limits: plan.limits,
+        counters: &outside.counters,
+        stop: &outside.stop,
+    }
+}
+
+// How a server ended whose pool was not opened.
+fn unopened(fault: OpenFault) -> Ended {
+    match fault {
+        OpenFault::Workers => Ended::Workers,
+        OpenFault::Conns => Ended::Conns,
+        OpenFault::Groups | OpenFault::Memory => Ended::Badly,
+    }
+}
+
+// How a server in threads ended.
+fn of_seats(answered: Result<Report, peer_socket::ServerFault>) -> Ended {
+    match answered {
+        Ok(report) => Ended::Well(report),
+        Err(peer_socket::ServerFault::Open(fault)) => unopened(fault),
+        Err(peer_socket::ServerFault::Memory) => Ended::Badly,
+    }
+}
+
+// How a server on loops ended.
+fn of_loops(answered: Result<Report, peer_loop::ServerFault>) -> Ended {
+    match answered {
+        Ok(report) => Ended::Well(report),
+        Err(peer_loop::ServerFault::Open(fault)) => unopened(fault),
+        Err(peer_loop::ServerFault::Refused) => Ended::Badly,
+    }
+}
+
 // Serves as the plan says.
-fn serve<
-    S: Source + Send + Sync,
-    H: Net<Listener = TcpListener, Stream = TcpStream> + Threads + Wait + Clock + Sync,
->(rt: &H, source: S, listener: TcpListener, kind: Kind, plan: &Plan) -> Option<Report>
+fn serve<H: Net<Listener = TcpListener, Stream = TcpStream> + Threads + Wait + Clock + Sync>(
+    rt: &H,
+    listener: TcpListener,
+    seed: RandomState,
+    kind: Kind,
+    plan: &Plan,
+    outside: &Outside,
+) -> Ended
 where
     H: AllocGlobal,
 {
     let alloc = rt.alloc();
+    let source = Hooked {
+        hook: Waiting {
+            calls: &outside.calls,
+            held: plan.held,
+        },
+    };
     match kind {
-        Kind::Usual => peer_server(
+        Kind::Usual => of_seats(peer_server(
             rt,
             alloc,
             source,
@@ -45,116 +119,77 @@ where
             plan.connections,
             plan.rounds,
             plan.cache_bytes,
-            plan.seed,
-        )
-        .ok(),
-        Kind::Seats => serve_within(rt, alloc, source, listener, &seats_of(plan)).ok(),
-        Kind::Loops => {
-            let outside = Outside::new();
-            serve_loops(rt, alloc, source, listener, &settings_of(&outside, plan)).ok()
-        }
+            seed,
+        )),
+        Kind::Seats => of_seats(serve_within(rt, alloc, source, listener, &seats_of(plan, seed))),
+        Kind::Loops => of_loops(serve_loops(
+            rt,
+            alloc,
+            source,
+            listener,
+            &loops_of(outside, plan, seed),
+        )),
     }
 }
 
-/// What a server answers that serves at a free port while clients run, and what they answer, who were told its address.
-pub fn run_both<
-    T,
-    F: FnOnce(TcpListener) -> Option<Report> + Send,
-    C: FnOnce(SocketAddr) -> T,
-    H: Net<Listener = TcpListener, Stream = TcpStream> + Threads + Wait + Clock + Sync,
->(rt: &H, serve: F, clients: C) -> Result<(Option<Report>, T), Fail>
+// Whether the clients see what they are to see. Behind them all calls may go on, and a server that is to be told ends.
+fn is_seen_by_clients<
+    H: AllocGlobal + Net<Listener = TcpListener, Stream = TcpStream> + Wait + Clock,
+>(rt: &H, address: SocketAddr, play: Play<'_>, outside: &Outside) -> bool {
+    let seen = is_seen(rt, address, play.scene, outside);
+    outside.calls.open_all();
+    if play.plan.accepts.is_none() {
+        outside.stop.stop();
+    }
+    seen
+}
+
+// How a server ended that serves at this listener while its clients run, and whether these saw what they are to see.
+fn run_both<H: Net<Listener = TcpListener, Stream = TcpStream> + Threads + Wait + Clock + Sync>(
+    rt: &H,
+    (listener, address): (TcpListener, SocketAddr),
+    seed: RandomState,
+    play: Play<'_>,
+    outside: &Outside,
+) -> (Ended, bool)
 where
     H: AllocGlobal,
-    requires serve { F.IsAlwaysCallable serve }
-    requires clients { C.IsAlwaysCallable clients }
 {
-    let (listener, address) = listen(rt)?;
-    Ok(thread::scope(
-        thread::scope_env(),
-        rt,
-        move |scope| -> (Option<Report>, T)
-            requires serve { F.IsAlwaysCallable serve }
-            requires clients { C.IsAlwaysCallable clients }
-        {
-            match scope.spawn(move || serve(listener)) {
-                Ok(server) => {
-                    let seen = clients(address);
-                    (server.join(rt), seen)
-                }
-                Err(_) => (None, clients(address)),
+    thread::scope(thread::scope_env(), rt, move |scope| -> (Ended, bool) {
+        let run = move || serve(rt, listener, seed, play.kind, &play.plan, outside);
+        match scope.spawn(run) {
+            Ok(server) => {
+                let seen = is_seen_by_clients(rt, address, play, outside);
+                (server.join(rt), seen)
             }
-        },
-    ))
-}
-
-/// The report of a server that serves as the plan says, and what its clients answered, who were told its address.
-pub fn beside<
-    S: Source + Send + Sync,
-    T,
-    C: FnOnce(SocketAddr) -> T,
-    H: Net<Listener = TcpListener, Stream = TcpStream> + Threads + Wait + Clock + Sync,
->(rt: &H, source: S, kind: Kind, plan: &Plan, clients: C) -> Result<(Option<Report>, T), Fail>
-where
-    H: AllocGlobal,
-    requires { C.IsAlwaysCallable clients }
-{
-    let serve = move |listener| serve(rt, source, listener, kind, plan);
-    run_both(rt, serve, clients)
-}
-
-// What the clients of a server answered, and whether it counted so many requests.
-fn counted<
-    T,
-    C: Fn(SocketAddr) -> T,
-    H: Net<Listener = TcpListener, Stream = TcpStream> + Threads + Wait + Clock + Sync,
->(rt: &H, kind: Kind, plan: &Plan, asked: u64, clients: &C) -> Result<(T, bool), Fail>
-where
-    H: AllocGlobal,
-    requires { C.IsAlwaysCallable clients.now }
-{
-    let (report, seen) = beside(rt, DemoSource, kind, plan, |address| clients(address))?;
-    Ok((seen, has_asked(&report, asked)))
-}
-
-/// What the clients of a server in threads answered, and those of one on loops: each with whether its server counted so many
-/// requests.
-pub fn beside_both<
-    T: Copy,
-    C: Fn(SocketAddr) -> T,
-    H: Net<Listener = TcpListener, Stream = TcpStream> + Threads + Wait + Clock + Sync,
->(rt: &H, plan: &Plan, asked: u64, clients: C) -> Result<[(T, bool); 2], Fail>
-where
-    H: AllocGlobal,
-    requires { C.IsAlwaysCallable clients }
-{
-    Ok([
-        counted(rt, Kind::Seats, plan, asked, &clients)?,
-        counted(rt, Kind::Loops, plan, asked, &clients)?,
-    ])
-}
-
-/// Whether the report is of so many requests, none of them a stranger's.
-pub fn has_asked(report: &Option<Report>, asked: u64) -> bool {
-    match report {
-        Some(report) => report.asked == asked && report.strangers == 0,
-        None => false,
-    }
-}
-
-/// Whether each request was a hit, led or joined, and each that led was called for, found again or left.
-pub fn has_totals(report: &Option<Report>) -> bool {
-    match report {
-        Some(report) => {
-            let asked = report
-                .hits
-                .wrapping_add(report.led)
-                .wrapping_add(report.joined);
-            let led = report
-                .calls
-                .wrapping_add(report.rehits)
-                .wrapping_add(report.left);
-            report.asked == asked && report.led == led
+            Err(_) => (Ended::Badly, false),
         }
-        None => false,
+    })
+}
+
+// A listener on a free port of the loopback address.
+fn listen<H: Net<Listener = TcpListener, Stream = TcpStream>>(
+    rt: &H,
+) -> Option<(TcpListener, SocketAddr)> {
+    let listener = TcpListener::bind(rt, "127.0.0.1:0").ok()?;
+    let address = listener.local_addr().ok()?;
+    Some((listener, address))
+}
+
+/// Whether the clients of a server see what they are to see, and it ends as it is to end.
+pub fn is_played<
+    H: Net<Listener = TcpListener, Stream = TcpStream> + Threads + Wait + Clock + Sync,
+>(rt: &H, play: Play<'_>) -> bool
+where
+    H: AllocGlobal + RandomSource,
+{
+    let outside = Outside::new();
+    if play.plan.is_told {
+        outside.stop.stop();
     }
+    let (Some(listening), Ok(seed)) = (listen(rt), RandomState::new(rt)) else {
+        return false;
+    };
+    let (ended, seen) = run_both(rt, listening, seed, play, &outside);
+    seen && play.expect.fits(ended)
 }

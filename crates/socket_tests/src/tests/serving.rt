@@ -1,23 +1,20 @@
 //! Connections that end by themselves, of each server.
 
 use super::clients::{
-    connect, exchange, exchange_and_end, is_answered_last, is_served, is_text, listen, receives,
-    send, served_client,
+    connect, exchange, exchange_and_end, is_answered_last, is_served, is_text, receives, send,
+    served_client,
 };
-use super::plans::{Kind, plan_of};
-use super::servers::{beside, beside_both, has_asked, has_totals};
-use peer_fill::{OpenFault, Report};
-use peer_socket::{ServerFault, peer_server};
-use peer_source::DemoSource;
-use std::hash::RandomState;
+use super::plans::{BOTH, Expect, Kind, plan_of, play};
+use super::scenes::Scene;
+use super::servers::is_played;
+use peer_fill::Report;
 use std::net::{Net, SocketAddr, TcpListener, TcpStream};
 use std::sync::Wait;
-use std::test::Fail;
 use std::time::Clock;
 use stream_model::{ASK_K, ASK_K_LAST, FOUND_K, FOUND_K_LAST};
 
 // What is written is the one text and then the other.
-const BOTH: &[u8] =
+const FOUND_BOTH: &[u8] =
     b"HTTP/1.1 200 OK\r\nContent-Type: application/x-protobuf\r\nContent-Length: 3\r\n\r\n\x0A\x01k\
       HTTP/1.1 200 OK\r\nContent-Type: application/x-protobuf\r\nContent-Length: 3\r\nConnection: close\r\n\r\n\x0A\x01k";
 
@@ -25,25 +22,12 @@ const BOTH: &[u8] =
 const ASK_BOTH: &[u8] =
     b"GET /_groupcache/echo/k HTTP/1.1\r\nHost: h\r\n\r\nGET /_groupcache/echo/k HTTP/1.1\r\nHost: h\r\nConnection: close\r\n\r\n";
 
-#[test]
-fn a_client_asks_twice(rt: HostRuntime) -> Result<(), Fail> {
-    for (kind, cache_bytes) in [
-        (Kind::Usual, 1_048_576),
-        (Kind::Seats, 0),
-        (Kind::Loops, 0),
-        (Kind::Loops, 1_048_576),
-    ] {
-        let plan = plan_of(&rt, 2, 1, 1)?.caching(cache_bytes);
-        let (report, received) = beside(&rt, DemoSource, kind, &plan, |address| {
-            is_text(&exchange(&rt, address, ASK_BOTH), BOTH)
-        })?;
-        assert_eq!(rt;
-            [received, has_asked(&report, 2), has_totals(&report)],
-            [true; 3],
-            "at {kind:?} {cache_bytes}"
-        );
-    }
-    Ok(())
+/// Whether a client that asks twice in one text is answered.
+pub fn ask_twice<H: AllocGlobal + Net<Listener = TcpListener, Stream = TcpStream> + Wait + Clock>(
+    rt: &H,
+    address: SocketAddr,
+) -> bool {
+    is_text(&exchange(rt, address, ASK_BOTH), FOUND_BOTH)
 }
 
 // What is counted where one key was asked for twice, the second time behind its reply.
@@ -58,8 +42,8 @@ const ONE_HIT: Report = Report {
     left: 0,
 };
 
-// Whether a client that has its reply gets another one.
-fn ask_behind<H: AllocGlobal + Net<Listener = TcpListener, Stream = TcpStream> + Wait + Clock>(
+/// Whether a client that has its reply gets another one.
+pub fn ask_behind<H: AllocGlobal + Net<Listener = TcpListener, Stream = TcpStream> + Wait + Clock>(
     rt: &H,
     address: SocketAddr,
 ) -> bool {
@@ -70,99 +54,113 @@ fn ask_behind<H: AllocGlobal + Net<Listener = TcpListener, Stream = TcpStream> +
 }
 
 #[test]
-fn a_value_that_was_served_is_in_the_cache(rt: HostRuntime) -> Result<(), Fail> {
-    for kind in [Kind::Usual, Kind::Seats, Kind::Loops] {
-        let plan = plan_of(&rt, 2, 1, 1)?.caching(1_048_576);
-        let (report, served) = beside(&rt, DemoSource, kind, &plan, |address| {
-            ask_behind(&rt, address)
-        })?;
-        assert!(rt; served, "at {kind:?}");
-        assert_eq!(rt; report, Some(ONE_HIT), "at {kind:?}");
+fn a_client_asks_twice(rt: HostRuntime) {
+    let (none, large) = (plan_of(2, 1, 1), plan_of(2, 1, 1).caching(1_048_576));
+    let asked = Expect::Asked(2);
+    let hit = Expect::Counted(ONE_HIT);
+    for (what, play) in [
+        (
+            "by the usual server",
+            play(Kind::Usual, large, Scene::AskTwice, asked),
+        ),
+        ("by seats", play(Kind::Seats, none, Scene::AskTwice, asked)),
+        ("by loops", play(Kind::Loops, none, Scene::AskTwice, asked)),
+        (
+            "by loops that keep",
+            play(Kind::Loops, large, Scene::AskTwice, asked),
+        ),
+        (
+            "kept by the usual server",
+            play(Kind::Usual, large, Scene::AskBehind, hit),
+        ),
+        (
+            "kept by seats",
+            play(Kind::Seats, large, Scene::AskBehind, hit),
+        ),
+        (
+            "kept by loops",
+            play(Kind::Loops, large, Scene::AskBehind, hit),
+        ),
+    ] {
+        assert!(rt; is_played(&rt, play), "{what}");
     }
-    Ok(())
 }
 
-// Whether two clients are answered, of which the later one asks first and the other one twice, and then a third one.
-fn ask_in_turn<H: AllocGlobal + Net<Listener = TcpListener, Stream = TcpStream> + Wait + Clock>(
+/// Whether two clients are answered, of which the later one asks first and the other one twice, and then a third one.
+pub fn ask_in_turn<H: AllocGlobal + Net<Listener = TcpListener, Stream = TcpStream> + Wait + Clock>(
     rt: &H,
     address: SocketAddr,
-) -> [bool; 3] {
+) -> bool {
     let (Some(one), Some(other)) = (connect(rt, address), connect(rt, address)) else {
-        return [false; 3];
+        return false;
     };
     let sent = send(&other, ASK_K_LAST) && send(&one, ASK_BOTH);
-    let first = sent && receives(rt.alloc(), &one, BOTH);
+    let first = sent && receives(rt.alloc(), &one, FOUND_BOTH);
     drop(one);
     let second = receives(rt.alloc(), &other, FOUND_K_LAST);
     drop(other);
-    [
-        first,
-        second,
-        is_text(&exchange_and_end(rt, address, ASK_K), FOUND_K),
-    ]
+    first && second && is_text(&exchange_and_end(rt, address, ASK_K), FOUND_K)
 }
 
 #[test]
-fn more_clients_than_connections(rt: HostRuntime) -> Result<(), Fail> {
-    let plan = plan_of(&rt, 1, 1, 3)?.on_loops(2);
-    let seen = beside_both(&rt, &plan, 4, |address| ask_in_turn(&rt, address))?;
-    assert_eq!(rt; seen, [([true; 3], true); 2]);
-    Ok(())
+fn more_clients_than_connections(rt: HostRuntime) {
+    let plan = plan_of(1, 1, 3).on_loops(2);
+    for kind in BOTH {
+        let play = play(kind, plan, Scene::AskInTurn, Expect::Asked(4));
+        assert!(rt; is_played(&rt, play), "at {kind:?}");
+    }
 }
 
 // A client that goes away with replies unread, which resets its connection.
 const ASK_LONG: &[u8] = b"GET /_groupcache/fill/1048576 HTTP/1.1\r\nHost: h\r\n\r\n\
-      GET /_groupcache/fill/1048575 HTTP/1.1\r\nHost: h\r\n\r\n\
-      GET /_groupcache/fill/1048574 HTTP/1.1\r\nHost: h\r\n\r\n\
-      GET /_groupcache/fill/1048573 HTTP/1.1\r\nHost: h\r\n\r\n";
+      GET /_groupcache/fill/1048576 HTTP/1.1\r\nHost: h\r\n\r\n\
+      GET /_groupcache/fill/1048576 HTTP/1.1\r\nHost: h\r\n\r\n\
+      GET /_groupcache/fill/1048576 HTTP/1.1\r\nHost: h\r\n\r\n";
 
-#[test]
-fn a_client_resets(rt: HostRuntime) -> Result<(), Fail> {
-    for kind in [Kind::Seats, Kind::Loops] {
-        let plan = plan_of(&rt, 1, 1, 4)?;
-        let (report, seen) = beside(&rt, DemoSource, kind, &plan, |address| {
-            let mut seen = [false; 3];
-            for resets in seen.iter_mut() {
-                *resets = match connect(&rt, address) {
-                    Some(stream) => send(&stream, ASK_LONG),
-                    None => false,
-                };
-            }
-            let served = is_served(&rt, address);
-            (seen, served)
-        })?;
-        assert_eq!(rt; seen, ([true; 3], true), "at {kind:?}");
-        assert!(rt; report.is_some(), "at {kind:?}");
-    }
-    Ok(())
+/// Whether a client is served behind three that reset their connections.
+pub fn reset_thrice<
+    H: AllocGlobal + Net<Listener = TcpListener, Stream = TcpStream> + Wait + Clock,
+>(rt: &H, address: SocketAddr) -> bool {
+    (0..3).all(|_| match connect(rt, address) {
+        Some(stream) => send(&stream, ASK_LONG),
+        None => false,
+    }) && is_served(rt, address)
 }
 
 #[test]
-fn refuses_each_number(rt: HostRuntime) -> Result<(), Fail> {
-    for (workers, conns, fault) in [
-        (0, 1, OpenFault::Workers),
-        (17, 1, OpenFault::Workers),
-        (1, 0, OpenFault::Conns),
-        (1, 17, OpenFault::Conns),
-    ] {
-        let (listener, _) = listen(&rt)?;
-        let seed = RandomState::new(&rt)?;
-        let answered = peer_server(
-            &rt,
-            rt.alloc(),
-            DemoSource,
-            listener,
-            workers,
-            conns,
-            1,
-            0,
-            seed,
-        );
-        let refused = match answered {
-            Err(ServerFault::Open(found)) => found == fault,
-            _ => false,
-        };
-        assert!(rt; refused, "at {workers} {conns}");
+fn a_client_resets(rt: HostRuntime) {
+    let plan = plan_of(1, 1, 4).caching(2_097_152);
+    for kind in BOTH {
+        let play = play(kind, plan, Scene::ResetThrice, Expect::Ends);
+        assert!(rt; is_played(&rt, play), "at {kind:?}");
     }
-    Ok(())
+}
+
+#[test]
+fn each_server_refuses_each_number(rt: HostRuntime) {
+    let seats = [
+        (plan_of(0, 1, 1), Expect::Workers),
+        (plan_of(17, 1, 1), Expect::Workers),
+        (plan_of(1, 0, 1), Expect::Conns),
+        (plan_of(1, 17, 1), Expect::Conns),
+    ];
+    for (plan, expect) in seats {
+        let numbers = (plan.workers, plan.connections);
+        let play = play(Kind::Usual, plan, Scene::Nothing, expect);
+        assert!(rt; is_played(&rt, play), "seats at {numbers:?}");
+    }
+    let one = plan_of(1, 1, 1);
+    let loops = [
+        (plan_of(0, 1, 1), Expect::Workers),
+        (plan_of(17, 1, 1), Expect::Workers),
+        (one.on_loops(0), Expect::Conns),
+        (one.on_loops(17), Expect::Conns),
+        (one.filling(Some(1)).on_loops(0), Expect::Workers),
+        (one.filling(Some(1)).on_loops(17), Expect::Workers),
+    ];
+    for (plan, expect) in loops {
+        let numbers = (plan.workers, plan.loops);
+        let play = play(Kind::Loops, plan, Scene::Nothing, expect);
+        assert!(rt; is_played(&rt, play), "loops at {numbers:?}");
+    }
 }

@@ -1,16 +1,13 @@
 //! A loop that stood still: those who asked meanwhile were not silent, however many they are.
 
+use super::calls::{ASK_SLOW, Calls};
 use super::clients::{connect, has_reply, send, served_client};
-use super::loop_servers::{Outside, beside_slow, settings_of};
-use super::plans::{attentive, plan_of};
-use super::servers::has_asked;
-use super::slow::{ASK_SLOW, Call, await_call};
-use peer_loop::{Fillers, Settings};
+use super::plans::{Expect, Kind, attentive, plan_of, play};
+use super::scenes::Scene;
+use super::servers::is_played;
 use peer_runtime::Limits;
 use std::net::{Net, SocketAddr, TcpListener, TcpStream};
 use std::sync::Wait;
-use std::sync::atomic::Ordering::SeqCst;
-use std::test::Fail;
 use std::thread;
 use std::time::{Clock, Duration};
 use stream_model::ASK_K;
@@ -30,40 +27,29 @@ fn crowd_of<H: AllocGlobal + Net<Listener = TcpListener, Stream = TcpStream> + W
     Some(crowd)
 }
 
-// Whether all have their replies who ask a loop that stands still for longer than a client may be silent.
-fn are_answered<H: AllocGlobal + Net<Listener = TcpListener, Stream = TcpStream> + Wait + Clock>(
-    rt: &H,
-    address: SocketAddr,
-    call: &Call,
-) -> bool {
+/// Whether all have their replies who ask a loop that stands still for longer than a client may be silent.
+pub fn are_answered<
+    H: AllocGlobal + Net<Listener = TcpListener, Stream = TcpStream> + Wait + Clock,
+>(rt: &H, address: SocketAddr, calls: &Calls) -> bool {
     let (Some(crowd), Some(slow)) = (crowd_of(rt, address), connect(rt, address)) else {
         return false;
     };
-    let stands_still = send(&slow, ASK_SLOW) && await_call(rt, &call.called);
+    let stands_still = send(&slow, ASK_SLOW) && calls.slow.is_called(rt);
     let asked = crowd.iter().all(|stream| send(stream, ASK_K));
     thread::sleep(rt, Duration::from_secs(6));
-    call.open.store(true, SeqCst);
+    calls.slow.open();
     stands_still && asked && crowd.iter().all(|stream| has_reply(stream))
 }
 
 #[test]
-fn those_who_ask_a_loop_that_stands_still_are_not_silent(rt: HostRuntime) -> Result<(), Fail> {
-    let call = Call::new();
-    let outside = Outside::new();
+fn those_who_ask_a_loop_that_stands_still_are_not_silent(rt: HostRuntime) {
     let limits = Limits {
         silence: Duration::from_secs(5),
         ..attentive()
     };
-    let plan = plan_of(&rt, 1, 2 * CROWD, 1)?.within(limits);
-    let settings = Settings {
-        fillers: Fillers::Loops,
-        accepts: Some(CROWD as u64 + 1),
-        ..settings_of(&outside, &plan)
-    };
-    let (report, answered) = beside_slow(&rt, &call, &settings, |address| {
-        are_answered(&rt, address, &call)
-    })?;
-    assert!(rt; answered);
-    assert!(rt; has_asked(&report, 2 * (CROWD as u64) + 1));
-    Ok(())
+    let plan = plan_of(1, 2 * CROWD, 1).within(limits);
+    let plan = plan.filling(Some(CROWD as u64 + 1));
+    let expect = Expect::Asked(2 * (CROWD as u64) + 1);
+    let play = play(Kind::Loops, plan, Scene::StandsStill, expect);
+    assert!(rt; is_played(&rt, play));
 }

@@ -1,14 +1,13 @@
 //! Clients that come to a server one after the other, and what each finds.
 
 use super::clients::{connect, drips_in_vain, is_answered, is_answered_last, receives, send};
-use super::plans::{Kind, Plan, plan_of};
-use super::servers::{beside, has_asked};
+use super::plans::{Expect, Kind, plan_of, play};
+use super::scenes::Scene;
+use super::servers::is_played;
 use peer_runtime::{Limits, Network};
-use peer_source::DemoSource;
 use std::net::{Net, SocketAddr, TcpListener, TcpStream};
 use std::random::RandomSource;
 use std::sync::Wait;
-use std::test::Fail;
 use std::thread;
 use std::thread::Threads;
 use std::time::{Clock, Duration};
@@ -75,8 +74,8 @@ fn is_answered_in_halves<H: Network + AllocGlobal>(rt: &H, stream: &TcpStream) -
         && receives(rt.alloc(), stream, FOUND_K_LAST)
 }
 
-// Whether each of these clients finds what it is to find.
-fn all_find<H: Network + AllocGlobal>(rt: &H, address: SocketAddr, visits: &[Visit]) -> bool {
+/// Whether each of these clients finds what it is to find.
+pub fn all_find<H: Network + AllocGlobal>(rt: &H, address: SocketAddr, visits: &[Visit]) -> bool {
     let mut right = true;
     for visit in visits {
         if let Visit::AsksLate(time) = *visit {
@@ -90,47 +89,16 @@ fn all_find<H: Network + AllocGlobal>(rt: &H, address: SocketAddr, visits: &[Vis
     right
 }
 
-/// Whether each of these clients finds what it is to find at a server that serves as the plan says, and whether the server
-/// counted so many requests.
-pub fn serves<H: Net<Listener = TcpListener, Stream = TcpStream> + Threads + Wait + Clock + Sync>(
-    rt: &H,
-    kind: Kind,
-    plan: &Plan,
-    visits: &[Visit],
-    asked: u64,
-) -> Result<[bool; 2], Fail>
-where
-    H: AllocGlobal,
-{
-    let (report, found) = beside(rt, DemoSource, kind, plan, |address| {
-        all_find(rt, address, visits)
-    })?;
-    Ok([found, has_asked(&report, asked)])
-}
-
-// The same of a server in threads, and of one on loops.
-fn both_serve<H: Net<Listener = TcpListener, Stream = TcpStream> + Threads + Wait + Clock + Sync>(
-    rt: &H,
-    plan: &Plan,
-    visits: &[Visit],
-    asked: u64,
-) -> Result<[[bool; 2]; 2], Fail>
-where
-    H: AllocGlobal,
-{
-    Ok([
-        serves(rt, Kind::Seats, plan, visits, asked)?,
-        serves(rt, Kind::Loops, plan, visits, asked)?,
-    ])
-}
-
-/// The same of a server in threads and one on loops, with one connection within these limits, which each of the clients has in turn.
-pub fn serve_within_limits<
+/// Whether each of these clients finds what it is to find at a server in threads and at one on loops, with one connection within
+/// these limits, which each of them has in turn, and whether each server counts so many requests.
+pub fn are_found<
     H: Net<Listener = TcpListener, Stream = TcpStream> + Threads + Wait + Clock + Sync,
->(rt: &H, limits: Limits, visits: &[Visit], asked: u64) -> Result<[[bool; 2]; 2], Fail>
+>(rt: &H, limits: Limits, visits: &[Visit], asked: u64) -> bool
 where
     H: AllocGlobal + RandomSource,
 {
-    let plan = plan_of(rt, 1, 1, visits.len() as u64)?.within(limits);
-    both_serve(rt, &plan, visits, asked)
+    let plan = plan_of(1, 1, visits.len() as u64).within(limits);
+    let (scene, expect) = (Scene::Visits(visits), Expect::Asked(asked));
+    is_played(rt, play(Kind::Seats, plan, scene, expect))
+        && is_played(rt, play(Kind::Loops, plan, scene, expect))
 }
