@@ -6,6 +6,21 @@ use peer_source::{DemoSource, Fill};
 use peer_view::ByteView;
 use std::alloc::{AllocError, Global};
 
+/// An event, at a connection or at a worker.
+#[derive(Clone, Copy)]
+enum Event {
+    Want(usize),
+    PutTicket(usize),
+    PutJob(usize),
+    TakeTicket(usize),
+    SeeOutcome(usize),
+    TakeJob(usize),
+    SetOutcome(usize),
+    Land(usize),
+    // A wish that closes its connection.
+    Close(usize),
+}
+
 // Whether the event happened.
 fn happened(answer: Result<bool, AllocError>) -> bool {
     matches!(answer, Ok(true))
@@ -19,95 +34,67 @@ fn wants(world: &mut World<DemoSource>, alloc: Global, connection: usize, key: &
     }
 }
 
-// Two wishes for one place at connections 0 and 1, and a third at a full hand.
-fn want_thrice(world: &mut World<DemoSource>, alloc: Global, key: &ByteView) -> [bool; 3] {
-    [
-        wants(world, alloc, 0, key),
-        wants(world, alloc, 1, key),
-        wants(world, alloc, 0, key),
-    ]
+// Whether an outcome was set.
+fn sets(world: &mut World<DemoSource>, alloc: Global, worker: usize, key: &ByteView) -> bool {
+    match key.share() {
+        Ok(key) => world.set_outcome(worker, Fill::run(alloc, &DemoSource, ECHO, key)),
+        Err(_) => false,
+    }
 }
 
-// The right is put before the tickets.
-fn put_right(world: &mut World<DemoSource>) -> [bool; 3] {
-    [
-        happened(world.put_ticket(0)),
-        happened(world.put_job(0)),
-        happened(world.put_job(1)),
-    ]
+// Whether this event happened.
+fn happens(world: &mut World<DemoSource>, alloc: Global, key: &ByteView, event: Event) -> bool {
+    match event {
+        Event::Want(connection) => wants(world, alloc, connection, key),
+        Event::PutTicket(connection) => happened(world.put_ticket(connection)),
+        Event::PutJob(connection) => happened(world.put_job(connection)),
+        Event::TakeTicket(connection) => happened(world.take_ticket(connection)),
+        Event::SeeOutcome(connection) => happened(world.see_outcome(connection)),
+        Event::TakeJob(worker) => world.take_job(worker),
+        Event::SetOutcome(worker) => sets(world, alloc, worker, key),
+        Event::Land(worker) => world.land(worker),
+        Event::Close(connection) => happened(world.put_ready(connection, Wish::fault(true))),
+    }
 }
 
-// Whether both tickets go into their lanes.
-fn put_tickets(world: &mut World<DemoSource>) -> [bool; 2] {
-    [happened(world.put_ticket(0)), happened(world.put_ticket(1))]
-}
-
-// The worker takes the job once.
-fn take_once(world: &mut World<DemoSource>) -> [bool; 2] {
-    [world.take_job(0), world.take_job(0)]
-}
-
-// It lands only what it has set, once.
-fn land_once(world: &mut World<DemoSource>, fill: Fill<DemoSource>) -> [bool; 4] {
-    [
-        world.land(0),
-        world.set_outcome(0, fill),
-        world.land(0),
-        world.land(0),
-    ]
-}
-
-// Whether each writer took a ticket.
-fn take_tickets(world: &mut World<DemoSource>) -> [bool; 2] {
-    [
-        happened(world.take_ticket(0)),
-        happened(world.take_ticket(1)),
-    ]
-}
-
-// Whether each writer saw an outcome.
-fn see_outcomes(world: &mut World<DemoSource>) -> [bool; 2] {
-    [
-        happened(world.see_outcome(0)),
-        happened(world.see_outcome(1)),
-    ]
-}
-
-// Whether a wish that closes its connection arrives, and another one after it.
-fn close_twice(world: &mut World<DemoSource>) -> [bool; 2] {
-    [
-        happened(world.put_ready(1, Wish::fault(true))),
-        happened(world.put_ready(1, Wish::fault(true))),
-    ]
-}
-
-// Whether two wishes became one job and two tickets that wait.
-fn reads_go(world: &mut World<DemoSource>, alloc: Global, key: &ByteView) -> bool {
-    want_thrice(world, alloc, key) == [true, true, false]
-        && put_right(world) == [false, true, false]
-        && put_tickets(world) == [true, true]
-        && take_tickets(world) == [true, true]
-        && see_outcomes(world) == [false, false]
-}
-
-// Whether one fill answered both.
-fn writes_go(world: &mut World<DemoSource>, fill: Fill<DemoSource>) -> bool {
-    take_once(world) == [true, false]
-        && land_once(world, fill) == [false, true, true, false]
-        && take_tickets(world) == [false, false]
-        && see_outcomes(world) == [true, true]
-}
+// Two wishes for one place, and a third at a full hand; the right is put before the tickets; the job is taken once, and lands what
+// it has set, once; one outcome answers both; nothing arrives behind a wish that closes.
+const SCHEDULE: [(Event, bool); 24] = [
+    (Event::Want(0), true),
+    (Event::Want(1), true),
+    (Event::Want(0), false),
+    (Event::PutTicket(0), false),
+    (Event::PutJob(0), true),
+    (Event::PutJob(1), false),
+    (Event::PutTicket(0), true),
+    (Event::PutTicket(1), true),
+    (Event::TakeTicket(0), true),
+    (Event::TakeTicket(1), true),
+    (Event::SeeOutcome(0), false),
+    (Event::SeeOutcome(1), false),
+    (Event::TakeJob(0), true),
+    (Event::TakeJob(0), false),
+    (Event::Land(0), false),
+    (Event::SetOutcome(0), true),
+    (Event::Land(0), true),
+    (Event::Land(0), false),
+    (Event::TakeTicket(0), false),
+    (Event::TakeTicket(1), false),
+    (Event::SeeOutcome(0), true),
+    (Event::SeeOutcome(1), true),
+    (Event::Close(1), true),
+    (Event::Close(1), false),
+];
 
 #[test]
 fn two_connections_share_a_flight(rt: HostRuntime) {
     let alloc = rt.alloc();
     let key = ByteView::copy_of(alloc, b"k").expect(&rt, "memory");
-    let share = key.share().expect(&rt, "memory");
-    let fill = Fill::run(alloc, &DemoSource, ECHO, share);
     let mut world: World<DemoSource> = World::new(alloc, 1, 2).expect(&rt, "memory");
-    let read = reads_go(&mut world, alloc, &key);
-    let wrote = writes_go(&mut world, fill);
-    let closed = close_twice(&mut world);
+    let mut right = true;
+    for (event, wanted) in SCHEDULE {
+        right &= happens(&mut world, alloc, &key, event) == wanted;
+    }
     world.law();
-    assert_eq!(rt; (read, wrote, closed), (true, true, [true, false]));
+    assert!(rt; right);
 }

@@ -8,7 +8,5 @@ mod full;
 mod gates;
 mod halves;
 mod numbering;
-mod opening;
-mod refills;
 mod taken;
 mod threads;

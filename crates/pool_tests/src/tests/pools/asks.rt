@@ -1,16 +1,13 @@
 //! What a pool keeps: which asks are hits, what they show, and which value goes first.
-ghost use Rattle.std.specs.Prelude.{◌≡◌};
-
 use super::desk::{Desk, Steps, run};
 use super::numbering::Numbering;
 use crate::tests::values::{ECHO, value_of};
 use peer_fill::{NoGate, Report};
 use peer_flight::Claim;
-use peer_source::{DemoSource, Source};
+use peer_source::Source;
 use std::alloc::Global;
-use std::marker::Brand;
 use std::sync::Wait;
-use std::sync::ledger::{Blank, Ledger};
+use std::sync::ledger::Ledger;
 use test_support::all_called;
 
 /// What five asks gave: which were hits, and the last byte of what each showed, or 0.
@@ -95,76 +92,45 @@ fn expected(shown: Shown, hits: u64, led: u64, calls: u64) -> Option<(Shown, Rep
 }
 
 #[test]
-fn a_pool_with_cache_0_keeps_nothing(rt: HostRuntime) {
-    let seen = six_asks(&rt, rt.alloc(), 0, 0, b"aabba");
-    assert_eq!(rt; seen, expected(([false; 5], *b"12345"), 0, 6, 5));
-}
-
-#[test]
 fn an_error_is_never_kept(rt: HostRuntime) {
     let seen = six_asks(&rt, rt.alloc(), 2, 100, b"kkkkk");
     let hits = [false, false, false, true, true];
     assert_eq!(rt; seen, expected((hits, *b"\0\0333"), 3, 3, 3));
 }
 
+// Two keys have room, or none. The sixth ask is for the last key again.
 #[test]
 fn a_value_is_kept_until_it_is_evicted(rt: HostRuntime) {
-    let first = six_asks(&rt, rt.alloc(), 0, 6, b"abaca");
-    let hits = [false, false, true, false, true];
-    assert_eq!(rt; first, expected((hits, *b"12131"), 3, 3, 3));
-    let second = six_asks(&rt, rt.alloc(), 0, 6, b"kkabk");
-    let hits = [false, true, false, false, false];
-    assert_eq!(rt; second, expected((hits, *b"11234"), 2, 4, 4));
-}
-
-// Asks a stopped pool for a key of one byte, and has its worker run until no job is left: the pool, whether it was a hit, and the
-// last byte that it showed.
-fn ask_and_run<L: Ledger, R: Wait>(
-    rt: &R,
-    desk: Desk<DemoSource, L>,
-    key: u8,
-) -> (Desk<DemoSource, L>, Option<(bool, u8)>) {
-    let mut desk = desk;
-    let claim = desk.ask(rt, ECHO, &[key]);
-    let desk = desk.run_worker(rt);
-    let seen = match &claim {
-        Some(claim) => shown_last(claim),
-        None => None,
-    };
-    drop(claim);
-    (desk, seen)
-}
-
-// What asks for three keys showed, of which two have room, and the report of the pool.
-fn ask_stopped<L: Ledger, R: Wait>(
-    rt: &R,
-    alloc: Global,
-    keys: &[u8; 5],
-    blank: Blank,
-) -> Option<(Shown, Report)>
-    requires name { blank.name ≡ L.name }
-    requires parts { (blank.parts ≡ L.parts) × (blank.parts ≡ 16) }
-{
-    let mut desk = Desk::<DemoSource, L>::open(alloc, DemoSource, 4, blank)?;
-    desk.stop();
-    let mut shown = ([false; 5], [0; 5]);
-    for i in 0..5 {
-        let (next, seen) = ask_and_run(rt, desk, keys[i]);
-        desk = next;
-        (shown.0[i], shown.1[i]) = seen.unwrap_or((false, 0));
+    for (cache_bytes, keys, hits, lasts, counts) in [
+        (0, b"aabba", [false; 5], *b"12345", [0, 6, 5]),
+        (
+            6,
+            b"abaca",
+            [false, false, true, false, true],
+            *b"12131",
+            [3, 3, 3],
+        ),
+        (
+            6,
+            b"kkabk",
+            [false, true, false, false, false],
+            *b"11234",
+            [2, 4, 4],
+        ),
+        (
+            6,
+            b"abcac",
+            [false, false, false, false, true],
+            *b"12343",
+            [2, 4, 4],
+        ),
+    ] {
+        let seen = six_asks(&rt, rt.alloc(), 0, cache_bytes, keys);
+        let [hit, led, calls] = counts;
+        assert_eq!(rt;
+            seen,
+            expected((hits, lasts), hit, led, calls),
+            "of {cache_bytes} bytes"
+        );
     }
-    let report = desk.close(rt)?;
-    Some((shown, report))
-}
-
-// The same over a pool of its own.
-fn asked_stopped<R: Wait>(rt: &R, alloc: Global, keys: &[u8; 5]) -> Option<(Shown, Report)> {
-    ask_stopped::<Brand, R>(rt, alloc, keys, Blank::new(16))
-}
-
-#[test]
-fn the_oldest_value_goes_first(rt: HostRuntime) {
-    let seen = asked_stopped(&rt, rt.alloc(), b"abcac");
-    let hits = [false, false, false, false, true];
-    assert_eq!(rt; seen, expected((hits, *b"abcac"), 1, 4, 4));
 }

@@ -4,7 +4,7 @@ ghost use Rattle.peer_view.specs.Sinks.{MAX_VALUE};
 
 use super::desk::{Desk, Steps, run};
 use super::numbering::Numbering;
-use crate::tests::values::{ECHO, is_shown_by, value_of};
+use crate::tests::values::{ECHO, is_shown_by};
 use bytes::Bytes;
 use peer_fill::{Gate, Report, TakenJob};
 use peer_flight::Claim;
@@ -93,8 +93,6 @@ struct Seen {
     gate: [u64; 2],
     // How many jobs were filled of three, at most two, and then all that were left.
     filled: [usize; 3],
-    // Whether a job that was filled by a call shows its value, and the caches keep it.
-    called: [bool; 2],
 }
 
 // Takes the jobs of two claims, and finishes the second one first.
@@ -132,39 +130,6 @@ fn work_off<L: Ledger, R: Wait>(
     [two, one, desk.work(rt, 2, gate)]
 }
 
-// Takes a job, and has it filled by a call of the source.
-fn fill_taken<L: Ledger, R: Wait>(rt: &R, desk: &mut Desk<Numbering, L>, gate: &Counting) {
-    if let Some(job) = desk.take_job(rt, gate) {
-        let fill = &mut desk.seats.fill;
-        desk.pool.fill_job(rt, desk.alloc, fill, job, gate);
-    }
-}
-
-// Whether the claim shows a value of its source.
-fn shows_six(claim: &Claim<Numbering>) -> bool {
-    let mut note = claim.note();
-    match claim.look(&mut note) {
-        Some(fill) => value_of(fill).starts_with(b"six") && value_of(fill).len() == 4,
-        None => false,
-    }
-}
-
-// Takes the job of a flight, and has it filled by a call of the source. Whether its value is shown, and is kept where the
-// caches may keep it.
-fn fill_one<L: Ledger, R: Wait>(
-    rt: &R,
-    desk: &mut Desk<Numbering, L>,
-    gate: &Counting,
-) -> Option<[bool; 2]> {
-    let before = desk.pool.cached_bytes(rt);
-    let claim = desk.ask(rt, ECHO, b"six")?;
-    fill_taken(rt, desk, gate);
-    let is_called = shows_six(&claim);
-    drop(claim);
-    let is_kept = desk.pool.cached_bytes(rt) == before.saturating_add(7);
-    Some([is_called, is_kept])
-}
-
 // Whether an ask for the second key that was brought is a hit.
 fn hits<L: Ledger, R: Wait>(rt: &R, desk: &mut Desk<Numbering, L>) -> bool {
     let claim = desk.ask(rt, ECHO, b"two");
@@ -173,7 +138,7 @@ fn hits<L: Ledger, R: Wait>(rt: &R, desk: &mut Desk<Numbering, L>) -> bool {
     is_hit
 }
 
-/// Asks for two keys whose values are brought, and then for four that are filled.
+/// Asks for two keys whose values are brought, and then for three that are filled.
 struct Brings;
 
 impl Steps for Brings {
@@ -192,7 +157,6 @@ impl Steps for Brings {
         drop(claims);
         let hit = hits(rt, desk);
         let filled = work_off(rt, desk, &gate);
-        let called = fill_one(rt, desk, &gate)?;
         Some(Seen {
             none: [is_empty, is_last],
             own,
@@ -200,7 +164,6 @@ impl Steps for Brings {
             hit,
             gate: [gate.before.load(SeqCst), gate.after.load(SeqCst)],
             filled,
-            called,
         })
     }
 }
@@ -220,26 +183,21 @@ fn expected(hit: bool, filled: [usize; 3], led: u64) -> Option<(Seen, Report)> {
         hit,
         gate: [led, led],
         filled,
-        called: [true, hit],
     };
     let report = Report {
         hits: u64::from(hit),
         led,
         calls: led,
-        ..all_called(7)
+        ..all_called(6)
     };
     Some((seen, report))
 }
 
+// Where nothing is kept, the key is asked for again behind its flight, which landed: a new one is led.
 #[test]
 fn a_value_that_is_brought_is_shown_told_and_kept(rt: HostRuntime) {
-    let found = with_brought(&rt, rt.alloc(), 1000);
-    assert_eq!(rt; found, expected(true, [2, 1, 0], 6));
-}
-
-// The key is asked for again behind its flight, which landed: a new one is led.
-#[test]
-fn a_flight_whose_answer_was_brought_has_landed(rt: HostRuntime) {
-    let found = with_brought(&rt, rt.alloc(), 0);
-    assert_eq!(rt; found, expected(false, [2, 2, 0], 7));
+    for (cache_bytes, hit, filled, led) in [(1000, true, [2, 1, 0], 5), (0, false, [2, 2, 0], 6)] {
+        let found = with_brought(&rt, rt.alloc(), cache_bytes);
+        assert_eq!(rt; found, expected(hit, filled, led), "of {cache_bytes} bytes");
+    }
 }

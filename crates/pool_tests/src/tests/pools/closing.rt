@@ -1,4 +1,4 @@
-//! How a pool is closed: with seats missing it comes back, and with all seats it tells what three asks for a key counted.
+//! How a pool is closed: it tells what three asks for a key counted.
 ghost use Rattle.std.specs.Prelude.{◌≡◌};
 
 use super::desk::Desk;
@@ -59,28 +59,17 @@ fn asked_thrice<R: Wait>(rt: &R, alloc: Global, calls: &AtomicU64) -> Option<([b
     ask_thrice::<Brand, R>(rt, alloc, calls, Blank::new(16))
 }
 
-// The report of the three asks. The third one led a flight whose job was left.
-fn report_of_three() -> Report {
-    Report {
+// The third ask led a flight whose job was left.
+#[test]
+fn two_seats_share_one_call(rt: HostRuntime) {
+    let calls = AtomicU64::new(0);
+    let report = Report {
         led: 2,
         joined: 1,
         calls: 1,
         left: 1,
         ..all_called(3)
-    }
-}
-
-#[test]
-fn a_pool_that_lacks_seats_comes_back_and_is_closed_with_all(rt: HostRuntime) {
-    let calls = AtomicU64::new(0);
+    };
     let seen = asked_thrice(&rt, rt.alloc(), &calls);
-    assert_eq!(rt; seen, Some(([true; 2], report_of_three())));
-}
-
-#[test]
-fn two_seats_share_one_call(rt: HostRuntime) {
-    let calls = AtomicU64::new(0);
-    let seen = asked_thrice(&rt, rt.alloc(), &calls);
-    let shown = seen.map(|(shown, _report)| shown);
-    assert_eq!(rt; (shown, calls.load(SeqCst)), (Some([true; 2]), 1));
+    assert_eq!(rt; (seen, calls.load(SeqCst)), (Some(([true; 2], report)), 1));
 }

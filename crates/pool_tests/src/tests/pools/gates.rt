@@ -114,28 +114,18 @@ fn seen<L: Ledger + Send + Sync, R: Wait>(
     Some((shown, counts))
 }
 
+// Where values are kept, the one that was found is in its cache by then.
 #[test]
 fn a_flight_is_open_until_its_fill_was_put(rt: HostRuntime) {
-    let seen = seen::<Brand, HostRuntime>(&rt, rt.alloc(), 0, Blank::new(16));
-    let counts = Counts {
-        hits: 0,
-        led: 0,
-        joined: 2,
-        calls: 1,
-        rehits: 0,
-    };
-    assert_eq!(rt; seen, Some(([true; 2], counts)));
-}
-
-#[test]
-fn a_value_is_in_its_cache_before_its_fill_is_put(rt: HostRuntime) {
-    let seen = seen::<Brand, HostRuntime>(&rt, rt.alloc(), 6, Blank::new(16));
-    let counts = Counts {
-        hits: 1,
-        led: 0,
-        joined: 1,
-        calls: 1,
-        rehits: 0,
-    };
-    assert_eq!(rt; seen, Some(([true; 2], counts)));
+    for (cache_bytes, hits, joined) in [(0, 0, 2), (6, 1, 1)] {
+        let seen = seen::<Brand, HostRuntime>(&rt, rt.alloc(), cache_bytes, Blank::new(16));
+        let counts = Counts {
+            hits,
+            led: 0,
+            joined,
+            calls: 1,
+            rehits: 0,
+        };
+        assert_eq!(rt; seen, Some(([true; 2], counts)), "of {cache_bytes} bytes");
+    }
 }
