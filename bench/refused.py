@@ -41,9 +41,6 @@ RUNS_AT_ALL = 3  # runs without a refusal in a row, where threads decide how man
 CALLS_REFUSED = [
     ("copy_of", False),
     ("share", False),
-    ("slice", False),
-    ("slice_from", False),
-    ("to_vec", False),
     ("to_text", False),
     ("alloc_sink_bytes", False),
     ("alloc_sink_str", False),
@@ -71,14 +68,11 @@ CALLS_REFUSED = [
     ("want_joined", False),
     ("want_many", False),
     ("flight_share", False),
-    ("place_of", False),
-    ("place_share", False),
     ("pool_open", False),
     ("ask_led", False),
     ("ask_joined", False),
     ("ask_hit", False),
     ("run_worker", True),
-    ("refill", False),
     ("talk_whole", False),
     ("talk_pieces", False),
     ("talk_many", False),
@@ -97,7 +91,7 @@ CALLS_WITHOUT = ["without_views", "without_sinks", "without_devices", "without_s
                  "without_replies", "without_flights", "without_pool", "without_lane"]
 
 # the other names that --only takes
-OTHERS = ["peer_server_first", "refused_once", "peer_pipe", "peer_serve", "threads"]
+OTHERS = ["peer_server_first", "peer_pipe", "peer_serve", "threads"]
 NAMES = {name for name, _ in CALLS_REFUSED} | set(CALLS_WITHOUT) | set(OTHERS)
 
 THREE = b"".join(b"GET /_groupcache/echo/%c HTTP/1.1\r\nHost: h\r\n\r\n" % key for key in b"abc")
@@ -216,15 +210,11 @@ def without_memory(tools, only):
 
 
 def one_by_itself(tools, only):
-    """Calls of which not every growth is tried: the pool's first, and a source that asks for what cannot be had."""
+    """A call of which not every growth is tried: the pool's first."""
     if not only or only == "peer_server_first":
         word = tools.call("peer_server_first", 1, 1)
         judge("peer_server_first", word, tools.page.get("refused"), False, "growth 1")
         print(f"peer_server_first: {word} by the pool", flush=True)
-    if not only or only == "refused_once":
-        word = tools.call("refused_once", ALWAYS, ALWAYS)
-        judge("refused_once", word, True, False, "its source's own")
-        print(f"refused_once: {word}, and filled afterwards", flush=True)
 
 
 def is_whole(output):

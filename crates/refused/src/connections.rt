@@ -96,8 +96,8 @@ fn serve_counted<S: Source + Send + Sync, L: Ledger + Send + Sync, H: Threads + 
     (conn, served)
 }
 
-/// Serves the three requests over a pool, beside its worker.
-pub fn serve_beside<S: Source + Send + Sync, L: Ledger + Send + Sync, H: Threads + Wait + Sync>(
+// Serves the three requests over a pool, beside its worker.
+fn serve_beside<S: Source + Send + Sync, L: Ledger + Send + Sync, H: Threads + Wait + Sync>(
     lent: &Lent<'_, S, L, H>,
     seats: LentSeats<S, L>,
 ) -> Option<(LentSeats<S, L>, Served<MemReader, MemWriter>)>

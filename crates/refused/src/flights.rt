@@ -1,9 +1,9 @@
-//! The table of open flights, flights and their places.
+//! The table of open flights, and flights.
 
 use crate::seen::Seen;
 use crate::sources::ECHO;
 use crate::window;
-use peer_flight::{Ask, AskFault, FillRight, Flight, Place, Table};
+use peer_flight::{Ask, AskFault, FillRight, Flight, Table};
 use peer_source::DemoSource;
 use peer_view::ByteView;
 use std::alloc::{AllocError, Global};
@@ -146,47 +146,4 @@ pub fn flight_share(alloc: Global) -> Option<Seen> {
     let (flight, _right) = lead(alloc, &mut table)?;
     let seen = share_seen(alloc, &flight);
     Some(seen.only_if(is_first(&flight), "the flight changed"))
-}
-
-// Whether a place is that of the key `k`.
-fn is_place(place: &Place) -> bool {
-    place.group() == ECHO && place.key().eq_bytes(b"k")
-}
-
-// What was seen of a place that was given.
-fn place_seen(given: &Result<Place, AllocError>) -> Seen {
-    match given {
-        Ok(place) => Seen::Answered.only_if(is_place(place), "another place"),
-        Err(AllocError) => Seen::Refused,
-    }
-}
-
-// `Place::of`, with growths counted.
-fn place_counted(alloc: Global, key: &ByteView) -> Result<Place, AllocError> {
-    window::begin(alloc);
-    let place = Place::of(ECHO, key);
-    window::end(alloc);
-    place
-}
-
-/// `Place::of`.
-pub fn place_of(alloc: Global) -> Option<Seen> {
-    let key = ByteView::copy_of(alloc, b"k").ok()?;
-    let seen = place_seen(&place_counted(alloc, &key));
-    Some(seen.only_if(key.eq_bytes(b"k"), "the key changed"))
-}
-
-// The place of the key `k`.
-fn place(alloc: Global) -> Option<Place> {
-    let key = ByteView::copy_of(alloc, b"k").ok()?;
-    Place::of(ECHO, &key).ok()
-}
-
-/// `Place::share`.
-pub fn place_share(alloc: Global) -> Option<Seen> {
-    let place = place(alloc)?;
-    window::begin(alloc);
-    let shared = place.share();
-    window::end(alloc);
-    Some(place_seen(&shared).only_if(is_place(&place), "the place changed"))
 }

@@ -10,7 +10,6 @@ mod flights;
 mod heads;
 mod lent;
 mod pools;
-mod refusing;
 mod seen;
 mod servers;
 mod sources;
@@ -30,6 +29,8 @@ use crate::sources::{ECHO, FILL, SQUARE};
 use crate::talks::Talk;
 use crate::uses::{Call, over_pool};
 use crate::views::Set;
+use crate::without::Without;
+use peer_source::GroupId;
 use std::alloc::Global;
 use std::env;
 use std::process::ExitCode;
@@ -63,12 +64,11 @@ fn name_of(rt: &HostRuntime) -> Option<String> {
 }
 
 /// The calls over a pool with one worker and one connection.
-const OVER_POOL: [(&str, Call); 14] = [
+const OVER_POOL: [(&str, Call); 13] = [
     ("ask_led", Call::Ask(Before::Nothing)),
     ("ask_joined", Call::Ask(Before::Ask)),
     ("ask_hit", Call::Ask(Before::Fill)),
     ("run_worker", Call::Work),
-    ("refill", Call::Refill),
     ("serve_connection", Call::Connection),
     ("talk_whole", Call::Talk(Talk::Whole)),
     ("talk_pieces", Call::Talk(Talk::Pieces)),
@@ -78,6 +78,80 @@ const OVER_POOL: [(&str, Call); 14] = [
     ("talk_escaped", Call::Talk(Talk::Escaped)),
     ("talk_long", Call::Talk(Talk::Long)),
     ("talk_closing", Call::Talk(Talk::Closing)),
+];
+
+/// A call of one value, and those that take no memory.
+#[derive(Clone, Copy)]
+enum One {
+    CopyOf,
+    Share,
+    ToText,
+    AllocSink(Set),
+    ViewSink(Set),
+    /// A fill of this group and key, which has this value or error.
+    Fill(GroupId, &'static [u8], &'static [u8]),
+    FillShare,
+    CacheNew,
+    CacheGet,
+    CacheAdd,
+    CacheGrows,
+    /// A want of a place that is open, or is not.
+    Want(bool),
+    WantMany,
+    FlightShare,
+    HeadBuf,
+    Locate,
+    WishOf,
+    WishOfNoGroup,
+    Lane,
+    ReadTable,
+    TableFound,
+    TableMissing,
+    Serve(Alone),
+    Without(Without),
+}
+
+const ONES: [(&str, One); 40] = [
+    ("copy_of", One::CopyOf),
+    ("share", One::Share),
+    ("to_text", One::ToText),
+    ("alloc_sink_bytes", One::AllocSink(Set::Bytes)),
+    ("alloc_sink_str", One::AllocSink(Set::Text)),
+    ("alloc_sink_view", One::AllocSink(Set::View)),
+    ("view_sink_bytes", One::ViewSink(Set::Bytes)),
+    ("view_sink_str", One::ViewSink(Set::Text)),
+    ("view_sink_view", One::ViewSink(Set::View)),
+    ("fill_found", One::Fill(ECHO, b"k", b"k")),
+    ("fill_failed", One::Fill(SQUARE, b"x", b"not a number")),
+    ("fill_letters", One::Fill(FILL, b"3", b"xxx")),
+    ("fill_share", One::FillShare),
+    ("cache_new", One::CacheNew),
+    ("cache_get", One::CacheGet),
+    ("cache_add", One::CacheAdd),
+    ("cache_grows", One::CacheGrows),
+    ("want_led", One::Want(false)),
+    ("want_joined", One::Want(true)),
+    ("want_many", One::WantMany),
+    ("flight_share", One::FlightShare),
+    ("head_buf", One::HeadBuf),
+    ("locate", One::Locate),
+    ("wish_of", One::WishOf),
+    ("wish_of_no_group", One::WishOfNoGroup),
+    ("lane", One::Lane),
+    ("read_table", One::ReadTable),
+    ("table_found", One::TableFound),
+    ("table_missing", One::TableMissing),
+    ("serve_serial", One::Serve(Alone::Serial)),
+    ("serve_functional", One::Serve(Alone::Functional)),
+    ("without_views", One::Without(Without::Views)),
+    ("without_sinks", One::Without(Without::Sinks)),
+    ("without_devices", One::Without(Without::Devices)),
+    ("without_sources", One::Without(Without::Sources)),
+    ("without_caches", One::Without(Without::Caches)),
+    ("without_heads", One::Without(Without::Heads)),
+    ("without_replies", One::Without(Without::Replies)),
+    ("without_flights", One::Without(Without::Flights)),
+    ("without_lane", One::Without(Without::Lanes)),
 ];
 
 // The call over a pool that has this name.
@@ -90,74 +164,57 @@ fn call_of(name: &str) -> Option<Call> {
     None
 }
 
+// The call of one value that has this name.
+fn one_of(name: &str) -> Option<One> {
+    for (known, one) in &ONES {
+        if *known == name {
+            return Some(*one);
+        }
+    }
+    None
+}
+
 // What the call of this name does, or none where memory is refused before it.
 fn see<H: Threads + Wait + Sync>(rt: &H, alloc: Global, name: &str) -> Option<Seen> {
-    match call_of(name) {
-        Some(call) => over_pool(rt, alloc, call),
-        None => match name {
-            "pool_open" => pools::open_one(rt, alloc),
-            "refused_once" => refusing::refused_once(rt, alloc),
-            "without_pool" => without::pool(rt, alloc),
-            "serve_serial" => connections::in_one_thread(alloc, Alone::Serial),
-            "serve_functional" => connections::in_one_thread(alloc, Alone::Functional),
-            _ => see_alone(alloc, name),
-        },
+    if let Some(call) = call_of(name) {
+        return over_pool(rt, alloc, call);
+    }
+    if let Some(one) = one_of(name) {
+        return see_one(alloc, one);
+    }
+    match name {
+        "pool_open" => pools::open_one(rt, alloc),
+        "without_pool" => without::pool(rt, alloc),
+        _ => Some(Seen::Wrong("no such call")),
     }
 }
 
 // The same for the calls of one value.
-fn see_alone(alloc: Global, name: &str) -> Option<Seen> {
-    match name {
-        "copy_of" => views::copy_of(alloc),
-        "share" => views::share(alloc),
-        "slice" => views::slice(alloc),
-        "slice_from" => views::slice_from(alloc),
-        "to_vec" => views::to_vec(alloc),
-        "to_text" => views::to_text(alloc),
-        "alloc_sink_bytes" => views::alloc_sink(alloc, Set::Bytes),
-        "alloc_sink_str" => views::alloc_sink(alloc, Set::Text),
-        "alloc_sink_view" => views::alloc_sink(alloc, Set::View),
-        "view_sink_bytes" => views::view_sink(alloc, Set::Bytes),
-        "view_sink_str" => views::view_sink(alloc, Set::Text),
-        "view_sink_view" => views::view_sink(alloc, Set::View),
-        "fill_found" => sources::run(alloc, ECHO, b"k", b"k"),
-        "fill_failed" => sources::run(alloc, SQUARE, b"x", b"not a number"),
-        "fill_letters" => sources::run(alloc, FILL, b"3", b"xxx"),
-        "fill_share" => sources::share(alloc),
-        "cache_new" => sources::cache_new(alloc),
-        "cache_get" => sources::cache_get(alloc),
-        "cache_add" => sources::cache_add(alloc),
-        "cache_grows" => sources::cache_grows(alloc),
-        "want_led" => flights::want_one(alloc, false),
-        "want_joined" => flights::want_one(alloc, true),
-        "want_many" => flights::want_many(alloc),
-        "flight_share" => flights::flight_share(alloc),
-        "place_of" => flights::place_of(alloc),
-        "place_share" => flights::place_share(alloc),
-        "head_buf" => heads::head_buf(alloc),
-        "locate" => heads::locate_escaped(alloc),
-        "wish_of" => heads::wish_escaped(alloc),
-        "wish_of_no_group" => heads::wish_no_group(alloc),
-        "lane" => heads::lane_new(alloc),
-        "read_table" => tables::read_table(alloc),
-        "table_found" => tables::found(alloc),
-        "table_missing" => tables::missing(alloc),
-        _ => see_without(alloc, name),
-    }
-}
-
-// The same for the calls that take no memory.
-fn see_without(alloc: Global, name: &str) -> Option<Seen> {
-    match name {
-        "without_views" => without::views(alloc),
-        "without_sinks" => without::sinks(alloc),
-        "without_devices" => without::devices(alloc),
-        "without_sources" => without::sources(alloc),
-        "without_caches" => without::caches(alloc),
-        "without_heads" => without::heads(alloc),
-        "without_replies" => without::replies(alloc),
-        "without_flights" => without::flights(alloc),
-        "without_lane" => without::lanes(alloc),
-        _ => Some(Seen::Wrong("no such call")),
+fn see_one(alloc: Global, one: One) -> Option<Seen> {
+    match one {
+        One::CopyOf => views::copy_of(alloc),
+        One::Share => views::share(alloc),
+        One::ToText => views::to_text(alloc),
+        One::AllocSink(set) => views::alloc_sink(alloc, set),
+        One::ViewSink(set) => views::view_sink(alloc, set),
+        One::Fill(group, key, wanted) => sources::run(alloc, group, key, wanted),
+        One::FillShare => sources::share(alloc),
+        One::CacheNew => sources::cache_new(alloc),
+        One::CacheGet => sources::cache_get(alloc),
+        One::CacheAdd => sources::cache_add(alloc),
+        One::CacheGrows => sources::cache_grows(alloc),
+        One::Want(open) => flights::want_one(alloc, open),
+        One::WantMany => flights::want_many(alloc),
+        One::FlightShare => flights::flight_share(alloc),
+        One::HeadBuf => heads::head_buf(alloc),
+        One::Locate => heads::locate_escaped(alloc),
+        One::WishOf => heads::wish_escaped(alloc),
+        One::WishOfNoGroup => heads::wish_no_group(alloc),
+        One::Lane => heads::lane_new(alloc),
+        One::ReadTable => tables::read_table(alloc),
+        One::TableFound => tables::found(alloc),
+        One::TableMissing => tables::missing(alloc),
+        One::Serve(call) => connections::in_one_thread(alloc, call),
+        One::Without(calls) => without::see(alloc, calls),
     }
 }

@@ -26,6 +26,35 @@ use std::thread::Threads;
 
 const TEXT: &[u8] = b"what was there";
 
+/// Calls that take no memory, by what they are of.
+#[derive(Clone, Copy)]
+pub enum Without {
+    Views,
+    Sinks,
+    Devices,
+    Sources,
+    Caches,
+    Heads,
+    Replies,
+    Flights,
+    Lanes,
+}
+
+/// What these calls do.
+pub fn see(alloc: Global, calls: Without) -> Option<Seen> {
+    match calls {
+        Without::Views => views(alloc),
+        Without::Sinks => sinks(alloc),
+        Without::Devices => devices(alloc),
+        Without::Sources => sources(alloc),
+        Without::Caches => caches(alloc),
+        Without::Heads => heads(alloc),
+        Without::Replies => replies(alloc),
+        Without::Flights => flights(alloc),
+        Without::Lanes => lanes(alloc),
+    }
+}
+
 // That all of these hold.
 fn all(held: &[bool]) -> Option<Seen> {
     Some(Seen::Answered.only_if(held.iter().all(|one| *one), "another answer"))
@@ -55,8 +84,8 @@ fn view_calls(alloc: Global, view: &ByteView, same: &ByteView) -> Option<Seen> {
     all(&held)
 }
 
-/// The calls of views.
-pub fn views(alloc: Global) -> Option<Seen> {
+// The calls of views.
+fn views(alloc: Global) -> Option<Seen> {
     let view = ByteView::copy_of(alloc, TEXT).ok()?;
     let same = ByteView::copy_of(alloc, TEXT).ok()?;
     view_calls(alloc, &view, &same)
@@ -79,16 +108,16 @@ fn sink_calls(alloc: Global, lent: &mut ByteView, view: &ByteView) -> [bool; 4] 
     [empty, one, three, same]
 }
 
-/// The calls of sinks.
-pub fn sinks(alloc: Global) -> Option<Seen> {
+// The calls of sinks.
+fn sinks(alloc: Global) -> Option<Seen> {
     let mut lent = ByteView::copy_of(alloc, TEXT).ok()?;
     let view = ByteView::copy_of(alloc, TEXT).ok()?;
     let [empty, one, three, same] = sink_calls(alloc, &mut lent, &view);
     all(&[empty, one, three, same, lent.eq_bytes(TEXT)])
 }
 
-/// The calls of readers and writers in memory.
-pub fn devices(alloc: Global) -> Option<Seen> {
+// The calls of readers and writers in memory.
+fn devices(alloc: Global) -> Option<Seen> {
     let pieces = pieces_of(alloc, TEXT)?;
     let mut room = [0u8; 4];
     window::begin(alloc);
@@ -100,8 +129,8 @@ pub fn devices(alloc: Global) -> Option<Seen> {
     all(&[read, none, room.as_slice() == b"what".as_slice()])
 }
 
-/// The calls of sources, names and fills.
-pub fn sources(alloc: Global) -> Option<Seen> {
+// The calls of sources, names and fills.
+fn sources(alloc: Global) -> Option<Seen> {
     let fill = fill_of(alloc, ECHO, b"k")?;
     window::begin(alloc);
     let names = Names::of(&DemoSource);
@@ -118,8 +147,8 @@ pub fn sources(alloc: Global) -> Option<Seen> {
     all(&held)
 }
 
-/// The calls of caches.
-pub fn caches(alloc: Global) -> Option<Seen> {
+// The calls of caches.
+fn caches(alloc: Global) -> Option<Seen> {
     let cache = cache_with(alloc, b"ab")?;
     window::begin(alloc);
     let held = [cache.len() == 2, cache.bytes() == 4, !cache.is_empty()];
@@ -151,8 +180,8 @@ fn is_place(alloc: Global, target: &[u8]) -> bool {
     }
 }
 
-/// The calls of heads, and of targets without an escape.
-pub fn heads(alloc: Global) -> Option<Seen> {
+// The calls of heads, and of targets without an escape.
+fn heads(alloc: Global) -> Option<Seen> {
     let mut held = HeadBuf::new(alloc).ok()?;
     let mut reader = reader_of(alloc, THREE)?;
     window::begin(alloc);
@@ -200,8 +229,8 @@ fn gives(room: &mut HeadRoom, fill: &Fill<DemoSource>, text: Option<&[u8]>) -> b
     }
 }
 
-/// The calls of replies.
-pub fn replies(alloc: Global) -> Option<Seen> {
+// The calls of replies.
+fn replies(alloc: Global) -> Option<Seen> {
     let fill = fill_of(alloc, ECHO, b"a")?;
     let key = ByteView::copy_of(alloc, b"a").ok()?;
     let unanswered = Fill::<DemoSource>::unanswered(ECHO, key);
@@ -243,8 +272,8 @@ fn land(
     [empty, none, own, put.kept, found, named, open, landed]
 }
 
-/// The calls of a flight and of its table.
-pub fn flights(alloc: Global) -> Option<Seen> {
+// The calls of a flight and of its table.
+fn flights(alloc: Global) -> Option<Seen> {
     let fill = fill_of(alloc, ECHO, b"k")?;
     let mut table = Table::<DemoSource>::new(alloc);
     let (flight, right) = lead(alloc, &mut table)?;
@@ -328,8 +357,8 @@ fn takes(taken: &mut LaneOut<DemoSource>) -> bool
     is_closing(taken.take())
 }
 
-/// The calls of a lane.
-pub fn lanes(alloc: Global) -> Option<Seen> {
+// The calls of a lane.
+fn lanes(alloc: Global) -> Option<Seen> {
     let Ok((mut put, mut taken)) = lane::<DemoSource>(alloc) else {
         return None;
     };

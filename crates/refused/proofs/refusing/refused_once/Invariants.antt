@@ -1,4 +1,0 @@
-use Rattle.refused.proofs.refusing.refused_once.Given as goal
-
-abbrev pub ghosts-over_ledger : goal.ghosts-over_ledger
-ghosts-over_ledger g a = record { name = a.blank.name; parts = a.blank.parts }
