@@ -2,7 +2,7 @@
 
 use super::calls::Calls;
 use super::clients::{connect, receive, send};
-use super::plans::{BOTH, Expect, Held, Kind, plan_of, play};
+use super::plans::{BOTH, Expect, Held, Kind, plan_of, play_of};
 use super::scenes::Scene;
 use super::servers::is_played;
 use std::alloc::Global;
@@ -62,7 +62,7 @@ pub fn ask_each<H: AllocGlobal + Net<Listener = TcpListener, Stream = TcpStream>
 fn a_fill_comes_at_each_moment_of_falling_asleep(rt: HostRuntime) {
     let plan = plan_of(1, 1, 1).holding(Held::Longer);
     for kind in BOTH {
-        let play = play(
+        let play = play_of(
             kind,
             plan,
             Scene::AskEach(MOMENTS),
@@ -146,19 +146,19 @@ fn clients_ask_for_many_keys_at_once(rt: HostRuntime) {
     let crowd = plan_of(1, 100, 1).filling(Some(6));
     let one = plan_of(1, 1, 1).filling(Some(1));
     for (what, play) in [
-        ("seats", play(Kind::Seats, plan, Scene::SixAsk(0), asked)),
-        ("loops", play(Kind::Loops, plan, Scene::SixAsk(0), asked)),
+        ("seats", play_of(Kind::Seats, plan, Scene::SixAsk(0), asked)),
+        ("loops", play_of(Kind::Loops, plan, Scene::SixAsk(0), asked)),
         (
             "a loop that fills",
-            play(Kind::Loops, crowd, Scene::SixAsk(1_000), asked),
+            play_of(Kind::Loops, crowd, Scene::SixAsk(1_000), asked),
         ),
         (
             "three loops that fill",
-            play(Kind::Loops, crowd.on_loops(3), Scene::SixAsk(1_000), asked),
+            play_of(Kind::Loops, crowd.on_loops(3), Scene::SixAsk(1_000), asked),
         ),
         (
             "a loop that fills for one",
-            play(
+            play_of(
                 Kind::Loops,
                 one,
                 Scene::AskEach(300),
@@ -220,7 +220,7 @@ fn more_clients_ask_than_the_queue_has_room_for(rt: HostRuntime) {
     ] {
         let plan = plan_of(1, clients, 1).holding(Held::Numbers);
         let scene = Scene::EachAsks(clients as u32, keys);
-        let play = play(kind, plan, scene, Expect::Asked(asked));
+        let play = play_of(kind, plan, scene, Expect::Asked(asked));
         assert!(rt; is_played(&rt, play), "at {kind:?}");
     }
 }

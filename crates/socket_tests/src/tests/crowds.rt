@@ -1,6 +1,6 @@
 //! Whom a server keeps and whom it gives up, by how many of its seats are taken.
 
-use super::plans::{Expect, Kind, Plan, Play, attentive, plan_of, play};
+use super::plans::{Expect, Kind, Plan, Play, attentive, plan_of, play_of};
 use super::scenes::Scene;
 use super::servers::is_played;
 use super::visits::Visit;
@@ -27,7 +27,7 @@ fn request_when_full(milliseconds: u64) -> Limits {
 // The play of a server in threads.
 fn crowd(plan: Plan, limits: Limits, visits: &[Visit], asked: u64) -> Play<'_> {
     let (scene, expect) = (Scene::Visits(visits), Expect::Asked(asked));
-    play(Kind::Seats, plan.within(limits), scene, expect)
+    play_of(Kind::Seats, plan.within(limits), scene, expect)
 }
 
 // The client that is answered sends for longer than one may that gets no reply, and is answered meanwhile.

@@ -1,7 +1,7 @@
 //! The caches of several groups.
 
 use super::clients::{exchange, is_served, is_text};
-use super::plans::{BOTH, Expect, plan_of, play};
+use super::plans::{BOTH, Expect, plan_of, play_of};
 use super::scenes::Scene;
 use super::servers::is_played;
 use peer_fill::Report;
@@ -36,7 +36,7 @@ fn each_group_keeps_its_value(rt: HostRuntime) {
     });
     for kind in BOTH {
         let plan = plan_of(1, 1, 4).caching(1000);
-        let play = play(kind, plan, Scene::AskGroups, counted);
+        let play = play_of(kind, plan, Scene::AskGroups, counted);
         assert!(rt; is_played(&rt, play), "at {kind:?}");
     }
 }

@@ -1,7 +1,7 @@
 //! Clients that a server gives up, of each server.
 
 use super::clients::{connect, is_served, send};
-use super::plans::{Expect, Kind, attentive, plan_of, play};
+use super::plans::{Expect, Kind, attentive, plan_of, play_of};
 use super::scenes::Scene;
 use super::servers::is_played;
 use super::visits::{Visit, are_found};
@@ -99,7 +99,7 @@ fn a_client_that_takes_nothing_is_closed(rt: HostRuntime) {
         (Kind::Seats, 8, Expect::Asked(9)),
         (Kind::Loops, 64, Expect::Ends),
     ] {
-        let play = play(kind, plan, Scene::BesideGreedy(count), expect);
+        let play = play_of(kind, plan, Scene::BesideGreedy(count), expect);
         assert!(rt; is_played(&rt, play), "at {kind:?}");
     }
 }

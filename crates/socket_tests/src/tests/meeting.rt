@@ -2,7 +2,7 @@
 
 use super::calls::{ASK_SLOW, Calls};
 use super::clients::{connect, has_value, is_answered_last, send};
-use super::plans::{Expect, Kind, plan_of, play};
+use super::plans::{Expect, Kind, plan_of, play_of};
 use super::scenes::Scene;
 use super::servers::is_played;
 use std::net::{Net, SocketAddr, TcpListener, TcpStream};
@@ -40,7 +40,7 @@ fn a_fill_waits_for_that_of_another_connection(rt: HostRuntime) {
         (Kind::Loops, false),
     ] {
         let scene = Scene::AskBoth(later_first);
-        let play = play(kind, plan_of(2, 2, 1), scene, Expect::Asked(2));
+        let play = play_of(kind, plan_of(2, 2, 1), scene, Expect::Asked(2));
         assert!(rt; is_played(&rt, play), "at {kind:?} {later_first:?}");
     }
 }

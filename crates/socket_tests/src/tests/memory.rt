@@ -2,7 +2,7 @@
 
 use super::calls::Calls;
 use super::clients::{connect, is_answered, send};
-use super::plans::{Expect, Kind, attentive, plan_of, play};
+use super::plans::{Expect, Kind, attentive, plan_of, play_of};
 use super::scenes::Scene;
 use super::servers::is_played;
 use std::alloc::{AllocError, Global};
@@ -97,6 +97,6 @@ pub fn is_narrowed<H: AllocGlobal + Net<Listener = TcpListener, Stream = TcpStre
 #[test]
 fn a_client_is_asked_for_one_value_where_others_hold_too_much(rt: HostRuntime) {
     let plan = plan_of(8, 2, 1).within(attentive());
-    let play = play(Kind::Loops, plan, Scene::Narrowed, Expect::Ends);
+    let play = play_of(Kind::Loops, plan, Scene::Narrowed, Expect::Ends);
     assert!(rt; is_played(&rt, play));
 }

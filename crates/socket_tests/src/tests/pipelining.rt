@@ -2,7 +2,7 @@
 
 use super::asking::many_requests;
 use super::clients::{connect, is_soon, receive, send};
-use super::plans::{Expect, Held, Kind, plan_of, play};
+use super::plans::{Expect, Held, Kind, plan_of, play_of};
 use super::scenes::Scene;
 use super::servers::{Outside, is_played};
 use peer_stats::Counters;
@@ -44,6 +44,6 @@ pub fn is_asked_on<H: AllocGlobal + Net<Listener = TcpListener, Stream = TcpStre
 #[test]
 fn more_is_asked_for_once_the_first_that_waits_is_answered(rt: HostRuntime) {
     let plan = plan_of(1, 1, 1).holding(Held::TwoNumbers);
-    let play = play(Kind::Loops, plan, Scene::AskedOn, Expect::Asked(6));
+    let play = play_of(Kind::Loops, plan, Scene::AskedOn, Expect::Asked(6));
     assert!(rt; is_played(&rt, play));
 }

@@ -200,7 +200,7 @@ pub struct Play<'v> {
 }
 
 /// The play of these parts.
-pub fn play(kind: Kind, plan: Plan, scene: Scene<'_>, expect: Expect) -> Play<'_> {
+pub fn play_of(kind: Kind, plan: Plan, scene: Scene<'_>, expect: Expect) -> Play<'_> {
     Play {
         kind,
         plan,

@@ -4,7 +4,7 @@ use super::clients::{
     connect, exchange, exchange_and_end, is_answered_last, is_served, is_text, receives, send,
     served_client,
 };
-use super::plans::{BOTH, Expect, Kind, plan_of, play};
+use super::plans::{BOTH, Expect, Kind, plan_of, play_of};
 use super::scenes::Scene;
 use super::servers::is_played;
 use peer_fill::Report;
@@ -61,25 +61,31 @@ fn a_client_asks_twice(rt: HostRuntime) {
     for (what, play) in [
         (
             "by the usual server",
-            play(Kind::Usual, large, Scene::AskTwice, asked),
+            play_of(Kind::Usual, large, Scene::AskTwice, asked),
         ),
-        ("by seats", play(Kind::Seats, none, Scene::AskTwice, asked)),
-        ("by loops", play(Kind::Loops, none, Scene::AskTwice, asked)),
+        (
+            "by seats",
+            play_of(Kind::Seats, none, Scene::AskTwice, asked),
+        ),
+        (
+            "by loops",
+            play_of(Kind::Loops, none, Scene::AskTwice, asked),
+        ),
         (
             "by loops that keep",
-            play(Kind::Loops, large, Scene::AskTwice, asked),
+            play_of(Kind::Loops, large, Scene::AskTwice, asked),
         ),
         (
             "kept by the usual server",
-            play(Kind::Usual, large, Scene::AskBehind, hit),
+            play_of(Kind::Usual, large, Scene::AskBehind, hit),
         ),
         (
             "kept by seats",
-            play(Kind::Seats, large, Scene::AskBehind, hit),
+            play_of(Kind::Seats, large, Scene::AskBehind, hit),
         ),
         (
             "kept by loops",
-            play(Kind::Loops, large, Scene::AskBehind, hit),
+            play_of(Kind::Loops, large, Scene::AskBehind, hit),
         ),
     ] {
         assert!(rt; is_played(&rt, play), "{what}");
@@ -106,7 +112,7 @@ pub fn ask_in_turn<H: AllocGlobal + Net<Listener = TcpListener, Stream = TcpStre
 fn more_clients_than_connections(rt: HostRuntime) {
     let plan = plan_of(1, 1, 3).on_loops(2);
     for kind in BOTH {
-        let play = play(kind, plan, Scene::AskInTurn, Expect::Asked(4));
+        let play = play_of(kind, plan, Scene::AskInTurn, Expect::Asked(4));
         assert!(rt; is_played(&rt, play), "at {kind:?}");
     }
 }
@@ -131,7 +137,7 @@ pub fn reset_thrice<
 fn a_client_resets(rt: HostRuntime) {
     let plan = plan_of(1, 1, 4).caching(2_097_152);
     for kind in BOTH {
-        let play = play(kind, plan, Scene::ResetThrice, Expect::Ends);
+        let play = play_of(kind, plan, Scene::ResetThrice, Expect::Ends);
         assert!(rt; is_played(&rt, play), "at {kind:?}");
     }
 }
@@ -146,7 +152,7 @@ fn each_server_refuses_each_number(rt: HostRuntime) {
     ];
     for (plan, expect) in seats {
         let numbers = (plan.workers, plan.connections);
-        let play = play(Kind::Usual, plan, Scene::Nothing, expect);
+        let play = play_of(Kind::Usual, plan, Scene::Nothing, expect);
         assert!(rt; is_played(&rt, play), "seats at {numbers:?}");
     }
     let one = plan_of(1, 1, 1);
@@ -160,7 +166,7 @@ fn each_server_refuses_each_number(rt: HostRuntime) {
     ];
     for (plan, expect) in loops {
         let numbers = (plan.workers, plan.loops);
-        let play = play(Kind::Loops, plan, Scene::Nothing, expect);
+        let play = play_of(Kind::Loops, plan, Scene::Nothing, expect);
         assert!(rt; is_played(&rt, play), "loops at {numbers:?}");
     }
 }

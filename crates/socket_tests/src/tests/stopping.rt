@@ -2,7 +2,7 @@
 
 use super::calls::{ASK_SLOW, FOUND_SLOW};
 use super::clients::{connect, exchange, is_soon, receive, receives, send, served_client};
-use super::plans::{Expect, Kind, Plan, plan_of, play};
+use super::plans::{Expect, Kind, Plan, plan_of, play_of};
 use super::scenes::Scene;
 use super::servers::{Outside, is_played};
 use std::net::{Net, SocketAddr, TcpListener, TcpStream};
@@ -65,20 +65,20 @@ fn a_server_that_is_told_to_end_gives_the_values_that_are_waited_for(rt: HostRun
         is_told: true,
         ..plan
     };
-    let stopped = play(
+    let stopped = play_of(
         Kind::Loops,
         plan,
         Scene::StopBeside(false),
         Expect::Asked(4),
     );
     assert!(rt; is_played(&rt, stopped));
-    let nothing = play(Kind::Loops, told, Scene::Nothing, Expect::Asked(0));
+    let nothing = play_of(Kind::Loops, told, Scene::Nothing, Expect::Asked(0));
     assert!(rt; is_played(&rt, nothing));
 }
 
 #[test]
 fn all_who_stay_are_let_go_where_one_has_left_before_a_stop(rt: HostRuntime) {
-    let play = play(
+    let play = play_of(
         Kind::Loops,
         endless(),
         Scene::StopBeside(true),
@@ -127,7 +127,7 @@ pub fn is_closed_well<
 fn a_server_that_is_told_to_end_cuts_no_close_short(rt: HostRuntime) {
     let plan = endless().caching(2_097_152);
     for row in 0..2 {
-        let play = play(Kind::Loops, plan, Scene::ClosedWell(row), Expect::Asked(2));
+        let play = play_of(Kind::Loops, plan, Scene::ClosedWell(row), Expect::Asked(2));
         assert!(rt; is_played(&rt, play), "at {row}");
     }
 }
@@ -165,6 +165,6 @@ pub fn have_their_replies<
 #[test]
 fn those_who_asked_before_a_stop_have_their_replies(rt: HostRuntime) {
     let plan = plan_of(1, 10, 1).filling(None);
-    let play = play(Kind::Loops, plan, Scene::AskBeforeStop, Expect::Asked(4));
+    let play = play_of(Kind::Loops, plan, Scene::AskBeforeStop, Expect::Asked(4));
     assert!(rt; is_played(&rt, play));
 }

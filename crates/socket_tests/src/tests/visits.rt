@@ -1,7 +1,7 @@
 //! Clients that come to a server one after the other, and what each finds.
 
 use super::clients::{connect, drips_in_vain, is_answered, is_answered_last, receives, send};
-use super::plans::{Expect, Kind, plan_of, play};
+use super::plans::{Expect, Kind, plan_of, play_of};
 use super::scenes::Scene;
 use super::servers::is_played;
 use peer_runtime::{Limits, Network};
@@ -99,6 +99,6 @@ where
 {
     let plan = plan_of(1, 1, visits.len() as u64).within(limits);
     let (scene, expect) = (Scene::Visits(visits), Expect::Asked(asked));
-    is_played(rt, play(Kind::Seats, plan, scene, expect))
-        && is_played(rt, play(Kind::Loops, plan, scene, expect))
+    is_played(rt, play_of(Kind::Seats, plan, scene, expect))
+        && is_played(rt, play_of(Kind::Loops, plan, scene, expect))
 }

@@ -2,7 +2,7 @@
 
 use super::calls::{ASK_SLOW, Calls};
 use super::clients::{connect, has_value, is_answered, is_served, is_soon, send};
-use super::plans::{Expect, Kind, patient, plan_of, play};
+use super::plans::{Expect, Kind, patient, plan_of, play_of};
 use super::scenes::Scene;
 use super::servers::{Outside, is_played};
 use peer_runtime::Limits;
@@ -47,7 +47,7 @@ fn a_client_that_waits_is_not_silent(rt: HostRuntime) {
         ..patient()
     };
     let plan = plan_of(1, 1, 1).within(limits);
-    let play = play(
+    let play = play_of(
         Kind::Loops,
         plan,
         Scene::AnsweredLate,
@@ -112,7 +112,7 @@ fn a_client_that_waits_and_resets_is_let_go(rt: HostRuntime) {
     for (what, play) in [
         (
             "between others",
-            play(
+            play_of(
                 Kind::Loops,
                 plan_of(2, 3, 2),
                 Scene::ResetsBetween,
@@ -121,7 +121,7 @@ fn a_client_that_waits_and_resets_is_let_go(rt: HostRuntime) {
         ),
         (
             "behind its last request",
-            play(
+            play_of(
                 Kind::Loops,
                 plan_of(2, 1, 2),
                 Scene::LeavesItsPlace,
