@@ -41,6 +41,9 @@ RUNS_AT_ALL = 3  # runs without a refusal in a row, where threads decide how man
 CALLS_REFUSED = [
     ("copy_of", False),
     ("share", False),
+    ("slice", False),
+    ("slice_from", False),
+    ("to_vec", False),
     ("to_text", False),
     ("alloc_sink_bytes", False),
     ("alloc_sink_str", False),
@@ -73,6 +76,7 @@ CALLS_REFUSED = [
     ("ask_joined", False),
     ("ask_hit", False),
     ("run_worker", True),
+    ("refill", False),
     ("talk_whole", False),
     ("talk_pieces", False),
     ("talk_many", False),

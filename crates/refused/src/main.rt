@@ -64,11 +64,12 @@ fn name_of(rt: &HostRuntime) -> Option<String> {
 }
 
 /// The calls over a pool with one worker and one connection.
-const OVER_POOL: [(&str, Call); 13] = [
+const OVER_POOL: [(&str, Call); 14] = [
     ("ask_led", Call::Ask(Before::Nothing)),
     ("ask_joined", Call::Ask(Before::Ask)),
     ("ask_hit", Call::Ask(Before::Fill)),
     ("run_worker", Call::Work),
+    ("refill", Call::Refill),
     ("serve_connection", Call::Connection),
     ("talk_whole", Call::Talk(Talk::Whole)),
     ("talk_pieces", Call::Talk(Talk::Pieces)),
@@ -85,6 +86,9 @@ const OVER_POOL: [(&str, Call); 13] = [
 enum One {
     CopyOf,
     Share,
+    Slice,
+    SliceFrom,
+    ToVec,
     ToText,
     AllocSink(Set),
     ViewSink(Set),
@@ -111,9 +115,12 @@ enum One {
     Without(Without),
 }
 
-const ONES: [(&str, One); 40] = [
+const ONES: [(&str, One); 43] = [
     ("copy_of", One::CopyOf),
     ("share", One::Share),
+    ("slice", One::Slice),
+    ("slice_from", One::SliceFrom),
+    ("to_vec", One::ToVec),
     ("to_text", One::ToText),
     ("alloc_sink_bytes", One::AllocSink(Set::Bytes)),
     ("alloc_sink_str", One::AllocSink(Set::Text)),
@@ -194,6 +201,9 @@ fn see_one(alloc: Global, one: One) -> Option<Seen> {
     match one {
         One::CopyOf => views::copy_of(alloc),
         One::Share => views::share(alloc),
+        One::Slice => views::slice(alloc),
+        One::SliceFrom => views::slice_from(alloc),
+        One::ToVec => views::to_vec(alloc),
         One::ToText => views::to_text(alloc),
         One::AllocSink(set) => views::alloc_sink(alloc, set),
         One::ViewSink(set) => views::view_sink(alloc, set),

@@ -4,13 +4,13 @@ ghost use Rattle.refused.specs.Lent.{AreOf};
 
 use crate::lent::{Demo, DemoSeats};
 use crate::seen::Seen;
-use crate::sources::ECHO;
+use crate::sources::{ECHO, fill_of, finds};
 use crate::window;
 use peer_fill::{OpenFault, Opened, Pool, Report};
 use peer_flight::{AskFault, Claim};
 use peer_source::{DemoSource, Fill, Outcome};
 use peer_view::ByteView;
-use std::alloc::Global;
+use std::alloc::{AllocError, Global};
 use std::marker::Brand;
 use std::sync::Wait;
 use std::sync::ledger::{Blank, Ledger};
@@ -189,4 +189,38 @@ pub fn work<L: Ledger, R: Wait>(
     let seen = fill_seen(&claim);
     drop(claim);
     Some((seats, seen))
+}
+
+// What a refill gave.
+fn refill_seen(refilled: Result<Option<Fill<DemoSource>>, AllocError>) -> Seen {
+    match refilled {
+        Ok(Some(fill)) => made(&fill).only_if(fill.key().eq_bytes(b"k"), "another key"),
+        Ok(None) => Seen::Wrong("another key's fill was taken"),
+        Err(AllocError) => Seen::Refused,
+    }
+}
+
+// `Pool::refill` of a claim by a fill of another key.
+fn refill_claim<L: Ledger, R: Wait>(
+    lent: &Demo<'_, L, R>,
+    claim: &Claim<DemoSource>,
+) -> Option<Seen> {
+    let other = fill_of(lent.alloc, ECHO, b"other")?;
+    window::begin(lent.alloc);
+    let refilled = lent.pool.refill(lent.alloc, claim, &other);
+    window::end(lent.alloc);
+    let seen = refill_seen(refilled).only_if(finds(&other, b"other"), "the other fill changed");
+    drop(other);
+    Some(seen)
+}
+
+/// `Pool::refill` of a fill of another key.
+pub fn refill<L: Ledger, R: Wait>(lent: &Demo<'_, L, R>, seats: &mut DemoSeats<L>) -> Option<Seen>
+    requires { AreOf lent.now.pool.now seats.old }
+    ensures { AreOf lent.now.pool.now seats.new }
+{
+    let claim = lent.ask_for(seats, b"k")?;
+    let seen = refill_claim(lent, &claim);
+    drop(claim);
+    seen
 }

@@ -5,7 +5,7 @@ ghost use Rattle.refused.specs.Lent.{AreOf};
 
 use crate::connections::connection;
 use crate::lent::{Demo, DemoSeats, Lent};
-use crate::pools::{Before, CACHE_BYTES, adds_up, ask, work};
+use crate::pools::{Before, CACHE_BYTES, adds_up, ask, refill, work};
 use crate::seen::Seen;
 use crate::talking::talk;
 use crate::talks::Talk;
@@ -24,6 +24,7 @@ use test_support::{close_pool, open_pool};
 pub enum Call {
     Ask(Before),
     Work,
+    Refill,
     Connection,
     /// The calls of an exchange.
     Talk(Talk),
@@ -35,7 +36,7 @@ impl Call {
     // Whether a report is one of a pool of which this call was made.
     fn fits(self, report: &Report) -> bool {
         match self {
-            Call::Ask(_) => true,
+            Call::Ask(_) | Call::Refill => true,
             Call::Work => report.led == 1 && report.calls == 1 && report.left == 0,
             Call::Connection | Call::Talk(_) => report.left == 0,
             Call::Without => report.left == 1,
@@ -62,6 +63,7 @@ fn make<L: Ledger + Send + Sync, H: Threads + Wait + Sync>(
 {
     let seen = match call {
         Call::Ask(before) => ask(lent, &mut seats, before),
+        Call::Refill => refill(lent, &mut seats),
         Call::Without => without::calls(lent, &mut seats),
         Call::Talk(what) => talk(lent, &mut seats, what),
         Call::Work => return work(lent, seats),

@@ -36,6 +36,47 @@ pub fn share(alloc: Global) -> Option<Seen> {
     Some(given(&shared, OLD).only_if(view.eq_bytes(OLD), "the view changed"))
 }
 
+/// `ByteView::slice`.
+pub fn slice(alloc: Global) -> Option<Seen> {
+    let view = ByteView::copy_of(alloc, OLD).ok()?;
+    if view.len() < 8 {
+        return None;
+    }
+    window::begin(alloc);
+    let part = view.slice(5, 8);
+    window::end(alloc);
+    Some(given(&part, b"was").only_if(view.eq_bytes(OLD), "the view changed"))
+}
+
+/// `ByteView::slice_from`.
+pub fn slice_from(alloc: Global) -> Option<Seen> {
+    let view = ByteView::copy_of(alloc, OLD).ok()?;
+    if view.len() < 9 {
+        return None;
+    }
+    window::begin(alloc);
+    let part = view.slice_from(9);
+    window::end(alloc);
+    Some(given(&part, b"there").only_if(view.eq_bytes(OLD), "the view changed"))
+}
+
+// Whether a list was given that has these bytes.
+fn bytes_given(list: &Result<Vec<u8>, AllocError>, bytes: &[u8]) -> Seen {
+    match list {
+        Ok(list) => Seen::Answered.only_if(list.as_slice() == bytes, "other bytes"),
+        Err(AllocError) => Seen::Refused,
+    }
+}
+
+/// `ByteView::to_vec`.
+pub fn to_vec(alloc: Global) -> Option<Seen> {
+    let view = ByteView::copy_of(alloc, OLD).ok()?;
+    window::begin(alloc);
+    let bytes = view.to_vec(alloc);
+    window::end(alloc);
+    Some(bytes_given(&bytes, OLD))
+}
+
 // Whether this text was given.
 fn text_given(given: &Result<String, TextFault>, text: &str) -> Seen {
     match given {

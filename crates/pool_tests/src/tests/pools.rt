@@ -8,5 +8,7 @@ mod full;
 mod gates;
 mod halves;
 mod numbering;
+mod opening;
+mod refills;
 mod taken;
 mod threads;

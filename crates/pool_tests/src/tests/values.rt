@@ -1,9 +1,11 @@
-//! The first group of a source, and the values of fills.
+//! Groups of the source for demonstrations, and the values of fills.
 
 use peer_flight::Claim;
 use peer_source::{Fill, GroupId, Outcome, Source};
 
 pub const ECHO: GroupId = GroupId { number: 0 };
+
+pub const SQUARE: GroupId = GroupId { number: 1 };
 
 /// The value that was found, and no byte where there is none.
 pub fn value_of<S: Source>(fill: &Fill<S>) -> &[u8] {

@@ -1,13 +1,16 @@
 //! What a pool keeps: which asks are hits, what they show, and which value goes first.
+ghost use Rattle.std.specs.Prelude.{◌≡◌};
+
 use super::desk::{Desk, Steps, run};
 use super::numbering::Numbering;
 use crate::tests::values::{ECHO, value_of};
 use peer_fill::{NoGate, Report};
 use peer_flight::Claim;
-use peer_source::Source;
+use peer_source::{DemoSource, Source};
 use std::alloc::Global;
+use std::marker::Brand;
 use std::sync::Wait;
-use std::sync::ledger::Ledger;
+use std::sync::ledger::{Blank, Ledger};
 use test_support::all_called;
 
 /// What five asks gave: which were hits, and the last byte of what each showed, or 0.
@@ -117,13 +120,6 @@ fn a_value_is_kept_until_it_is_evicted(rt: HostRuntime) {
             *b"11234",
             [2, 4, 4],
         ),
-        (
-            6,
-            b"abcac",
-            [false, false, false, false, true],
-            *b"12343",
-            [2, 4, 4],
-        ),
     ] {
         let seen = six_asks(&rt, rt.alloc(), 0, cache_bytes, keys);
         let [hit, led, calls] = counts;
@@ -133,4 +129,56 @@ fn a_value_is_kept_until_it_is_evicted(rt: HostRuntime) {
             "of {cache_bytes} bytes"
         );
     }
+}
+
+// Asks a stopped pool for a key of one byte, and has its worker run until no job is left: the pool, whether it was a hit, and the
+// last byte that it showed.
+fn ask_and_run<L: Ledger, R: Wait>(
+    rt: &R,
+    desk: Desk<DemoSource, L>,
+    key: u8,
+) -> (Desk<DemoSource, L>, Option<(bool, u8)>) {
+    let mut desk = desk;
+    let claim = desk.ask(rt, ECHO, &[key]);
+    let desk = desk.run_worker(rt);
+    let seen = match &claim {
+        Some(claim) => shown_last(claim),
+        None => None,
+    };
+    drop(claim);
+    (desk, seen)
+}
+
+// What asks for three keys showed, of which two have room, and the report of the pool.
+fn ask_stopped<L: Ledger, R: Wait>(
+    rt: &R,
+    alloc: Global,
+    keys: &[u8; 5],
+    blank: Blank,
+) -> Option<(Shown, Report)>
+    requires name { blank.name ≡ L.name }
+    requires parts { (blank.parts ≡ L.parts) × (blank.parts ≡ 16) }
+{
+    let mut desk = Desk::<DemoSource, L>::open(alloc, DemoSource, 4, blank)?;
+    desk.stop();
+    let mut shown = ([false; 5], [0; 5]);
+    for i in 0..5 {
+        let (next, seen) = ask_and_run(rt, desk, keys[i]);
+        desk = next;
+        (shown.0[i], shown.1[i]) = seen.unwrap_or((false, 0));
+    }
+    let report = desk.close(rt)?;
+    Some((shown, report))
+}
+
+// The same over a pool of its own.
+fn asked_stopped<R: Wait>(rt: &R, alloc: Global, keys: &[u8; 5]) -> Option<(Shown, Report)> {
+    ask_stopped::<Brand, R>(rt, alloc, keys, Blank::new(16))
+}
+
+#[test]
+fn the_oldest_value_goes_first(rt: HostRuntime) {
+    let seen = asked_stopped(&rt, rt.alloc(), b"abcac");
+    let hits = [false, false, false, false, true];
+    assert_eq!(rt; seen, expected((hits, *b"abcac"), 1, 4, 4));
 }

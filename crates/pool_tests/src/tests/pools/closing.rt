@@ -1,4 +1,4 @@
-//! How a pool is closed: it tells what three asks for a key counted.
+//! How a pool is closed: with seats missing it comes back, and with all seats it tells what three asks for a key counted.
 ghost use Rattle.std.specs.Prelude.{◌≡◌};
 
 use super::desk::Desk;

@@ -2,7 +2,9 @@
 ghost use Rattle.std.specs.Prelude.{◌≡◌, ◌<◌, All, IfSome};
 ghost use Rattle.peer_fill.specs.Pools.{source_of, IsConnSeatOf, IsFillSeatOf};
 
-use peer_fill::{ConnSeat, FillSeat, Gate, NoGate, Pool, Report, Seats, TakenJob, pop_seat};
+use peer_fill::{
+    CloseFault, ConnSeat, FillSeat, Gate, NoGate, Pool, Report, Seats, TakenJob, pop_seat,
+};
 use peer_flight::Claim;
 use peer_source::{GroupId, Source};
 use std::alloc::Global;
@@ -67,6 +69,31 @@ fn lists_of<S: Source, L: Ledger>(
     Some(Seats { fills, conns })
 }
 
+// The pool and all its seats, where a close without the worker's seat is refused.
+fn close_early<S: Source, L: Ledger, R: Wait>(
+    rt: &R,
+    alloc: Global,
+    pool: Pool<S, L>,
+    lists: Seats<S, L>,
+) -> Option<(Pool<S, L>, Seats<S, L>)>
+    requires fills { All (IsFillSeatOf pool) lists.fills.items }
+    requires conns { All (IsConnSeatOf pool) lists.conns.items }
+    ensures fills { IfSome result (λ back. All (IsFillSeatOf back.0) back.1.fills.items) }
+    ensures conns { IfSome result (λ back. All (IsConnSeatOf back.0) back.1.conns.items) }
+{
+    let Seats { fills, conns } = lists;
+    match pool.close(rt, Vec::new(alloc), conns) {
+        Ok(_) => None,
+        Err(
+            CloseFault::SeatsMissing {
+                pool,
+                fills: _none,
+                conns,
+            },
+        ) => Some((pool, Seats { fills, conns })),
+    }
+}
+
 impl<S: Source, L: Ledger> Desk<S, L> {
     /// A pool whose caches keep so many bytes of each group. None where memory was refused.
     pub fn open(alloc: Global, source: S, cache_bytes: u64, blank: Blank) -> Option<Desk<S, L>>
@@ -84,10 +111,13 @@ impl<S: Source, L: Ledger> Desk<S, L> {
         Some(Desk { alloc, pool, seats })
     }
 
-    /// The report of the pool.
+    /// The report of the pool. A close without the worker's seat is refused first, and all comes back.
     pub fn close<R: Wait>(self, rt: &R) -> Option<Report> {
         let Desk { alloc, pool, seats } = self;
         let Some(lists) = lists_of(alloc, &pool, seats) else {
+            return None;
+        };
+        let Some((pool, lists)) = close_early(rt, alloc, pool, lists) else {
             return None;
         };
         close_pool(rt, pool, lists)
