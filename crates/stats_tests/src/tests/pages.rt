@@ -112,3 +112,14 @@ fn slots_are_added_up(rt: HostRuntime) {
         [1, 1, 1]
     );
 }
+
+// As many loops as a server may have: each has a slot of its own.
+#[test]
+fn each_of_sixteen_loops_has_a_slot(rt: HostRuntime) {
+    let counters = Counters::new();
+    for number in 0..16 {
+        counters.of_loop(number).publish(COUNTS.loops);
+    }
+    let loops = counters.read().loops;
+    assert_eq!(rt; [loops.asked, loops.connections], [16 * 60, 16 * 5]);
+}
