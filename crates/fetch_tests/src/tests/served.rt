@@ -91,27 +91,19 @@ fn serve_clients<S: Source + Send + Sync, H: Host + AllocGlobal>(
     )
 }
 
-// The server's limits, none of which is met.
-fn limits() -> Limits {
-    Limits {
-        tick: Duration::from_secs(60),
-        ..Limits::usual()
-    }
-}
-
-// Serves in front of an origin that holds its replies back until as many requests are open as there are clients.
+// Serves in front of an origin that holds its replies back until as many requests are open as there are clients. The sockets are the
+// origin's, and the server's with its address.
 fn serve_held<S: Source + Send + Sync, H: Host + AllocGlobal>(
     rt: &H,
     source: S,
-    origin: TcpListener,
+    sockets: (TcpListener, TcpListener, SocketAddr),
     told: &Told,
     settings: &Settings<'_>,
     plan: FetchPlan<'_>,
-) -> Option<bool>
+) -> bool
     requires { Allows (S.answers source) plan }
 {
-    let listener = TcpListener::bind(rt, "127.0.0.1:0").ok()?;
-    let address = listener.local_addr().ok()?;
+    let (origin, listener, address) = sockets;
     let ((), (report, asked)) = thread::join(
         rt,
         move || { serve(rt, rt.alloc(), origin, CLIENTS as usize, told) },
@@ -123,7 +115,7 @@ fn serve_held<S: Source + Send + Sync, H: Host + AllocGlobal>(
             seen
         },
     );
-    Some(report.is_some() && asked == Some(true))
+    report.is_some() && asked == Some(true)
 }
 
 // What a server has from outside.
@@ -145,6 +137,9 @@ fn serve_prepared<
         + Clock
         + Sync,
 >(rt: &'x H, outside: &'x Outside) -> Option<bool> {
+    let seed = RandomState::new(rt).ok()?;
+    let server = TcpListener::bind(rt, "127.0.0.1:0").ok()?;
+    let address = server.local_addr().ok()?;
     let Prepared { listener, origins } = prepare(rt, rt.alloc(), &[(b"echo", LOOPBACK)])?;
     let source = OriginSource::new(rt, outside.counters.failures(), origins, patient().fetch);
     let endpoints = source.endpoints(rt.alloc()).ok()?;
@@ -157,12 +152,16 @@ fn serve_prepared<
         memory: 1_048_576,
         accepts: None,
         cache_bytes: 0,
-        seed: RandomState::new(rt).ok()?,
-        limits: limits(),
+        seed,
+        limits: Limits {
+            tick: Duration::from_secs(60),
+            ..Limits::usual()
+        },
         counters: &outside.counters,
         stop: &outside.stop,
     };
-    serve_held(rt, source, listener, &outside.told, &settings, plan)
+    let sockets = (listener, server, address);
+    Some(serve_held(rt, source, sockets, &outside.told, &settings, plan))
 }
 
 #[test]

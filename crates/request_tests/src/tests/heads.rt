@@ -57,15 +57,15 @@ fn look_whole(alloc: Global, text: &[u8]) -> Result<&'static str, AllocError> {
     Ok(word_in(&buf))
 }
 
-// The same byte by byte, by the first look that needs no more.
-fn look_by_bytes(alloc: Global, text: &[u8]) -> Result<&'static str, AllocError> {
+// The same in pieces of so many bytes, by the first look that needs no more.
+fn look_by_pieces(alloc: Global, text: &[u8], size: usize) -> Result<&'static str, AllocError> {
     let mut buf = HeadBuf::new(alloc)?;
     let mut places = FieldPlaces::new();
-    for b in text {
-        if buf.room().is_empty() {
+    for piece in text.chunks(size.max(1)) {
+        if piece.len() > buf.room().len() {
             return Ok("no room");
         }
-        feed(&mut buf, &[*b]);
+        feed(&mut buf, piece);
         let word = word_of(&buf.look(&mut places).0);
         if word != "need" {
             return Ok(word);
@@ -135,10 +135,14 @@ fn a_head_is_seen_at_its_last_byte(rt: HostRuntime) -> Result<(), Fail> {
     Ok(())
 }
 
-// Checks what a text is, in one piece and byte by byte.
+// Texts up to this length come byte by byte.
+const SHORT: usize = 400;
+
+// Checks what a text is, in one piece and byte by byte, or where it is long in small pieces.
 fn check_text(rt: &impl Abort, alloc: Global, text: &[u8], word: &str) -> Result<(), AllocError> {
     assert_eq!(rt; look_whole(alloc, text)?, word, "{text:?}");
-    assert_eq!(rt; look_by_bytes(alloc, text)?, word, "{text:?}");
+    let size = if text.len() <= SHORT { 1 } else { 64 };
+    assert_eq!(rt; look_by_pieces(alloc, text, size)?, word, "{text:?}");
     Ok(())
 }
 
@@ -321,8 +325,9 @@ fn are_all_taken(
     Ok(taken == targets.len() && buf.rest().is_empty())
 }
 
+// The second cut is at some places of each head, and at and round the ends of all.
 #[test]
-fn requests_are_cut_at_every_pair_of_places(rt: HostRuntime) -> Result<(), Fail> {
+fn requests_are_cut_at_many_pairs_of_places(rt: HostRuntime) -> Result<(), Fail> {
     let text = b"GET /_groupcache/echo/a HTTP/1.1\r\nHost: h\r\n\r\n\
           GET /_groupcache/echo/b HTTP/1.1\r\nHost: h\r\n\r\n\
           GET /_groupcache/echo/c HTTP/1.1\r\nHost: h\r\n\r\n"
@@ -334,6 +339,9 @@ fn requests_are_cut_at_every_pair_of_places(rt: HostRuntime) -> Result<(), Fail>
     ];
     for first in 0..=text.len() {
         for second in first..=text.len() {
+            if second % 9 > 1 && second % 45 != 44 {
+                continue;
+            }
             let all = are_all_taken(rt.alloc(), text, &targets, (first, second))?;
             assert!(rt; all, "cut at {first} and {second}");
         }

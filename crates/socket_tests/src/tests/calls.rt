@@ -102,17 +102,32 @@ fn last_longer(key: &[u8]) {
     }
 }
 
+// Whether a key is a number.
+fn is_number(key: &[u8]) -> bool {
+    match key.first() {
+        Some(first) => first.is_ascii_digit(),
+        None => false,
+    }
+}
+
 impl Waiting<'_> {
-    // The same of a number.
+    // Whether the source may be called for a number, where it waits at two of them.
+    fn may_call_two(&self, key: &[u8]) -> bool {
+        if key == b"00001".as_slice() {
+            self.calls.one.wait()
+        } else if key == b"00002".as_slice() {
+            self.calls.two.wait()
+        } else {
+            true
+        }
+    }
+
+    // Whether it may be called for a number.
     fn may_call_number(&self, key: &[u8]) -> bool {
         match self.held {
             Held::None => true,
             Held::Numbers => self.calls.slow.wait(),
-            Held::TwoNumbers => match key {
-                b"00001" => self.calls.one.wait(),
-                b"00002" => self.calls.two.wait(),
-                _ => true,
-            },
+            Held::TwoNumbers => self.may_call_two(key),
             Held::Longer => {
                 last_longer(key);
                 true
@@ -123,11 +138,13 @@ impl Waiting<'_> {
 
 impl Hook for Waiting<'_> {
     fn may_call(&self, _alloc: Global, key: &[u8]) -> bool {
+        if is_number(key) {
+            return self.may_call_number(key);
+        }
         match key {
             b"slow" => self.calls.slow.wait(),
             [b'o', b'n', b'e', ..] => self.calls.one.wait(),
             [b't', b'w', b'o', ..] => self.calls.two.wait(),
-            [b'0'..=b'9', ..] => self.may_call_number(key),
             _ => true,
         }
     }

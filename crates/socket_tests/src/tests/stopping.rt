@@ -17,6 +17,20 @@ fn await_clients<H: Clock>(rt: &H, outside: &Outside, count: u64) -> bool {
     is_soon(rt, || outside.counters.read().loops.connections == count)
 }
 
+// Tells the server to end once this client has left, and three are there. Whether that is soon.
+fn leaves_before<H: Clock>(rt: &H, stream: TcpStream, outside: &Outside) -> bool {
+    drop(stream);
+    let has_left = await_clients(rt, outside, 3);
+    outside.stop.stop();
+    has_left
+}
+
+// Tells the server to end: whether this client is let go.
+fn stays<H: AllocGlobal>(rt: &H, stream: TcpStream, outside: &Outside) -> bool {
+    outside.stop.stop();
+    receives(rt.alloc(), &stream, b"")
+}
+
 // Two idle clients, and one that waits for its value, while the server is told to end: whether the idle ones are let go at once, one
 // that comes then is refused at once, and the one that waits gets its value. One that came before them leaves before that, if it is
 // to leave.
@@ -29,14 +43,11 @@ fn is_stopped_beside<
     let waiting = connect(rt, address)?;
     let slow = &outside.calls.slow;
     let mut right = send(&waiting, ASK_SLOW) && slow.is_called(rt);
-    if leaves {
-        drop(first);
-        right &= await_clients(rt, outside, 3);
-        outside.stop.stop();
+    right &= if leaves {
+        leaves_before(rt, first, outside)
     } else {
-        outside.stop.stop();
-        right &= receives(rt.alloc(), &first, b"");
-    }
+        stays(rt, first, outside)
+    };
     right &= receives(rt.alloc(), &one, b"") && receives(rt.alloc(), &other, b"");
     right &= connect(rt, address).is_none() && !slow.open.swap(true, SeqCst);
     Some(right && receives(rt.alloc(), &waiting, FOUND_SLOW))

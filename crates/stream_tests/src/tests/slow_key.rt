@@ -167,9 +167,11 @@ fn round<L: Ledger + Send + Sync, H: Abort + AllocGlobal + Threads + Wait + Sync
 
 // How many calls the worker made, where both connections are as told.
 fn ends_so<H: Abort + AllocGlobal + Threads + Wait + Sync>(rt: &H, case: Case) -> Option<u64> {
-    match round::<Brand, H>(rt, case, Blank::new(16)) {
-        ((true, true), calls) => Some(calls),
-        _ => None,
+    let (told, calls) = round::<Brand, H>(rt, case, Blank::new(16));
+    if told == (true, true) {
+        Some(calls)
+    } else {
+        None
     }
 }
 
