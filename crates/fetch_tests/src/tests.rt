@@ -7,5 +7,4 @@ mod origin;
 mod replies;
 mod running;
 mod served;
-mod sources;
 mod waking;

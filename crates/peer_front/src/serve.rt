@@ -201,7 +201,7 @@ pub fn serve<
     let has_services = !words.is_empty();
     let options = &within_files(rt, options, has_services);
     let counters = Counters::new();
-    let source = match source_of(rt, counters.failures(), options, words) {
+    let source = match source_of(rt, options, words) {
         Ok(source) => source,
         Err(exit) => return exit,
     };

@@ -7,7 +7,6 @@ use peer_groups::{Beside, FrontSource, GroupFault, Maybe, first_in, origins_of};
 use peer_origin::{FetchSettings, Origin, OriginSource};
 use peer_runtime::Network;
 use peer_source::{DemoSource, MAX_GROUPS, Source};
-use peer_stats::FailureSlots;
 use peer_table::TableSource;
 use std::fs::Files;
 
@@ -101,26 +100,22 @@ pub fn fetch_settings(options: &Options<'_>) -> FetchSettings {
 }
 
 // The parts as one source.
-fn join<'a, H: Network + Sync>(
-    rt: &'a H,
-    failures: &'a FailureSlots,
+fn join(
     options: &Options<'_>,
     table: Option<TableSource>,
     origins: Vec<Origin>,
-) -> Option<FrontSource<'a, H>> {
-    let origins = OriginSource::new(rt, failures, origins, fetch_settings(options));
-    let behind = Beside::new(Maybe { source: table }, origins)?;
+) -> Option<FrontSource> {
+    let behind = Beside::new(Maybe { source: table }, OriginSource::new(origins))?;
     let demo = if options.demo { Some(DemoSource) } else { None };
     Beside::new(behind, Maybe { source: demo })
 }
 
 /// The source that is asked for, or why there is none, which it says.
-pub fn source_of<'a, H: AllocGlobal + Eprint + Files + Network + Sync>(
-    rt: &'a H,
-    failures: &'a FailureSlots,
+pub fn source_of<H: AllocGlobal + Eprint + Files + Network>(
+    rt: &H,
     options: &Options<'_>,
     words: &[&str],
-) -> Result<FrontSource<'a, H>, Exit> {
+) -> Result<FrontSource, Exit> {
     let origins = match origins_of(rt, rt.alloc(), words) {
         Ok(origins) => origins,
         Err(bad) if bad.fault.is_memory() => return Err(refuse(rt, &bad, OUT_OF_MEMORY)),
@@ -128,7 +123,7 @@ pub fn source_of<'a, H: AllocGlobal + Eprint + Files + Network + Sync>(
     };
     let table = table_of(rt, options)?;
     check_twice(rt, options, &table, words)?;
-    let Some(source) = join(rt, failures, options, table, origins) else {
+    let Some(source) = join(options, table, origins) else {
         return Err(refuse(rt, &"out of memory", OUT_OF_MEMORY));
     };
     match check_count(rt, source.group_count()) {

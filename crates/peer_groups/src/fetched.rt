@@ -7,7 +7,6 @@ ghost use Rattle.peer_groups.specs.Besides.{AnswersOrigins};
 use crate::beside::Beside;
 use peer_fetch::{FetchPlan, FetchThreadSettings};
 use peer_origin::{Endpoint, FetchSettings, OriginSource};
-use peer_runtime::Network;
 use peer_source::Source;
 use peer_stats::FailureSlots;
 use peer_value::Endpoints;
@@ -48,9 +47,9 @@ impl Fetched {
 }
 
 /// The groups of services in a source in which they stand behind those of a first. None where memory is refused.
-pub fn fetched_of<'a, A: Source + Send + Sync, B: Source + Send + Sync, H: Network + Sync>(
+pub fn fetched_of<A: Source + Send + Sync, B: Source + Send + Sync>(
     alloc: Global,
-    source: &Beside<Beside<A, OriginSource<'a, H>>, B>,
+    source: &Beside<Beside<A, OriginSource>, B>,
 ) -> Option<Fetched>
     ensures first { IfSome result (λ fetched. fetched.first ≡ A.count source.now.first.first) }
     ensures each { IfSome result (λ fetched. map reached_at fetched.each.items

@@ -10,10 +10,7 @@ use std::net::{Net, TcpListener, TcpStream};
 use thiserror::Error;
 
 /// The groups of a table, then those of origins, and then those for demonstrations.
-pub type FrontSource<'a, H> = Beside<
-    Beside<Maybe<TableSource>, OriginSource<'a, H>>,
-    Maybe<DemoSource>,
->;
+pub type FrontSource = Beside<Beside<Maybe<TableSource>, OriginSource>, Maybe<DemoSource>>;
 
 /// Why a word names no group and its origin.
 #[derive(Clone, Copy, Debug, PartialEq, Eq, Error)]
@@ -68,7 +65,7 @@ fn origin_of<H: Net<Listener = TcpListener, Stream = TcpStream>>(
     }
     let endpoint = Endpoint::of_url(rt, alloc, url).map_err(GroupFault::Endpoint)?;
     match name.as_bytes().to_vec(alloc) {
-        Ok(name) => Ok(Origin::new(alloc, name, endpoint)),
+        Ok(name) => Ok(Origin::new(name, endpoint)),
         Err(_) => Err(GroupFault::Memory),
     }
 }

@@ -1,7 +1,5 @@
 -- A reply, read as its bytes come.
 use mathlib.Core.Logic.{∥∥₁_map}
-use Rattle.std.proofs.KnownBytes.{Appends-trans}
-use Rattle.std.specs.Io.KnownBytes.{Appends}
 use Rattle.std.proofs.Common.{Bool, true, false, true≢false, ◌≡◌, ◌≢◌, ℕ, ◌≤◌, ◌==◌, ◌&&◌, ◌↔◌, ◌∷◌, length, IsTrue, IfErr, IfOk, IfSome, List, [], ◌++◌, drop, Option, Some, None, Result, Ok, Err, sym, refl, ap, ◌∙◌, subst, subst₂, append_assoc, append-nil, arith}
 use Rattle.http1.specs.declared.client.Client.{Client}
 use Rattle.http1.specs.declared.conn.Reading.TheVariants as Reads
@@ -12,7 +10,7 @@ use Rattle.http1.specs.Client.{IsIdle}
 use Rattle.http1.specs.Decoder.{Completes, decoder_for, with_front}
 use Rattle.http1.proofs.OneParse.{body_from_completes}
 use Rattle.peer_http.specs.Requests.{LIMITS}
-use Rattle.peer_http.specs.Replies.{HasHead, Interims, IsToldOf, IsReply, IsReplyBefore, IsReplyKept, ReadsOn, TakesEnd, TakesFinal, TakesNothing, TakesPiece}
+use Rattle.peer_http.specs.Replies.{HasHead, Interims, IsToldOf, IsReply, IsReplyBefore, IsReplyKept, TakesEnd, TakesFinal, TakesNothing, TakesPiece}
 use Rattle.peer_http.specs.Receivings.{EndsOpen, FindsHead, IsInContent, IsReadTo, IsStanding, IsStandingBefore, MayAskAgain, Proceeds, TakesContent}
 use Rattle.peer_http.specs.declared.stage.Stage.{Stage}
 use Rattle.peer_http.specs.declared.stage.Stage.TheVariants as stage
@@ -206,21 +204,3 @@ module _ (came : List ℕ) (s : Stage) (status : ℕ) (c c' : Client) (unread un
   -- all of it came with the end of the connection
   pub whole_at_end : TakesContent c c' unread unread' value value' (Ok false) → c'.reading ≡ Reads.Body UntilClose → IsReplyBefore came status value' []
   whole_at_end t until = closes came status c' unread' value' (t.0 came status in_content) until (t.1 in_content.0 in_content.1 until)
-
--- a read behind bytes that came, which gave these
-module _ (given given' : Option (List ℕ)) (ends ends' : ℕ) (came bytes came' : List ℕ) (most : ℕ) (gave : Appends given given' bytes) (grown : came' ≡ came ++ bytes) where
-  appended : (first : Option (List ℕ)) → Appends first given came → Appends first given' came'
-  appended first before = subst (Appends first given') (sym grown) (Appends-trans first given given' came bytes before gave)
-
-  -- it gave no reply yet, or the whole of one, or none for another reason than silence
-  pub receives : (result : Result (Option Reply) ReplyFault) → ends' ≡ ends → (result ≡ Err told.Silent → ⊥) → IfOk result (λ given?. IfSome given? (λ r. ∥ IsStanding came' r.status r.value.items ∥₁)) → IfOk result (λ given?. IfSome given? (λ r. length r.value.items ≤ most)) → IfErr result (IsToldOf came') → ReadsOn given given' ends ends' came came' most result
-  receives (Ok None) untold loud stands within of = (appended, untold)
-  receives (Ok (Some r)) untold loud stands within of = λ first before.
-      let now = ∥∥₁_map stands (stands_now came' r.status r.value.items) in
-      ((came', appended first before, (now, λ same later. ∥∥₁_map stands (λ h. h later))), within)
-  receives (Err told.Silent) untold loud stands within of = absurd (loud refl)
-  receives (Err told.Lost) untold loud stands within of = λ first before. tt
-  receives (Err told.Malformed) untold loud stands within of = λ first before. tt
-  receives (Err told.TooLong) untold loud stands within of = λ first before. tt
-  receives (Err (told.Status code)) untold loud stands within of = λ first before. (came', appended first before, of)
-  receives (Err told.Memory) untold loud stands within of = λ first before. tt

@@ -1,7 +1,6 @@
 -- The reply that a text begins with: interim responses, and then the final one.
-use Rattle.std.specs.Prelude.{◌≡◌, ◌≢◌, ℕ, Bool, true, false, ◌<◌, ◌≤◌, List, [], ◌++◌, drop, length, map, take, Option, Some, None}
+use Rattle.std.specs.Prelude.{◌≡◌, ◌≢◌, ℕ, Bool, true, false, ◌<◌, ◌≤◌, List, [], ◌++◌, drop, length, map, take}
 use Rattle.std.specs.Prelude.{Result, Ok, Err}
-use Rattle.std.specs.Io.KnownBytes.{Appends}
 use Rattle.httparse.specs.Grammar.{Field, ResponseHead, status_code}
 use Rattle.httparse.specs.Spans.{header_bytes}
 use Rattle.httparse.specs.declared.spans.HeaderSpan.{HeaderSpan}
@@ -24,7 +23,6 @@ use Rattle.peer_http.specs.Requests.{LIMITS, Awaits}
 use Rattle.peer_http.specs.declared.fault.Fault.{Fault}
 use Rattle.peer_http.specs.declared.heads.Found.{Found}
 use Rattle.peer_http.specs.declared.heads.Found.TheVariants as find
-use Rattle.peer_http.specs.declared.reply.Reply.{Reply}
 use Rattle.peer_http.specs.declared.fault.ReplyFault.{ReplyFault}
 use Rattle.peer_http.specs.declared.fault.ReplyFault.TheVariants as fault
 use Rattle.peer_http.specs.declared.content.Taken.{Taken}
@@ -69,16 +67,6 @@ abbrev pub IsReplyKept : Type 0 → List ℕ → ℕ → List ℕ → List ℕ �
 IsReplyKept K text status value rest =
     (r : IsReplyBefore text status value rest) × (K → Persists r.0.response.head r.0.reads.framing)
 
--- the text begins with this reply, and does so whatever comes behind it, unless the end was told
-abbrev pub StandsAs : ℕ → ℕ → List ℕ → ℕ → List ℕ → Type 0
-StandsAs ends ends' text status value =
-    ∥ IsReply text status value ∥₁ × (ends' ≡ ends → (later : List ℕ) → ∥ IsReply (text ++ later) status value ∥₁)
-
--- bytes that were given begin with this reply, whose body is within the limit
-abbrev pub GaveReply : Option (List ℕ) → Option (List ℕ) → ℕ → ℕ → ℕ → Reply → Type 0
-GaveReply given given' ends ends' most r =
-    ((text : List ℕ) × Appends given given' text × StandsAs ends ends' text r.status r.value.items) × (length r.value.items ≤ most)
-
 -- behind interim responses the text has the whole head of a final one, whose status this is
 pub record HasHead (text : List ℕ) (status : ℕ) : Type 0 where
   pub start : List ℕ
@@ -98,25 +86,6 @@ IsToldOf came fault.Malformed = Unit {0}
 IsToldOf came fault.TooLong = Unit {0}
 IsToldOf came (fault.Status code) = ∥ HasHead came code ∥₁ × (code ≢ 200)
 IsToldOf came fault.Memory = Unit {0}
-
--- what reading a reply answers: the reply, or a fault, of which `Silent` says that no byte came, and `Status` that a head did
-abbrev pub RepliesAs : Option (List ℕ) → Option (List ℕ) → ℕ → ℕ → ℕ → Result Reply ReplyFault → Type 0
-RepliesAs given given' ends ends' most (Ok r) = GaveReply given given' ends ends' most r
-RepliesAs given given' ends ends' most (Err fault.Silent) = Appends given given' []
-RepliesAs given given' ends ends' most (Err fault.Lost) = Unit {0}
-RepliesAs given given' ends ends' most (Err fault.Malformed) = Unit {0}
-RepliesAs given given' ends ends' most (Err fault.TooLong) = Unit {0}
-RepliesAs given given' ends ends' most (Err (fault.Status code)) = (text : List ℕ) × Appends given given' text × IsToldOf text (fault.Status code)
-RepliesAs given given' ends ends' most (Err fault.Memory) = Unit {0}
-
--- what a read answers behind bytes that came: the reply, where these and what was read make it, or nothing yet
-abbrev pub ReadsOn : Option (List ℕ) → Option (List ℕ) → ℕ → ℕ → List ℕ → List ℕ → ℕ → Result (Option Reply) ReplyFault → Type 0
-ReadsOn given given' ends ends' came came' most (Ok None) =
-    ((first : Option (List ℕ)) → Appends first given came → Appends first given' came') × (ends' ≡ ends)
-ReadsOn given given' ends ends' came came' most (Ok (Some r)) =
-    (first : Option (List ℕ)) → Appends first given came → RepliesAs first given' ends ends' most (Ok r)
-ReadsOn given given' ends ends' came came' most (Err f) =
-    (first : Option (List ℕ)) → Appends first given came → RepliesAs first given' ends ends' most (Err f)
 
 -- the end of the connection ends a body that runs until then, and nothing else; no request may follow
 abbrev pub EndsHere : Bool → Client → Client → Type 0

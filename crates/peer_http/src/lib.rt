@@ -1,8 +1,7 @@
-//! The client's side of HTTP/1.1 for one request and its reply, over any reader.
+//! The client's side of HTTP/1.1 for one request and its reply, without input or output.
 //!
-//! It stands on the toolchain's `http1`, and on the readers of `peer_view`. It promises that a reply which is given is one that
-//! the bytes read begin with, by the grammar of `http1`: its status and its whole body. A body that was cut is none. The
-//! same holds of a reply as a state, `Receiving`, whose bytes come as they may.
+//! It stands on the toolchain's `http1`. It promises that a reply which is given is one that the bytes begin with that came, as
+//! they may, by the grammar of `http1`: its status and its whole body. A body that was cut is none.
 #![tactic(auto)]
 
 mod content;
@@ -16,5 +15,5 @@ mod stage;
 
 pub use fault::ReplyFault;
 pub use receiving::Receiving;
-pub use reply::{Reply, read_reply};
+pub use reply::Reply;
 pub use request::Request;

@@ -1,3 +1,2 @@
 mod FaultLemmas
-mod FetchLemmas
 mod TargetLemmas

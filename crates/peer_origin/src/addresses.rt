@@ -25,6 +25,15 @@ pub struct Addresses {
     found: Mutex<Arc<Vec<SocketAddr>, Global>>,
 }
 
+/// Whether a stream with these addresses is to itself, as may be where nobody listens at a port of this machine: TCP lets both
+/// ends be one. The close of one in which a byte waits that nobody read is a reset, and so leaves the port free.
+pub fn is_to_itself(own: io::Result<SocketAddr>, peer: SocketAddr) -> bool {
+    match own {
+        Ok(own) => own == peer,
+        Err(_) => false,
+    }
+}
+
 // Why a name was not looked up.
 fn look_up_fault(error: io::Error) -> EndpointFault {
     match error.kind() {

@@ -1,31 +1,26 @@
-//! A source whose values are what HTTP origins answer: the body of `GET prefix key` for each group's prefix.
+//! HTTP origins: where each is, the request for a key, what its answers may be, and a source that names them. The value of a key
+//! is the body of `GET prefix key`, by the prefix of its group.
 //!
-//! It stands on the sources of `peer_source`, on the replies of `peer_http`, and on the sockets of std. It promises that
-//! a value which a fetch found is the content of a whole reply with status 200 that came on a connection on which the
-//! request for this very key was sent, and that at most two requests were sent: of connections whose bytes are told. Sockets
-//! tell nothing of theirs; of a fetch without them `peer_value` says the same. An answer is a value within the limit or one of
-//! the texts of `FetchFault`.
+//! It stands on the sources of `peer_source` and on the requests of `peer_http`. It promises the request for a key, the number of
+//! each group and its endpoint, and that an answer is a value within the limit or one of the texts of `FetchFault`. What a fetch is
+//! its specs say (`Fetches`); `peer_value` promises it of a fetch as a state.
 #![tactic(auto)]
 
 mod addresses;
-mod connections;
-mod deadline;
 mod endpoint;
-mod exchange;
+mod failure;
 mod fault;
 mod origin;
+mod requests;
 mod settings;
-mod sockets;
 mod source;
-mod stream;
 mod target;
 
-pub use addresses::Addresses;
-pub use connections::{Connection, Connections};
+pub use addresses::{Addresses, is_to_itself};
 pub use endpoint::{Endpoint, EndpointFault};
-pub use exchange::{Failure, failure_of, fetch, request};
+pub use failure::{Failure, failure_of};
 pub use fault::{FetchFault, get_fault};
 pub use origin::Origin;
+pub use requests::request;
 pub use settings::FetchSettings;
-pub use sockets::is_to_itself;
 pub use source::OriginSource;

@@ -4,34 +4,23 @@ ghost use Rattle.std.specs.Bool.{OnFalse, OnTrue};
 ghost use Rattle.peer_origin.specs.Endpoints.{addresses_of, asked_at};
 
 use crate::endpoint::Endpoint;
-use crate::sockets::is_quiet;
-use peer_wait::lock;
-use std::alloc::{AllocError, Global};
-use std::net::TcpStream;
-use std::sync::{Arc, Mutex, Wait};
+use std::alloc::AllocError;
+use std::sync::Arc;
 
-// How many idle connections are kept: one for each worker that a pool can have.
-const MAX_IDLE: usize = 16;
-
-/// The origin of one group, and its idle connections, the one used last behind the others.
+/// The origin of one group.
 #[derive(Drop)]
 pub struct Origin {
     pub(crate) name: Vec<u8>,
     pub(crate) endpoint: Endpoint,
-    idle: Mutex<Vec<Arc<TcpStream>>>,
 }
 
 impl Origin {
     /// The origin of a group of this name.
-    pub fn new(alloc: Global, name: Vec<u8>, endpoint: Endpoint) -> Origin
+    pub fn new(name: Vec<u8>, endpoint: Endpoint) -> Origin
         ensures name { result.name ≡ name }
         ensures endpoint { result.endpoint ≡ endpoint }
     {
-        Origin {
-            name,
-            endpoint,
-            idle: Mutex::new(Vec::new(alloc)),
-        }
+        Origin { name, endpoint }
     }
 
     /// Whether both are origins of groups of one name.
@@ -54,24 +43,5 @@ impl Origin {
             self.endpoint.addresses = Arc::try_clone(&other.endpoint.addresses)?;
         }
         Ok(())
-    }
-
-    /// An idle connection on which nothing came. Others are let go.
-    pub(crate) fn take_idle<H: Wait>(&self, rt: &H) -> Option<Arc<TcpStream>> {
-        for _ in 0..=MAX_IDLE {
-            let stream = lock(rt, &self.idle).pop()?;
-            if is_quiet(&stream) {
-                return Some(stream);
-            }
-        }
-        None
-    }
-
-    /// Keeps a connection for the next request, where there is room.
-    pub(crate) fn keep_idle<H: Wait>(&self, rt: &H, stream: Arc<TcpStream>) {
-        let mut idle = lock(rt, &self.idle);
-        if idle.len() < MAX_IDLE {
-            let _ = idle.push(stream);
-        }
     }
 }

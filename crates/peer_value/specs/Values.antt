@@ -4,8 +4,8 @@ use Rattle.std.specs.declared.alloc.Global.{Global}
 use Rattle.peer_origin.specs.Fetches.{Use}
 use Rattle.peer_origin.specs.declared.fault.FetchFault.{FetchFault}
 use Rattle.peer_origin.specs.declared.fault.FetchFault.TheVariants as fault
-use Rattle.peer_origin.specs.declared.exchange.Failure.{Failure}
-use Rattle.peer_origin.specs.declared.exchange.Failure.TheVariants as fail
+use Rattle.peer_origin.specs.declared.failure.Failure.{Failure}
+use Rattle.peer_origin.specs.declared.failure.Failure.TheVariants as fail
 use Rattle.peer_http.specs.Replies.{HasHead, IsReply}
 use Rattle.peer_source.specs.Answers.{Answer}
 use Rattle.peer_view.specs.Sinks.{MAX_VALUE}

@@ -9,7 +9,7 @@ ghost use Rattle.std.specs.Prelude.{◌≡◌, ◌≢◌, ◌+◌, ◌≤◌, �
 ghost use Rattle.std.specs.Prelude.{Err, IfErr, IfOk, IfSome, IsFalse, IsTrue, None};
 ghost use Rattle.peer_view.specs.Sinks.{MAX_VALUE};
 ghost use Rattle.peer_http.specs.Requests.{Awaits};
-ghost use Rattle.peer_origin.specs.declared.exchange.Failure.TheVariants as fail;
+ghost use Rattle.peer_origin.specs.declared.failure.Failure.TheVariants as fail;
 ghost use Rattle.peer_origin.specs.declared.fault.FetchFault.TheVariants as fault;
 ghost use Rattle.peer_value.specs.Fetchings.{GoesOnAnew};
 
@@ -136,7 +136,7 @@ impl Fetching {
         match self.receiving.receive(bytes) {
             Ok(Some(reply)) => Ok(Some(answer_of(reply))),
             Ok(None) => Ok(None),
-            Err(fault) => Err(failure_of(fault, false)),
+            Err(fault) => Err(failure_of(fault)),
         }
     }
 
@@ -153,7 +153,7 @@ impl Fetching {
         self.ended = true;
         match self.receiving.end() {
             Ok(reply) => Ok(answer_of(reply)),
-            Err(fault) => Err(failure_of(fault, false)),
+            Err(fault) => Err(failure_of(fault)),
         }
     }
 
@@ -162,7 +162,7 @@ impl Fetching {
         ensures silent { result ≡ fail.Silent ↔ (self.now.receiving.came.bytes ≡ []) }
         ensures failure { IsFailureOf self.now.receiving.came.bytes result }
     {
-        failure_of(self.receiving.cut(), false)
+        failure_of(self.receiving.cut())
     }
 
     /// Begins anew, for a second try. Whether it may: this is the first, and nothing came.

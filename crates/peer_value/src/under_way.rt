@@ -1,7 +1,7 @@
 //! A value under way, or one that waits to be: a job, the numbered endpoint of its origin, and the fetch.
 ghost use Rattle.std.specs.Prelude.{◌≡◌, ◌≢◌, ◌+◌, ◌≤◌, ◌↔◌, ◌⊎◌, ◌++◌, [], ◌∷◌, Some, false, true, drop, length};
 ghost use Rattle.std.specs.Prelude.{Err, IfErr, IfOk, IfSome, IsErr, IsTrue};
-ghost use Rattle.peer_origin.specs.declared.exchange.Failure.TheVariants as fail;
+ghost use Rattle.peer_origin.specs.declared.failure.Failure.TheVariants as fail;
 ghost use Rattle.peer_origin.specs.declared.fault.FetchFault.TheVariants as fault;
 ghost use Rattle.peer_value.specs.Endpoints.{IsOfGroup};
 ghost use Rattle.peer_value.specs.Fetchings.{request_at, use_by};

@@ -187,7 +187,7 @@ pub fn prepare<H: Network>(rt: &H, alloc: Global, groups: Groups<'_>) -> Option<
     for (group, host) in groups {
         let endpoint = endpoint_of(alloc, &listener, host, "")?;
         let name = group.to_vec(alloc).ok()?;
-        origins.push(Origin::new(alloc, name, endpoint)).ok()?;
+        origins.push(Origin::new(name, endpoint)).ok()?;
     }
     Some(Prepared { listener, origins })
 }
@@ -237,7 +237,7 @@ fn see_at<L: Ledger + Send + Sync, H: Host>(
 {
     let settings = beside.setting.settings;
     let counters = Counters::new();
-    let source = OriginSource::new(rt, counters.failures(), origins, settings.fetch);
+    let source = OriginSource::new(origins);
     let endpoints = source.endpoints(alloc).ok()?;
     let (parts, wakers) = parts_of(
         rt,
@@ -246,7 +246,7 @@ fn see_at<L: Ledger + Send + Sync, H: Host>(
     )?;
     let plan = plan_of(endpoints.as_slice(), settings, counters.failures());
     let running = (FetchThread::new(alloc, parts, plan), wakers);
-    let opened = open_pool::<OriginSource<'_, H>, L>(alloc, source, 0, 1, 1, blank);
+    let opened = open_pool::<OriginSource, L>(alloc, source, 0, 1, 1, blank);
     let Some(opened) = opened else {
         return None;
     };

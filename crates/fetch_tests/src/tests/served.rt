@@ -141,7 +141,7 @@ fn serve_prepared<
     let server = TcpListener::bind(rt, "127.0.0.1:0").ok()?;
     let address = server.local_addr().ok()?;
     let Prepared { listener, origins } = prepare(rt, rt.alloc(), &[(b"echo", LOOPBACK)])?;
-    let source = OriginSource::new(rt, outside.counters.failures(), origins, patient().fetch);
+    let source = OriginSource::new(origins);
     let endpoints = source.endpoints(rt.alloc()).ok()?;
     let fetched = Counters::new();
     let plan = plan_of(endpoints.as_slice(), patient(), fetched.failures());

@@ -1,39 +1,22 @@
 //! What each kind of reply gives.
-use super::scripted::{End, Script, play_new};
-use peer_origin::FetchFault;
+use super::driven::{End, ONE_PIECE, comes_to, fetch};
+use peer_origin::{Failure, FetchFault};
 use std::alloc::{AllocError, Global};
 
-// Whether a text with this end gives this, in one piece and byte by byte.
-fn gives_at(
-    alloc: Global,
-    text: &[u8],
-    end: End,
-    want: Result<&[u8], FetchFault>,
-) -> Result<bool, AllocError> {
-    let one = play_new(alloc, Script::new(alloc, &[text], end)?)?;
-    let cut = play_new(alloc, Script::by_bytes(alloc, text, end)?)?;
-    Ok(one.answers(want) && cut.answers(want))
+// Whether a text with this end comes to this, in one piece and byte by byte.
+fn gives_at(alloc: Global, text: &[u8], end: End, want: Result<&[u8], Failure>) -> bool {
+    comes_to(alloc, text, ONE_PIECE, end, want) && comes_to(alloc, text, 1, end, want)
 }
 
 // Whether a text gives this value, whatever comes behind it.
-fn gives(alloc: Global, text: &[u8], value: &[u8]) -> Result<bool, AllocError> {
-    Ok(
-        gives_at(alloc, text, End::Closed, Ok(value))?
-            && gives_at(alloc, text, End::Failed, Ok(value))?,
-    )
+fn gives(alloc: Global, text: &[u8], value: &[u8]) -> bool {
+    gives_at(alloc, text, End::Closed, Ok(value)) && gives_at(alloc, text, End::Failed, Ok(value))
 }
 
-// Whether a text fails with this, whatever comes behind it. Where one was cut, the time may be over too.
-fn fails(alloc: Global, text: &[u8], fault: FetchFault) -> Result<bool, AllocError> {
-    let late = match fault {
-        FetchFault::Lost => FetchFault::Late,
-        told => told,
-    };
-    Ok(
-        gives_at(alloc, text, End::Closed, Err(fault))?
-            && gives_at(alloc, text, End::Failed, Err(fault))?
-            && gives_at(alloc, text, End::Late, Err(late))?,
-    )
+// Whether a text fails with this, whatever comes behind it.
+fn fails(alloc: Global, text: &[u8], failure: Failure) -> bool {
+    gives_at(alloc, text, End::Closed, Err(failure))
+        && gives_at(alloc, text, End::Failed, Err(failure))
 }
 
 // Whole replies with this value.
@@ -46,27 +29,32 @@ const WHOLE: [&[u8]; 5] = [
 ];
 
 #[test]
-fn gives_whole_bodies(rt: HostRuntime) -> Result<(), AllocError> {
+fn gives_whole_bodies(rt: HostRuntime) {
     for text in WHOLE {
-        assert!(rt; gives(rt.alloc(), text, b"value")?, "{text:?}");
+        assert!(rt; gives(rt.alloc(), text, b"value"), "{text:?}");
     }
     let empty = b"HTTP/1.1 200 OK\r\nContent-Length: 0\r\n\r\n";
-    assert!(rt; gives(rt.alloc(), empty, b"")?);
-    Ok(())
+    assert!(rt; gives(rt.alloc(), empty, b""));
 }
 
 #[test]
-fn gives_a_body_until_the_close_only_where_that_is_told(rt: HostRuntime) -> Result<(), AllocError> {
+fn gives_a_body_until_the_close_only_where_that_is_told(rt: HostRuntime) {
     let alloc = rt.alloc();
     let text = b"HTTP/1.1 200 OK\r\nConnection: close\r\n\r\nvalue";
-    assert!(rt; gives_at(alloc, text, End::Closed, Ok(b"value"))?);
-    assert!(rt; gives_at(alloc, text, End::Failed, Err(FetchFault::Lost))?);
-    assert!(rt; gives_at(alloc, text, End::Late, Err(FetchFault::Late))?);
-    Ok(())
+    let lost = Failure::Fetch(FetchFault::Lost);
+    assert!(rt; gives_at(alloc, text, End::Closed, Ok(b"value")));
+    assert!(rt; gives_at(alloc, text, End::Failed, Err(lost)));
+}
+
+#[test]
+fn is_silent_only_where_nothing_came(rt: HostRuntime) {
+    let alloc = rt.alloc();
+    assert!(rt; fails(alloc, b"", Failure::Silent));
+    assert!(rt; fails(alloc, b"H", Failure::Fetch(FetchFault::Lost)));
 }
 
 // Texts that give no value, and what each fails with.
-const FAILURES: [(&[u8], FetchFault); 20] = [
+const FAILURES: [(&[u8], FetchFault); 19] = [
     // Another status.
     (
         b"HTTP/1.1 404 Not Found\r\nContent-Length: 4\r\n\r\nnone",
@@ -86,7 +74,6 @@ const FAILURES: [(&[u8], FetchFault); 20] = [
         FetchFault::Status(206),
     ),
     // A reply that was cut.
-    (b"", FetchFault::Lost),
     (b"HTTP/1.1 200 OK\r\nContent-Le", FetchFault::Lost),
     (
         b"HTTP/1.1 200 OK\r\nContent-Length: 6\r\n\r\nvalue",
@@ -138,11 +125,10 @@ const FAILURES: [(&[u8], FetchFault); 20] = [
 ];
 
 #[test]
-fn gives_nothing_else(rt: HostRuntime) -> Result<(), AllocError> {
+fn gives_nothing_else(rt: HostRuntime) {
     for (text, fault) in FAILURES {
-        assert!(rt; fails(rt.alloc(), text, fault)?, "{text:?}");
+        assert!(rt; fails(rt.alloc(), text, Failure::Fetch(fault)), "{text:?}");
     }
-    Ok(())
 }
 
 // A reply with so many fields, each with so many bytes in its value.
@@ -162,12 +148,13 @@ fn reply_with(alloc: Global, fields: usize, bytes: usize) -> Result<Vec<u8>, All
 // Whether a reply with so many fields of so many bytes gives its value, or is refused.
 fn head_is(alloc: Global, fields: usize, bytes: usize, taken: bool) -> Result<bool, AllocError> {
     let text = reply_with(alloc, fields, bytes)?;
-    let played = play_new(alloc, Script::new(alloc, &[&text], End::Closed)?)?;
-    Ok(if taken {
-        played.answers(Ok(b"v"))
+    let malformed = Failure::Fetch(FetchFault::Malformed);
+    let want = if taken {
+        Ok(b"v".as_slice())
     } else {
-        played.answers(Err(FetchFault::Malformed))
-    })
+        Err(malformed)
+    };
+    Ok(comes_to(alloc, &text, ONE_PIECE, End::Closed, want))
 }
 
 #[test]
@@ -193,22 +180,23 @@ fn chunk_of(alloc: Global, size: &[u8], bytes: usize) -> Result<Vec<u8>, AllocEr
 }
 
 // How long the value of a text is, none where there is none.
-fn length_of(alloc: Global, text: &[u8]) -> Result<Result<usize, FetchFault>, AllocError> {
-    let played = play_new(alloc, Script::new(alloc, &[text], End::Closed)?)?;
-    Ok(match &played.result {
+fn length_of(alloc: Global, text: &[u8]) -> Option<Result<usize, Failure>> {
+    let fetched = fetch(alloc, text, ONE_PIECE, End::Closed)?;
+    Some(match &fetched.value {
         Ok(value) => Ok(value.len()),
-        Err(fault) => Err(*fault),
+        Err(failure) => Err(*failure),
     })
 }
 
 #[test]
 fn takes_values_of_a_mebibyte_at_most(rt: HostRuntime) -> Result<(), AllocError> {
     let alloc = rt.alloc();
+    let too_long = Failure::Fetch(FetchFault::TooLong);
     let whole = chunk_of(alloc, b"100000", 1_048_576)?;
-    assert!(rt; length_of(alloc, &whole)? == Ok(1_048_576));
+    assert!(rt; length_of(alloc, &whole) == Some(Ok(1_048_576)));
     let over = chunk_of(alloc, b"100001", 1_048_577)?;
-    assert!(rt; length_of(alloc, &over)? == Err(FetchFault::TooLong));
+    assert!(rt; length_of(alloc, &over) == Some(Err(too_long)));
     let told = b"HTTP/1.1 200 OK\r\nContent-Length: 1048577\r\n\r\n";
-    assert!(rt; length_of(alloc, told)? == Err(FetchFault::TooLong));
+    assert!(rt; length_of(alloc, told) == Some(Err(too_long)));
     Ok(())
 }
