@@ -1,5 +1,6 @@
 //! What clients of both servers receive, and when servers end: a file for each group of tests, and for what they share.
 
+mod actions;
 mod asking;
 mod calls;
 mod clients;
@@ -13,7 +14,6 @@ mod meeting;
 mod memory;
 mod pipelining;
 mod plans;
-mod scenes;
 mod servers;
 mod serving;
 mod stalls;

@@ -1,10 +1,10 @@
 //! Clients that ask for many keys, one after the other or all at once, of each server: its threads sleep, and are woken.
 
+use super::actions::Actions;
 use super::calls::Calls;
 use super::clients::{connect, receive, send};
-use super::plans::{BOTH, Expect, Held, Kind, plan_of, play_of};
-use super::scenes::Scene;
-use super::servers::is_played;
+use super::plans::{BOTH, Expect, Held, Kind, case_of, plan_of};
+use super::servers::is_met;
 use std::alloc::Global;
 use std::io::Read;
 use std::net::{Net, SocketAddr, TcpListener, TcpStream};
@@ -62,13 +62,13 @@ pub fn ask_each<H: AllocGlobal + Net<Listener = TcpListener, Stream = TcpStream>
 fn a_fill_comes_at_each_moment_of_falling_asleep(rt: HostRuntime) {
     let plan = plan_of(1, 1, 1).holding(Held::Longer);
     for kind in BOTH {
-        let play = play_of(
+        let case = case_of(
             kind,
             plan,
-            Scene::AskEach(MOMENTS),
+            Actions::AskEach(MOMENTS),
             Expect::Asked(MOMENTS as u64),
         );
-        assert!(rt; is_played(&rt, play), "at {kind:?}");
+        assert!(rt; is_met(&rt, case), "at {kind:?}");
     }
 }
 
@@ -145,28 +145,39 @@ fn clients_ask_for_many_keys_at_once(rt: HostRuntime) {
     let plan = plan_of(1, 6, 1).on_loops(3);
     let crowd = plan_of(1, 100, 1).filling(Some(6));
     let one = plan_of(1, 1, 1).filling(Some(1));
-    for (what, play) in [
-        ("seats", play_of(Kind::Seats, plan, Scene::SixAsk(0), asked)),
-        ("loops", play_of(Kind::Loops, plan, Scene::SixAsk(0), asked)),
+    for (what, case) in [
+        (
+            "seats",
+            case_of(Kind::Seats, plan, Actions::SixAsk(0), asked),
+        ),
+        (
+            "loops",
+            case_of(Kind::Loops, plan, Actions::SixAsk(0), asked),
+        ),
         (
             "a loop that fills",
-            play_of(Kind::Loops, crowd, Scene::SixAsk(1_000), asked),
+            case_of(Kind::Loops, crowd, Actions::SixAsk(1_000), asked),
         ),
         (
             "three loops that fill",
-            play_of(Kind::Loops, crowd.on_loops(3), Scene::SixAsk(1_000), asked),
+            case_of(
+                Kind::Loops,
+                crowd.on_loops(3),
+                Actions::SixAsk(1_000),
+                asked,
+            ),
         ),
         (
             "a loop that fills for one",
-            play_of(
+            case_of(
                 Kind::Loops,
                 one,
-                Scene::AskEach(300),
+                Actions::AskEach(300),
                 Expect::Counted(all_called(300)),
             ),
         ),
     ] {
-        assert!(rt; is_played(&rt, play), "{what}");
+        assert!(rt; is_met(&rt, case), "{what}");
     }
 }
 
@@ -219,8 +230,8 @@ fn more_clients_ask_than_the_queue_has_room_for(rt: HostRuntime) {
         (Kind::Loops, 300, 8, 300 * 9),
     ] {
         let plan = plan_of(1, clients, 1).holding(Held::Numbers);
-        let scene = Scene::EachAsks(clients as u32, keys);
-        let play = play_of(kind, plan, scene, Expect::Asked(asked));
-        assert!(rt; is_played(&rt, play), "at {kind:?}");
+        let actions = Actions::EachAsks(clients as u32, keys);
+        let case = case_of(kind, plan, actions, Expect::Asked(asked));
+        assert!(rt; is_met(&rt, case), "at {kind:?}");
     }
 }

@@ -1,8 +1,8 @@
 //! Whom a server keeps and whom it gives up, by how many of its seats are taken.
 
-use super::plans::{Expect, Kind, Plan, Play, attentive, plan_of, play_of};
-use super::scenes::Scene;
-use super::servers::is_played;
+use super::actions::Actions;
+use super::plans::{Case, Expect, Kind, Plan, attentive, case_of, plan_of};
+use super::servers::is_met;
 use super::visits::Visit;
 use super::visits::Visit::{Asks, Comes, Pauses, SaysNothing};
 use peer_runtime::Limits;
@@ -24,17 +24,17 @@ fn request_when_full(milliseconds: u64) -> Limits {
     }
 }
 
-// The play of a server in threads.
-fn crowd(plan: Plan, limits: Limits, visits: &[Visit], asked: u64) -> Play<'_> {
-    let (scene, expect) = (Scene::Visits(visits), Expect::Asked(asked));
-    play_of(Kind::Seats, plan.within(limits), scene, expect)
+// The case of a server in threads.
+fn crowd(plan: Plan, limits: Limits, visits: &[Visit], asked: u64) -> Case<'_> {
+    let (actions, expect) = (Actions::Visits(visits), Expect::Asked(asked));
+    case_of(Kind::Seats, plan.within(limits), actions, expect)
 }
 
 // The client that is answered sends for longer than one may that gets no reply, and is answered meanwhile.
 #[test]
 fn a_client_is_given_up_only_where_no_seat_is_free(rt: HostRuntime) {
     let soon = silence_when_full(100);
-    for (what, play) in [
+    for (what, case) in [
         (
             "a silent client is kept beside a free seat",
             crowd(plan_of(1, 2, 1), soon, &[Pauses(500), Comes], 2),
@@ -66,6 +66,6 @@ fn a_client_is_given_up_only_where_no_seat_is_free(rt: HostRuntime) {
             ),
         ),
     ] {
-        assert!(rt; is_played(&rt, play), "{what}");
+        assert!(rt; is_met(&rt, case), "{what}");
     }
 }

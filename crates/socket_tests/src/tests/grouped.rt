@@ -1,9 +1,9 @@
 //! The caches of several groups.
 
+use super::actions::Actions;
 use super::clients::{exchange, is_served, is_text};
-use super::plans::{BOTH, Expect, plan_of, play_of};
-use super::scenes::Scene;
-use super::servers::is_played;
+use super::plans::{BOTH, Expect, case_of, plan_of};
+use super::servers::is_met;
 use peer_fill::Report;
 use std::net::{Net, SocketAddr, TcpListener, TcpStream};
 use std::sync::Wait;
@@ -36,7 +36,7 @@ fn each_group_keeps_its_value(rt: HostRuntime) {
     });
     for kind in BOTH {
         let plan = plan_of(1, 1, 4).caching(1000);
-        let play = play_of(kind, plan, Scene::AskGroups, counted);
-        assert!(rt; is_played(&rt, play), "at {kind:?}");
+        let case = case_of(kind, plan, Actions::AskGroups, counted);
+        assert!(rt; is_met(&rt, case), "at {kind:?}");
     }
 }

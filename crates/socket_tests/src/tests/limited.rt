@@ -1,9 +1,9 @@
 //! Clients that a server gives up, of each server.
 
+use super::actions::Actions;
 use super::clients::{connect, is_served, send};
-use super::plans::{Expect, Kind, attentive, plan_of, play_of};
-use super::scenes::Scene;
-use super::servers::is_played;
+use super::plans::{Expect, Kind, attentive, case_of, plan_of};
+use super::servers::is_met;
 use super::visits::{Visit, are_found};
 use peer_runtime::Limits;
 use std::net::{Net, SocketAddr, TcpListener, TcpStream};
@@ -99,8 +99,8 @@ fn a_client_that_takes_nothing_is_closed(rt: HostRuntime) {
         (Kind::Seats, 8, Expect::Asked(9)),
         (Kind::Loops, 64, Expect::Ends),
     ] {
-        let play = play_of(kind, plan, Scene::BesideGreedy(count), expect);
-        assert!(rt; is_played(&rt, play), "at {kind:?}");
+        let case = case_of(kind, plan, Actions::BesideGreedy(count), expect);
+        assert!(rt; is_met(&rt, case), "at {kind:?}");
     }
 }
 

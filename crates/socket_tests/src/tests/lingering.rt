@@ -1,10 +1,10 @@
 //! The close of a connection by the server, beside a client that still sends.
 
+use super::actions::Actions;
 use super::calls::{ASK_SLOW, Calls, FOUND_SLOW};
 use super::clients::{connect, receives, send};
-use super::plans::{Expect, Kind, attentive, patient, plan_of, play_of};
-use super::scenes::Scene;
-use super::servers::is_played;
+use super::plans::{Expect, Kind, attentive, case_of, patient, plan_of};
+use super::servers::is_met;
 use super::visits::{Visit, are_found};
 use peer_runtime::Limits;
 use std::net::{Net, SocketAddr, TcpListener, TcpStream};
@@ -50,6 +50,6 @@ fn a_client_that_is_given_up_in_threads_has_its_reply(rt: HostRuntime) {
         ..attentive()
     };
     let plan = plan_of(1, 1, 1).within(limits);
-    let play = play_of(Kind::Seats, plan, Scene::GivenUpWell, Expect::Asked(1));
-    assert!(rt; is_played(&rt, play));
+    let case = case_of(Kind::Seats, plan, Actions::GivenUpWell, Expect::Asked(1));
+    assert!(rt; is_met(&rt, case));
 }

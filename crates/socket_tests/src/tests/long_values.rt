@@ -1,9 +1,9 @@
 //! Values that are lent to the stream with their heads before them: each reply arrives as it is, one behind the other.
 
+use super::actions::Actions;
 use super::clients::{connect, is_text, receive, send};
-use super::plans::{BOTH, Expect, plan_of, play_of};
-use super::scenes::Scene;
-use super::servers::is_played;
+use super::plans::{BOTH, Expect, case_of, plan_of};
+use super::servers::is_met;
 use std::alloc::{AllocError, Global};
 use std::net::{Net, SocketAddr, TcpListener, TcpStream};
 use std::sync::Wait;
@@ -97,7 +97,7 @@ pub fn receives_all<
 fn each_long_value_arrives_behind_its_head(rt: HostRuntime) {
     let plan = plan_of(1, 1, 1).caching(4_194_304);
     for kind in BOTH {
-        let play = play_of(kind, plan, Scene::LongValues, Expect::Asked(49));
-        assert!(rt; is_played(&rt, play), "at {kind:?}");
+        let case = case_of(kind, plan, Actions::LongValues, Expect::Asked(49));
+        assert!(rt; is_met(&rt, case), "at {kind:?}");
     }
 }

@@ -1,9 +1,9 @@
 //! What the server on event loops has alone: counters that it publishes.
 
+use super::actions::Actions;
 use super::clients::{exchange, is_served, is_soon};
-use super::plans::{Expect, Kind, plan_of, play_of};
-use super::scenes::Scene;
-use super::servers::{Outside, is_played};
+use super::plans::{Expect, Kind, case_of, plan_of};
+use super::servers::{Outside, is_met};
 use peer_stats::Counters;
 use std::net::{Net, SocketAddr, TcpListener, TcpStream};
 use std::sync::Wait;
@@ -35,13 +35,13 @@ pub fn is_published<
 
 #[test]
 fn a_server_publishes_what_it_counts(rt: HostRuntime) {
-    let play = play_of(
+    let case = case_of(
         Kind::Loops,
         plan_of(1, 1, 1),
-        Scene::Published,
+        Actions::Published,
         Expect::Asked(2),
     );
-    assert!(rt; is_played(&rt, play));
+    assert!(rt; is_met(&rt, case));
 }
 
 // Whether each of two loops has counted two requests.
@@ -61,6 +61,6 @@ pub fn is_dealt<H: AllocGlobal + Net<Listener = TcpListener, Stream = TcpStream>
 #[test]
 fn clients_are_dealt_to_the_loops_in_turn(rt: HostRuntime) {
     let plan = plan_of(1, 4, 1).on_loops(2);
-    let play = play_of(Kind::Loops, plan, Scene::Dealt, Expect::Asked(4));
-    assert!(rt; is_played(&rt, play));
+    let case = case_of(Kind::Loops, plan, Actions::Dealt, Expect::Asked(4));
+    assert!(rt; is_met(&rt, case));
 }

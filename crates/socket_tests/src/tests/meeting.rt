@@ -1,10 +1,10 @@
 //! Two connections, where the fill of one waits for that of the other, of each server.
 
+use super::actions::Actions;
 use super::calls::{ASK_SLOW, Calls};
 use super::clients::{connect, has_value, is_answered_last, send};
-use super::plans::{Expect, Kind, plan_of, play_of};
-use super::scenes::Scene;
-use super::servers::is_played;
+use super::plans::{Expect, Kind, case_of, plan_of};
+use super::servers::is_met;
 use std::net::{Net, SocketAddr, TcpListener, TcpStream};
 use std::sync::Wait;
 use std::time::Clock;
@@ -39,8 +39,8 @@ fn a_fill_waits_for_that_of_another_connection(rt: HostRuntime) {
         (Kind::Loops, true),
         (Kind::Loops, false),
     ] {
-        let scene = Scene::AskBoth(later_first);
-        let play = play_of(kind, plan_of(2, 2, 1), scene, Expect::Asked(2));
-        assert!(rt; is_played(&rt, play), "at {kind:?} {later_first:?}");
+        let actions = Actions::AskBoth(later_first);
+        let case = case_of(kind, plan_of(2, 2, 1), actions, Expect::Asked(2));
+        assert!(rt; is_met(&rt, case), "at {kind:?} {later_first:?}");
     }
 }

@@ -1,10 +1,10 @@
 //! What a client is asked for while all clients together hold too much.
 
+use super::actions::Actions;
 use super::calls::Calls;
 use super::clients::{connect, is_answered, send};
-use super::plans::{Expect, Kind, attentive, plan_of, play_of};
-use super::scenes::Scene;
-use super::servers::is_played;
+use super::plans::{Expect, Kind, attentive, case_of, plan_of};
+use super::servers::is_met;
 use std::alloc::{AllocError, Global};
 use std::io::Read;
 use std::net::{Net, SocketAddr, TcpListener, TcpStream};
@@ -97,6 +97,6 @@ pub fn is_narrowed<H: AllocGlobal + Net<Listener = TcpListener, Stream = TcpStre
 #[test]
 fn a_client_is_asked_for_one_value_where_others_hold_too_much(rt: HostRuntime) {
     let plan = plan_of(8, 2, 1).within(attentive());
-    let play = play_of(Kind::Loops, plan, Scene::Narrowed, Expect::Ends);
-    assert!(rt; is_played(&rt, play));
+    let case = case_of(Kind::Loops, plan, Actions::Narrowed, Expect::Ends);
+    assert!(rt; is_met(&rt, case));
 }

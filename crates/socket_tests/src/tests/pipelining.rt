@@ -1,10 +1,10 @@
 //! A client that sends more requests at once than may wait at one moment.
 
+use super::actions::Actions;
 use super::asking::many_requests;
 use super::clients::{connect, is_soon, receive, send};
-use super::plans::{Expect, Held, Kind, plan_of, play_of};
-use super::scenes::Scene;
-use super::servers::{Outside, is_played};
+use super::plans::{Expect, Held, Kind, case_of, plan_of};
+use super::servers::{Outside, is_met};
 use peer_stats::Counters;
 use std::net::{Net, SocketAddr, TcpListener, TcpStream};
 use std::sync::Wait;
@@ -44,6 +44,6 @@ pub fn is_asked_on<H: AllocGlobal + Net<Listener = TcpListener, Stream = TcpStre
 #[test]
 fn more_is_asked_for_once_the_first_that_waits_is_answered(rt: HostRuntime) {
     let plan = plan_of(1, 1, 1).holding(Held::TwoNumbers);
-    let play = play_of(Kind::Loops, plan, Scene::AskedOn, Expect::Asked(6));
-    assert!(rt; is_played(&rt, play));
+    let case = case_of(Kind::Loops, plan, Actions::AskedOn, Expect::Asked(6));
+    assert!(rt; is_met(&rt, case));
 }

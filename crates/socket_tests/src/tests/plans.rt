@@ -1,6 +1,6 @@
 //! What a test asks for: which server is to serve and how, what its clients do, and what the server is to count.
 
-use super::scenes::Scene;
+use super::actions::Actions;
 use peer_fill::Report;
 use peer_loop::Fillers;
 use peer_runtime::Limits;
@@ -192,19 +192,19 @@ impl Expect {
 
 /// A server, what its clients do, and how it is to end.
 #[derive(Clone, Copy)]
-pub struct Play<'v> {
+pub struct Case<'v> {
     pub kind: Kind,
     pub plan: Plan,
-    pub scene: Scene<'v>,
+    pub actions: Actions<'v>,
     pub expect: Expect,
 }
 
-/// The play of these parts.
-pub fn play_of(kind: Kind, plan: Plan, scene: Scene<'_>, expect: Expect) -> Play<'_> {
-    Play {
+/// The case of these parts.
+pub fn case_of(kind: Kind, plan: Plan, actions: Actions<'_>, expect: Expect) -> Case<'_> {
+    Case {
         kind,
         plan,
-        scene,
+        actions,
         expect,
     }
 }

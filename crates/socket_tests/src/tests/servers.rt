@@ -1,8 +1,8 @@
 //! A server of each kind in a thread of its own, beside its clients.
 
+use super::actions::is_seen;
 use super::calls::{Calls, Waiting};
-use super::plans::{Ended, Kind, Plan, Play};
-use super::scenes::is_seen;
+use super::plans::{Case, Ended, Kind, Plan};
 use peer_fill::{OpenFault, Report};
 use peer_loop::{Stop, serve_loops};
 use peer_socket::{peer_server, serve_within};
@@ -135,10 +135,10 @@ where
 // Whether the clients see what they are to see. Behind them all calls may go on, and a server that is to be told ends.
 fn is_seen_by_clients<
     H: AllocGlobal + Net<Listener = TcpListener, Stream = TcpStream> + Wait + Clock,
->(rt: &H, address: SocketAddr, play: Play<'_>, outside: &Outside) -> bool {
-    let seen = is_seen(rt, address, play.scene, outside);
+>(rt: &H, address: SocketAddr, case: Case<'_>, outside: &Outside) -> bool {
+    let seen = is_seen(rt, address, case.actions, outside);
     outside.calls.open_all();
-    if play.plan.accepts.is_none() {
+    if case.plan.accepts.is_none() {
         outside.stop.stop();
     }
     seen
@@ -149,17 +149,17 @@ fn run_both<H: Net<Listener = TcpListener, Stream = TcpStream> + Threads + Wait 
     rt: &H,
     (listener, address): (TcpListener, SocketAddr),
     seed: RandomState,
-    play: Play<'_>,
+    case: Case<'_>,
     outside: &Outside,
 ) -> (Ended, bool)
 where
     H: AllocGlobal,
 {
     thread::scope(thread::scope_env(), rt, move |scope| -> (Ended, bool) {
-        let run = move || serve(rt, listener, seed, play.kind, &play.plan, outside);
+        let run = move || serve(rt, listener, seed, case.kind, &case.plan, outside);
         match scope.spawn(run) {
             Ok(server) => {
-                let seen = is_seen_by_clients(rt, address, play, outside);
+                let seen = is_seen_by_clients(rt, address, case, outside);
                 (server.join(rt), seen)
             }
             Err(_) => (Ended::Badly, false),
@@ -177,19 +177,20 @@ fn listen<H: Net<Listener = TcpListener, Stream = TcpStream>>(
 }
 
 /// Whether the clients of a server see what they are to see, and it ends as it is to end.
-pub fn is_played<
-    H: Net<Listener = TcpListener, Stream = TcpStream> + Threads + Wait + Clock + Sync,
->(rt: &H, play: Play<'_>) -> bool
+pub fn is_met<H: Net<Listener = TcpListener, Stream = TcpStream> + Threads + Wait + Clock + Sync>(
+    rt: &H,
+    case: Case<'_>,
+) -> bool
 where
     H: AllocGlobal + RandomSource,
 {
     let outside = Outside::new();
-    if play.plan.is_told {
+    if case.plan.is_told {
         outside.stop.stop();
     }
     let (Some(listening), Ok(seed)) = (listen(rt), RandomState::new(rt)) else {
         return false;
     };
-    let (ended, seen) = run_both(rt, listening, seed, play, &outside);
-    seen && play.expect.fits(ended)
+    let (ended, seen) = run_both(rt, listening, seed, case, &outside);
+    seen && case.expect.fits(ended)
 }

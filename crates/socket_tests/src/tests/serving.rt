@@ -1,12 +1,12 @@
 //! Connections that end by themselves, of each server.
 
+use super::actions::Actions;
 use super::clients::{
     connect, exchange, exchange_and_end, is_answered_last, is_served, is_text, receives, send,
     served_client,
 };
-use super::plans::{BOTH, Expect, Kind, plan_of, play_of};
-use super::scenes::Scene;
-use super::servers::is_played;
+use super::plans::{BOTH, Expect, Kind, case_of, plan_of};
+use super::servers::is_met;
 use peer_fill::Report;
 use std::net::{Net, SocketAddr, TcpListener, TcpStream};
 use std::sync::Wait;
@@ -58,37 +58,37 @@ fn a_client_asks_twice(rt: HostRuntime) {
     let (none, large) = (plan_of(2, 1, 1), plan_of(2, 1, 1).caching(1_048_576));
     let asked = Expect::Asked(2);
     let hit = Expect::Counted(ONE_HIT);
-    for (what, play) in [
+    for (what, case) in [
         (
             "by the usual server",
-            play_of(Kind::Usual, large, Scene::AskTwice, asked),
+            case_of(Kind::Usual, large, Actions::AskTwice, asked),
         ),
         (
             "by seats",
-            play_of(Kind::Seats, none, Scene::AskTwice, asked),
+            case_of(Kind::Seats, none, Actions::AskTwice, asked),
         ),
         (
             "by loops",
-            play_of(Kind::Loops, none, Scene::AskTwice, asked),
+            case_of(Kind::Loops, none, Actions::AskTwice, asked),
         ),
         (
             "by loops that keep",
-            play_of(Kind::Loops, large, Scene::AskTwice, asked),
+            case_of(Kind::Loops, large, Actions::AskTwice, asked),
         ),
         (
             "kept by the usual server",
-            play_of(Kind::Usual, large, Scene::AskBehind, hit),
+            case_of(Kind::Usual, large, Actions::AskBehind, hit),
         ),
         (
             "kept by seats",
-            play_of(Kind::Seats, large, Scene::AskBehind, hit),
+            case_of(Kind::Seats, large, Actions::AskBehind, hit),
         ),
         (
             "kept by loops",
-            play_of(Kind::Loops, large, Scene::AskBehind, hit),
+            case_of(Kind::Loops, large, Actions::AskBehind, hit),
         ),
     ] {
-        assert!(rt; is_played(&rt, play), "{what}");
+        assert!(rt; is_met(&rt, case), "{what}");
     }
 }
 
@@ -112,8 +112,8 @@ pub fn ask_in_turn<H: AllocGlobal + Net<Listener = TcpListener, Stream = TcpStre
 fn more_clients_than_connections(rt: HostRuntime) {
     let plan = plan_of(1, 1, 3).on_loops(2);
     for kind in BOTH {
-        let play = play_of(kind, plan, Scene::AskInTurn, Expect::Asked(4));
-        assert!(rt; is_played(&rt, play), "at {kind:?}");
+        let case = case_of(kind, plan, Actions::AskInTurn, Expect::Asked(4));
+        assert!(rt; is_met(&rt, case), "at {kind:?}");
     }
 }
 
@@ -137,8 +137,8 @@ pub fn reset_thrice<
 fn a_client_resets(rt: HostRuntime) {
     let plan = plan_of(1, 1, 4).caching(2_097_152);
     for kind in BOTH {
-        let play = play_of(kind, plan, Scene::ResetThrice, Expect::Ends);
-        assert!(rt; is_played(&rt, play), "at {kind:?}");
+        let case = case_of(kind, plan, Actions::ResetThrice, Expect::Ends);
+        assert!(rt; is_met(&rt, case), "at {kind:?}");
     }
 }
 
@@ -152,8 +152,8 @@ fn each_server_refuses_each_number(rt: HostRuntime) {
     ];
     for (plan, expect) in seats {
         let numbers = (plan.workers, plan.connections);
-        let play = play_of(Kind::Usual, plan, Scene::Nothing, expect);
-        assert!(rt; is_played(&rt, play), "seats at {numbers:?}");
+        let case = case_of(Kind::Usual, plan, Actions::Nothing, expect);
+        assert!(rt; is_met(&rt, case), "seats at {numbers:?}");
     }
     let one = plan_of(1, 1, 1);
     let loops = [
@@ -166,7 +166,7 @@ fn each_server_refuses_each_number(rt: HostRuntime) {
     ];
     for (plan, expect) in loops {
         let numbers = (plan.workers, plan.loops);
-        let play = play_of(Kind::Loops, plan, Scene::Nothing, expect);
-        assert!(rt; is_played(&rt, play), "loops at {numbers:?}");
+        let case = case_of(Kind::Loops, plan, Actions::Nothing, expect);
+        assert!(rt; is_met(&rt, case), "loops at {numbers:?}");
     }
 }

@@ -1,10 +1,10 @@
 //! A loop that stood still: those who asked meanwhile were not silent, however many they are.
 
+use super::actions::Actions;
 use super::calls::{ASK_SLOW, Calls};
 use super::clients::{connect, has_reply, send, served_client};
-use super::plans::{Expect, Kind, attentive, plan_of, play_of};
-use super::scenes::Scene;
-use super::servers::is_played;
+use super::plans::{Expect, Kind, attentive, case_of, plan_of};
+use super::servers::is_met;
 use peer_runtime::Limits;
 use std::net::{Net, SocketAddr, TcpListener, TcpStream};
 use std::sync::Wait;
@@ -50,6 +50,6 @@ fn those_who_ask_a_loop_that_stands_still_are_not_silent(rt: HostRuntime) {
     let plan = plan_of(1, 2 * CROWD, 1).within(limits);
     let plan = plan.filling(Some(CROWD as u64 + 1));
     let expect = Expect::Asked(2 * (CROWD as u64) + 1);
-    let play = play_of(Kind::Loops, plan, Scene::StandsStill, expect);
-    assert!(rt; is_played(&rt, play));
+    let case = case_of(Kind::Loops, plan, Actions::StandsStill, expect);
+    assert!(rt; is_met(&rt, case));
 }

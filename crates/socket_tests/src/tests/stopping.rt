@@ -1,10 +1,10 @@
 //! Servers that are told to end while clients are there.
 
+use super::actions::Actions;
 use super::calls::{ASK_SLOW, FOUND_SLOW};
 use super::clients::{connect, exchange, is_soon, receive, receives, send, served_client};
-use super::plans::{Expect, Kind, Plan, plan_of, play_of};
-use super::scenes::Scene;
-use super::servers::{Outside, is_played};
+use super::plans::{Expect, Kind, Plan, case_of, plan_of};
+use super::servers::{Outside, is_met};
 use std::net::{Net, SocketAddr, TcpListener, TcpStream};
 use std::sync::Wait;
 use std::sync::atomic::Ordering::SeqCst;
@@ -76,26 +76,26 @@ fn a_server_that_is_told_to_end_gives_the_values_that_are_waited_for(rt: HostRun
         is_told: true,
         ..plan
     };
-    let stopped = play_of(
+    let stopped = case_of(
         Kind::Loops,
         plan,
-        Scene::StopBeside(false),
+        Actions::StopBeside(false),
         Expect::Asked(4),
     );
-    assert!(rt; is_played(&rt, stopped));
-    let nothing = play_of(Kind::Loops, told, Scene::Nothing, Expect::Asked(0));
-    assert!(rt; is_played(&rt, nothing));
+    assert!(rt; is_met(&rt, stopped));
+    let nothing = case_of(Kind::Loops, told, Actions::Nothing, Expect::Asked(0));
+    assert!(rt; is_met(&rt, nothing));
 }
 
 #[test]
 fn all_who_stay_are_let_go_where_one_has_left_before_a_stop(rt: HostRuntime) {
-    let play = play_of(
+    let case = case_of(
         Kind::Loops,
         endless(),
-        Scene::StopBeside(true),
+        Actions::StopBeside(true),
         Expect::Asked(4),
     );
-    assert!(rt; is_played(&rt, play));
+    assert!(rt; is_met(&rt, case));
 }
 
 // Requests for a value of 1 MiB, and how many bytes the reply to each has: the client is idle behind the first, and closes behind
@@ -138,8 +138,13 @@ pub fn is_closed_well<
 fn a_server_that_is_told_to_end_cuts_no_close_short(rt: HostRuntime) {
     let plan = endless().caching(2_097_152);
     for row in 0..2 {
-        let play = play_of(Kind::Loops, plan, Scene::ClosedWell(row), Expect::Asked(2));
-        assert!(rt; is_played(&rt, play), "at {row}");
+        let case = case_of(
+            Kind::Loops,
+            plan,
+            Actions::ClosedWell(row),
+            Expect::Asked(2),
+        );
+        assert!(rt; is_met(&rt, case), "at {row}");
     }
 }
 
@@ -176,6 +181,6 @@ pub fn have_their_replies<
 #[test]
 fn those_who_asked_before_a_stop_have_their_replies(rt: HostRuntime) {
     let plan = plan_of(1, 10, 1).filling(None);
-    let play = play_of(Kind::Loops, plan, Scene::AskBeforeStop, Expect::Asked(4));
-    assert!(rt; is_played(&rt, play));
+    let case = case_of(Kind::Loops, plan, Actions::AskBeforeStop, Expect::Asked(4));
+    assert!(rt; is_met(&rt, case));
 }

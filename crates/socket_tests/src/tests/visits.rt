@@ -1,9 +1,9 @@
 //! Clients that come to a server one after the other, and what each finds.
 
+use super::actions::Actions;
 use super::clients::{connect, drips_in_vain, is_answered, is_answered_last, receives, send};
-use super::plans::{Expect, Kind, plan_of, play_of};
-use super::scenes::Scene;
-use super::servers::is_played;
+use super::plans::{Expect, Kind, case_of, plan_of};
+use super::servers::is_met;
 use peer_runtime::{Limits, Network};
 use std::net::{Net, SocketAddr, TcpListener, TcpStream};
 use std::random::RandomSource;
@@ -98,7 +98,7 @@ where
     H: AllocGlobal + RandomSource,
 {
     let plan = plan_of(1, 1, visits.len() as u64).within(limits);
-    let (scene, expect) = (Scene::Visits(visits), Expect::Asked(asked));
-    is_played(rt, play_of(Kind::Seats, plan, scene, expect))
-        && is_played(rt, play_of(Kind::Loops, plan, scene, expect))
+    let (actions, expect) = (Actions::Visits(visits), Expect::Asked(asked));
+    is_met(rt, case_of(Kind::Seats, plan, actions, expect))
+        && is_met(rt, case_of(Kind::Loops, plan, actions, expect))
 }

@@ -1,10 +1,10 @@
 //! Clients that wait for their values: for longer than one may be silent, and beside one that goes away.
 
+use super::actions::Actions;
 use super::calls::{ASK_SLOW, Calls};
 use super::clients::{connect, has_value, is_answered, is_served, is_soon, send};
-use super::plans::{Expect, Kind, patient, plan_of, play_of};
-use super::scenes::Scene;
-use super::servers::{Outside, is_played};
+use super::plans::{Expect, Kind, case_of, patient, plan_of};
+use super::servers::{Outside, is_met};
 use peer_runtime::Limits;
 use peer_stats::Counters;
 use std::io::Read;
@@ -47,13 +47,13 @@ fn a_client_that_waits_is_not_silent(rt: HostRuntime) {
         ..patient()
     };
     let plan = plan_of(1, 1, 1).within(limits);
-    let play = play_of(
+    let case = case_of(
         Kind::Loops,
         plan,
-        Scene::AnsweredLate,
+        Actions::AnsweredLate,
         Expect::Asked(2 * VALUES),
     );
-    assert!(rt; is_played(&rt, play));
+    assert!(rt; is_met(&rt, case));
 }
 
 // Has a client wait for a value with all but a byte of another reply unread, so that it resets its connection as it goes.
@@ -109,26 +109,26 @@ pub fn leaves_its_place<
 
 #[test]
 fn a_client_that_waits_and_resets_is_let_go(rt: HostRuntime) {
-    for (what, play) in [
+    for (what, case) in [
         (
             "between others",
-            play_of(
+            case_of(
                 Kind::Loops,
                 plan_of(2, 3, 2),
-                Scene::ResetsBetween,
+                Actions::ResetsBetween,
                 Expect::Asked(7),
             ),
         ),
         (
             "behind its last request",
-            play_of(
+            case_of(
                 Kind::Loops,
                 plan_of(2, 1, 2),
-                Scene::LeavesItsPlace,
+                Actions::LeavesItsPlace,
                 Expect::Asked(3),
             ),
         ),
     ] {
-        assert!(rt; is_played(&rt, play), "{what}");
+        assert!(rt; is_met(&rt, case), "{what}");
     }
 }
