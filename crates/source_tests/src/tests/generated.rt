@@ -149,7 +149,7 @@ fn is_as_modelled(alloc: Global, text: &[u8]) -> Result<bool, AllocError> {
 fn answers_as_a_list_of_lines_does(rt: HostRuntime) {
     let alloc = rt.alloc();
     let mut state = 7;
-    for _ in 0..1000 {
+    for _ in 0..250 {
         let text = text_of(alloc, &mut state).expect(&rt, "memory");
         assert!(rt; is_as_modelled(alloc, &text) == Ok(true));
     }

@@ -194,5 +194,4 @@ fn refuses_too_many_bytes(rt: HostRuntime) {
     assert!(rt; fault_of(alloc, most) == Ok(Some(TableFault::Line(1))));
     // The read behind them would fail.
     assert!(rt; fault_in(alloc, &[most, more], true, 1000) == Ok(Some(TableFault::TooLarge)));
-    assert!(rt; fault_of(alloc, &text) == Ok(Some(TableFault::TooLarge)));
 }
