@@ -125,7 +125,7 @@ impl Waiting<'_> {
     // Whether it may be called for a number.
     fn may_call_number(&self, key: &[u8]) -> bool {
         match self.held {
-            Held::None => true,
+            Held::Nothing => true,
             Held::Numbers => self.calls.slow.wait(),
             Held::TwoNumbers => self.may_call_two(key),
             Held::Longer => {

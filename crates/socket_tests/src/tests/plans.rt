@@ -46,7 +46,7 @@ pub fn attentive() -> Limits {
 #[derive(Clone, Copy)]
 pub enum Held {
     /// None.
-    None,
+    Nothing,
     /// All for numbers.
     Numbers,
     /// Those for the numbers 1 and 2.
@@ -131,7 +131,7 @@ pub fn plan_of(workers: usize, connections: usize, rounds: u64) -> Plan {
         is_told: false,
         cache_bytes: 0,
         limits: patient(),
-        held: Held::None,
+        held: Held::Nothing,
     }
 }
 
