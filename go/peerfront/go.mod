@@ -1,0 +1,3 @@
+module yiqonesh.example/peerfront
+
+go 1.19
