@@ -10,6 +10,7 @@ import threading
 
 # The scripts that are tests, and the programs that each asks, those first that take longest.
 SCRIPTS = {
+    "package": ["peer_front"],
     "slow_clients": ["peer_front"],
     "front_serves": ["peer_front"],
     "lying_origin": ["peer_front"],
@@ -23,7 +24,11 @@ SCRIPTS = {
     "restart": ["peer_front"],
     "itself": ["peer_front"],
     "upper": ["upper_peer"],
+    "check_commands": ["peer_front"],
 }
+# The programs of the system without which a script is left out, and how a script is called that is no file of this folder.
+NEEDS = {"package": ["dpkg-deb", "ldd", "readelf"]}
+LIES_AT = {"check_commands": ["docs/check_commands.py", "--run"]}
 
 
 def edits_in(folder):

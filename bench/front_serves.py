@@ -303,19 +303,24 @@ def a_value_is_late_by_the_flag():
         return b"origin timed out" in server.ask("g/k")
 
 
+# A value of 100,000 bytes, its key of 6, and what an entry takes beside them.
+ENTRY = 100206
+
+
 def hits_of(*words):
-    """How many hits there are where a value of 100,000 bytes is asked for twice. None where the page says that its cache holds
-    anything else than it and its key."""
+    """How many hits there are if a value of 100,000 bytes is asked for twice. None if the page says that its cache holds anything
+    else than its entry."""
     with Counted("--demo", *words) as server:
         for _ in range(2):
             server.ask("fill/100000")
         server.says(asked_total=2)
         hits = server.counts()["hits_total"]
-        return hits if server.says(cache_bytes=hits * 100006) else None
+        return hits if server.says(cache_bytes=hits * ENTRY) else None
 
 
 def values_within_the_cache_are_kept():
-    return [hits_of(), hits_of("--cache", "100006"), hits_of("--cache", "100005"), hits_of("--cache", "0")] == [1, 1, 0, 0]
+    caches = [str(ENTRY), str(ENTRY - 1), "0"]
+    return [hits_of(), *(hits_of("--cache", cache) for cache in caches)] == [1, 1, 0, 0]
 
 
 def leave_at_once(stream):

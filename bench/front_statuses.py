@@ -97,6 +97,7 @@ ROWS = [
     (HERE + ["--demo", "--connections", "0"], 1, "peer_front: --connections 0: a number from 1 to 65536 is needed\n"),
     (HERE + ["--demo", "--connections", "65537"], 1, "peer_front: --connections 65537: a number from 1 to 65536 is needed\n"),
     (HERE + ["--demo", "--cache", "64MB"], 1, f"peer_front: --cache 64MB: {SIZE}\n"),
+    (HERE + ["--demo", "--cache-keys", "0"], 1, "peer_front: --cache-keys 0: a number from 1 to 4294967296 is needed\n"),
     (HERE + ["--demo", "--memory", "18446744073709551615GiB"], 1, f"peer_front: --memory 18446744073709551615GiB: {SIZE}\n"),
     (HERE + ["--demo", "--timeout", "0"], 1, "peer_front: --timeout 0: a number from 1 to 3600 is needed\n"),
     (HERE + ["--demo", "--stats", "x"], 1, f"peer_front: --stats x: {PAGE}\n"),
@@ -130,7 +131,7 @@ ROWS = [
     (HERE + ["--table", LARGE], 2, "table too large\n"),
 ]
 
-# the words, and all that standard error holds where the program serves and is ended at once
+# the words, and what standard error says first where the program serves and is ended at once
 STARTS = [
     (["--demo"], "3 groups at ADDR, 10000 connections at most, on 2 loops"),
     (["--demo", "--stats", "127.0.0.1:0"],
@@ -145,6 +146,15 @@ STARTS = [
      "1 group at ADDR, 1 connection at most, on 2 loops, and fetches on 4 threads, 1024 values under way on each"),
     (["--table", GOOD, "--demo", "g=" + URL, "--fetchers", "2", "--under-way", "1"],
      "5 groups at ADDR, 10000 connections at most, on 2 loops, and fetches on 2 threads, 1 value under way on each"),
+]
+
+# the words, and what standard error says last there, of the caches
+CACHES = [
+    (["--demo", "--cache", "1GiB", "--cache-keys", "1000"], "3 caches of 1 GiB, about N entries of 100 bytes in each, 1000 keys at most"),
+    (["--table", GOOD, "--cache", "1536KiB", "--cache-keys", "1"], "1 cache of 1536 KiB, about N entries of 100 bytes, 1 key at most"),
+    (["--demo", "--cache", "16GiB"], "3 caches of 16 GiB, about N entries of 100 bytes in each"),
+    (["--table", GOOD, "--cache", "1000"], "1 cache of 1000 bytes, about N entries of 100 bytes"),
+    (["--table", GOOD, "--cache", "0"], "1 cache of 0 bytes, about N entries of 100 bytes"),
 ]
 
 # services, and those of them whose keys stand right behind a name, of which the program prints a line
@@ -261,8 +271,18 @@ def unreadable():
     return done.returncode
 
 
-def hides_port(told):
-    return re.sub(r"127\.0\.0\.1:[1-9]\d*", "ADDR", told)
+def hides_numbers(told):
+    """What was told, without the ports, and without how many entries that is, which goes by what one takes."""
+    told = re.sub(r"127\.0\.0\.1:[1-9]\d*", "ADDR", told)
+    return re.sub(r"about (\d+|\d+,000|\d+\.\d million) entries", "about N entries", told)
+
+
+def served_by(text):
+    """What standard error says of a server with usual caches that is said to serve so."""
+    groups = int(re.search(r"(\d+) groups? at", text)[1])
+    caches = "1 cache of 64 MiB" if groups == 1 else f"{groups} caches of 64 MiB"
+    each = "" if groups == 1 else " in each"
+    return f"peer_front: serves {text}\npeer_front: {caches}, about N entries of 100 bytes{each}\n"
 
 
 failures = 0
@@ -274,21 +294,27 @@ for words, status, text in ROWS:
 
 for words, text in STARTS:
     ended, told = ended_at_once(HERE + ["--until-eof"] + words)
-    if ended != 0 or hides_port(told) != f"peer_front: serves {text}\n":
+    if ended != 0 or hides_numbers(told) != served_by(text):
+        failures += 1
+        print("words", words, "status", ended, "told", repr(told), "wanted", repr(text))
+
+for words, text in CACHES:
+    ended, told = ended_at_once(HERE + ["--until-eof"] + words)
+    if ended != 0 or not hides_numbers(told).endswith(f"\npeer_front: {text}\n"):
         failures += 1
         print("words", words, "status", ended, "told", repr(told), "wanted", repr(text))
 
 for words, asked in PREFIXES:
     ended, told = ended_at_once(HERE + ["--until-eof"] + words)
     wanted = "".join(f"peer_front: {word}: keys stand right behind this, with no / between: is that meant?\n" for word in asked)
-    if ended != 0 or not told.startswith(wanted + "peer_front: serves ") or told.count("\n") != len(asked) + 1:
+    if ended != 0 or not told.startswith(wanted + "peer_front: serves ") or told.count("\n") != len(asked) + 2:
         failures += 1
         print("words", words, "status", ended, "told", repr(told), "wanted", repr(wanted))
 
 for files, words, needed, text in FEW_FILES:
     ended, told = ended_at_once(HERE + ["--until-eof"] + words, files)
     less = f"peer_front: may open {files} files (ulimit -n), and all that is asked for needs {needed}: serves less\n"
-    if ended != 0 or hides_port(told) != f"{less}peer_front: serves {text}\n":
+    if ended != 0 or hides_numbers(told) != less + served_by(text):
         failures += 1
         print("files", files, "words", words, "status", ended, "told", repr(told), "wanted", repr(text))
 

@@ -6,8 +6,8 @@
 Of each page but TRAPS, which names what the toolchain has: each path between backquotes has to be a file or a folder, from
 the top, from crates/, from a crate, or from a crate's src/; and each name in backquotes that looks like one of a program
 (`snake_case`, `CamelCase`, with `::` or a dot) has to stand somewhere in the sources, the scripts or the examples. Where a
-text says "`name`, `name` in `path`", each name has to stand in that file. Each line of an indented block behind "From `path`"
-has to stand in that file.
+text says "`name`, `name` in `path`", each name has to stand in that file. Each line of a block of code after "From `path`" has to
+stand in that file. Each link of a page leads to a file, and to a heading of it.
 
 Prints what is not so, and ends with status 1 where something is not.
 """
@@ -23,7 +23,9 @@ PATH = re.compile(r"[\w.-]+(?:/[\w.*-]+)+/?|[\w-]+\.(?:rt|py|md|svg|txt|antt|edi
 NAME = re.compile(r"(?:\w+(?:::|\.))*(?:[a-z]+(?:_\w+)+|[A-Z]+[a-z]\w*|[A-Z]+_\w+)")
 IN_FILE = re.compile(r"((?:`[^`]+`(?:, | and ))*`[^`]+`) in `([^`]+)`")
 # Names of HTTP, of groupcache, of Go, of proxies, and of what a text makes up.
-OTHERS = re.compile(r"/|out/|values/|net/http|lru/lru\.go|fill/1048576|BasePath|Date|Stats\.|ssl_")
+OTHERS = re.compile(r"/|out/|values/|golang/|net/http|http\.|context\.|lru/lru\.go|fill/1048576|BasePath|Date|Stats\.|ssl_")
+# A line of a block that stands for lines which are left out.
+LEFT_OUT = "// .."
 # The names of this page are those of the toolchain.
 OF_TOOLCHAIN = "TRAPS.md"
 
@@ -39,7 +41,7 @@ def found_at(path):
 def all_text():
     """All that the sources, scripts and examples say, and the names of their files."""
     texts = []
-    for folder in ("crates", "bench", "examples", "docs/pictures", ".ci"):
+    for folder in ("crates", "bench", "examples", "go", "docs/pictures", ".ci"):
         for path, folders, names in os.walk(os.path.join(ROOT, folder)):
             folders[:] = [name for name in folders if name != "out"]
             for name in names:
@@ -78,8 +80,9 @@ def blocks(page):
     """Each file that the page takes code from, with the lines of that code."""
     for part in re.split(r"\bFrom (?=`)", page)[1:]:
         path, _, rest = part[1:].partition("`")
-        lines = takewhile(lambda line: not line or line.startswith("    "), rest.split("\n")[1:])
-        yield path, [line.strip() for line in lines if line]
+        fenced = re.match(r"[^\n]*\n\n```go\n(.*?)^```$", rest, re.MULTILINE | re.DOTALL)
+        lines = fenced[1].split("\n") if fenced else takewhile(lambda line: not line or line.startswith("    "), rest.split("\n")[1:])
+        yield path, [line.strip() for line in lines if line.strip() not in ("", LEFT_OUT)]
 
 
 def unlike(page):
@@ -90,12 +93,28 @@ def unlike(page):
         yield from (f"not in {path}: {line}" for line in block if line not in lines)
 
 
+def anchors(path):
+    """The headings of a page, as links name them."""
+    with open(path, encoding="utf-8") as text:
+        heads = re.findall(r"^#+ (.*)$", text.read(), re.MULTILINE)
+    return {re.sub(r"[^\w -]", "", head.lower()).replace(" ", "-") for head in heads}
+
+
+def broken_links(page, text):
+    """The links of a page that lead nowhere."""
+    for target in re.findall(r"\]\((?!http)([^)]+)\)", text):
+        path, _, anchor = target.partition("#")
+        file = os.path.normpath(os.path.join(os.path.dirname(page), path)) if path else page
+        if not os.path.exists(file) or anchor and anchor not in anchors(file):
+            yield f"leads nowhere: {target}"
+
+
 def main():
     known, count, wrong = all_text(), 0, []
     for page in [os.path.join(ROOT, "README.md"), *sorted(glob.glob(os.path.join(ROOT, "docs/*.md")))]:
         with open(page, encoding="utf-8") as lines:
             text = lines.read()
-            wrong += [f"{os.path.relpath(page, ROOT)}: {one}" for one in unlike(text)]
+            wrong += [f"{os.path.relpath(page, ROOT)}: {one}" for one in [*unlike(text), *broken_links(page, text)]]
             for number, line in enumerate(text.split("\n"), 1):
                 count += len(QUOTED.findall(line))
                 found = untrue(line, known, not page.endswith(OF_TOOLCHAIN))

@@ -3,10 +3,10 @@
 
     docs/check_promises.py
 
-Of the first table: each wrong body that a row names is an edit of some crate's must-fail/ folder, or, after the word `also:`, of
-bench/wrong/; each function, type and crate that carries a promise is there; and each clause that stands behind a dot is one of a
+Of the table of promises: each wrong body that a row names is an edit of some crate's must-fail/ folder, or, after the word `also:`,
+of bench/wrong/; each function, type and crate that carries a promise is there; and each clause that stands after a dot is one of a
 function of that name. Each edit stands in one of these rows, and in one of the two tiers. Of the tables of wrong programs in
-threads: each test and each edit that they name is there.
+threads: each test and each edit that they name is there. No cell of a table of the page has more than 60 words.
 
 Prints what is not so, and how much was looked at, and ends with status 1 where something is not so. `*` stands for all
 functions of a type.
@@ -23,6 +23,7 @@ NAME = re.compile(r"`([^`]+)`")
 CONTRACT = re.compile(r"^((?:[A-Za-z_]\w*::)*)(\w+|\*)?((?:\.\w+)*)$")
 DECLARED = re.compile(r"\b(?:fn|struct|enum|trait|mod|type) (\w+)")
 FUNCTION = re.compile(r"\bfn (\w+)(.*?)(?=\bfn \w|\Z)", re.DOTALL)
+MOST_WORDS = 60
 TYPE = re.compile(r"^(?:pub(?:\([a-z]+\))? )?(?:impl|trait|struct|enum)\b[^{;]*", re.MULTILINE)
 
 
@@ -58,6 +59,15 @@ def tiers():
     """The edits that the gate tries, and the others."""
     gate = edits_in(os.path.join(CRATES, name, "must-fail") for name in os.listdir(CRATES))
     return gate, edits_in(os.path.join(WRONG, name) for name in os.listdir(WRONG))
+
+
+def wide_cells(page):
+    """The cells of all tables that have too many words, by their first ones."""
+    for line in page.split("\n"):
+        for cell in line.strip("|").split(" | ") if line.startswith("| ") else []:
+            words = cell.split()
+            if len(words) > MOST_WORDS:
+                yield f"{len(words)} words in a cell: {' '.join(words[:8])} .."
 
 
 def rows_of(page):
@@ -108,8 +118,9 @@ def untrue_edits(named, there):
 
 def main():
     with open(os.path.join(ROOT, "docs/PROMISES.md"), encoding="utf-8") as page:
-        promises, _, others = page.read().partition("\n## Memory that is refused")
-    declared, there, wrong = Declared(), tiers(), []
+        text = page.read()
+    promises, _, others = text.partition("\n## Promises and wrong bodies\n")[2].partition("\n## Memory that is refused")
+    declared, there, wrong = Declared(), tiers(), list(wide_cells(text))
     named, contracts = (set(), set()), 0
     for row in rows_of(promises):
         contracts += len(NAME.findall(row[1]))

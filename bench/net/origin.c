@@ -1,4 +1,5 @@
-/* An HTTP service whose values are its keys: GET /KEY answers the key, after so many milliseconds: origin ADDRESS MILLISECONDS.
+/* An HTTP service whose values are its keys: GET /KEY answers the key, after so many milliseconds: origin ADDRESS MILLISECONDS [BYTES].
+   With BYTES each value is its key and then the letter x, as many bytes together. On SIGUSR1 it prints how many requests it had.
 
    One thread that parses next to nothing, so that it takes little of the processors from the server in front of it. It answers
    GET /_groupcache/echo/KEY as a peer of groupcache does, so that the load generator can ask it without a server. */
@@ -6,6 +7,7 @@
 #include <arpa/inet.h>
 #include <fcntl.h>
 #include <netinet/tcp.h>
+#include <signal.h>
 #include <stdint.h>
 #include <stdio.h>
 #include <stdlib.h>
@@ -14,7 +16,7 @@
 #include <time.h>
 #include <unistd.h>
 
-enum { CONNS = 8192, ROOM = 8192, KEY = 512, REPLIES = 1 << 15 };
+enum { CONNS = 8192, ROOM = 8192, KEY = 512, VALUE = 1 << 16, REPLIES = 1 << 15 };
 
 static const char PEER[] = "/_groupcache/echo/";
 
@@ -34,7 +36,15 @@ struct reply {
 static struct conn conns[CONNS];
 static struct reply replies[REPLIES];
 static uint64_t first, behind;
+static volatile uint64_t asked;
 static int64_t wait_ns;
+static int value_len;
+
+static void tell(int number) {
+    char line[32];
+    (void)number;
+    if (write(1, line, snprintf(line, sizeof line, "%llu\n", (unsigned long long)asked)) < 0) _exit(1);
+}
 
 static int64_t now(void) {
     struct timespec t;
@@ -65,9 +75,10 @@ static int unescape(char *to, const char *from, const char *end) {
 }
 
 static void answer(const struct reply *r) {
-    char out[KEY + 128];
+    static char out[VALUE + 128];
     int head = r->as_peer ? (r->len < 128 ? 2 : 3) : 0;
-    int n = sprintf(out, "HTTP/1.1 200 OK\r\nContent-Length: %d\r\n\r\n", r->len + head);
+    int more = !r->as_peer && value_len > r->len ? value_len - r->len : 0;
+    int n = sprintf(out, "HTTP/1.1 200 OK\r\nContent-Length: %d\r\n\r\n", r->len + head + more);
     if (head) out[n++] = 0x0a;
     if (head == 2) out[n++] = r->len;
     if (head == 3) {
@@ -75,7 +86,8 @@ static void answer(const struct reply *r) {
         out[n++] = r->len >> 7;
     }
     memcpy(out + n, r->key, r->len);
-    if (write(r->fd, out, n + r->len) < 0) return;
+    memset(out + n + r->len, 'x', more);
+    if (write(r->fd, out, n + r->len + more) < 0) return;
 }
 
 /* Takes the requests that are whole. Whether they are requests. */
@@ -86,6 +98,7 @@ static int take(int fd) {
         char *path = at + 4, *space = memchr(path, ' ', stop - path);
         if (memcmp(at, "GET /", 5) || !space || behind - first == REPLIES) return 0;
         struct reply *r = &replies[behind % REPLIES];
+        asked++;
         r->as_peer = space - path >= (int)sizeof PEER - 1 && !memcmp(path, PEER, sizeof PEER - 1);
         r->len = unescape(r->key, path + (r->as_peer ? sizeof PEER - 1 : 1), space);
         r->fd = fd;
@@ -139,8 +152,11 @@ int main(int count, char **words) {
     struct sockaddr_in addr = {.sin_family = AF_INET};
     char host[64];
     int port, one = 1, listener = socket(AF_INET, SOCK_STREAM | SOCK_NONBLOCK, 0), poll = epoll_create1(0);
-    if (count != 3 || sscanf(words[1], "%63[^:]:%d", host, &port) != 2) return 1;
+    if (count < 3 || count > 4 || sscanf(words[1], "%63[^:]:%d", host, &port) != 2) return 1;
     wait_ns = atoll(words[2]) * 1000000;
+    value_len = count == 4 ? atoi(words[3]) : 0;
+    if (value_len > VALUE) return 1;
+    signal(SIGUSR1, tell);
     addr.sin_port = htons(port);
     inet_pton(AF_INET, host, &addr.sin_addr);
     setsockopt(listener, SOL_SOCKET, SO_REUSEADDR, &one, sizeof one);
@@ -150,7 +166,7 @@ int main(int count, char **words) {
     for (;;) {
         int64_t left = answer_due();
         struct timespec until = {left / 1000000000, left % 1000000000};
-        int n = epoll_pwait2(poll, events, 256, left < 0 ? 0 : &until, 0);
+        int n = epoll_pwait2(poll, events, 256, left < 0 ? 0 : &until, 0); /* -1 where a signal came */
         for (int i = 0; i < n; i++) {
             if (events[i].data.fd == listener) accept_all(listener, poll);
             else read_from(events[i].data.fd);

@@ -125,7 +125,7 @@ func main() {
 	flag.Parse()
 
 	// A pool whose peers are the servers, and groups with a getter of one's own. The transport is Go's usual one: for use take that
-	// of README.md.
+	// of go/peerfront.
 	transport := &counting{hosts: map[string]int{}}
 	pool := groupcache.NewHTTPPoolOpts("http://self.invalid", nil)
 	pool.Transport = func(context.Context) http.RoundTripper { return transport }

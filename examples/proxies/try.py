@@ -5,7 +5,7 @@
     python3 examples/proxies/try.py [crates/peer_front/out/peer_front]
 
 It wants Debian's packages nginx, haproxy, prometheus (for promtool), nghttp2-client and apache2-utils. Its last line is
-`checks N failures 0`; where a check fails, so does the program.
+`checks N failures 0`; if a check fails, so does the program.
 """
 import http.client
 import os

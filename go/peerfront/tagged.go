@@ -30,7 +30,7 @@ func Tagged(getter Getter) Getter {
 	}
 }
 
-// Untag gives the value behind the byte that [Tagged] put before it, or ErrNotFound for a missing key. It does not copy.
+// Untag gives the value after the byte that [Tagged] put before it, or ErrNotFound for a missing key. It does not copy.
 func Untag(tagged []byte) ([]byte, error) {
 	switch {
 	case len(tagged) == 1 && tagged[0] == tagMissing:

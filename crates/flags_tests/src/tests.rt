@@ -53,6 +53,7 @@ fn each_flag_has_its_default(rt: HostRuntime) -> Result<(), Fail> {
         loops: 2,
         connections: 10_000,
         cache_bytes: 67_108_864,
+        cache_keys: None,
         memory: 268_435_456,
         timeout: Duration::from_secs(10),
         connection_for_each: false,
@@ -82,6 +83,10 @@ fn numbers_are_within_their_bounds(rt: HostRuntime) -> Result<(), Fail> {
         ("--loops", "x", Some("1 to 16")),
         ("--connections", "65536", None),
         ("--connections", "65537", Some("1 to 65536")),
+        ("--cache-keys", "0", Some("1 to 4294967296")),
+        ("--cache-keys", "4294967297", Some("1 to 4294967296")),
+        ("--cache-keys", "", Some("1 to 4294967296")),
+        ("--cache-keys", "1KiB", Some("1 to 4294967296")),
         ("--timeout", "", Some("1 to 3600")),
         ("--timeout", "99999999999999999999", Some("1 to 3600")),
     ] {
@@ -121,6 +126,34 @@ fn sizes_are_numbers_with_a_unit(rt: HostRuntime) -> Result<(), Fail> {
         ("--cache=18446744073709551615GiB", None),
     ] {
         right &= cache_bytes(alloc, &["peer_front", "--listen", "127.0.0.1:1", flag])? == bytes;
+    }
+    assert!(rt; right);
+    Ok(())
+}
+
+// How many keys the cache of a group keeps by these words, where one of them says so, or none where one cannot be used.
+fn cache_keys(alloc: Global, words: &[&str]) -> Result<Option<Option<u64>>, Fail> {
+    let matches = matches_of(alloc, words)?;
+    let keys = match Options::of(&matches) {
+        Ok(options) => Some(options.cache_keys),
+        Err(_) => None,
+    };
+    drop(matches);
+    Ok(keys)
+}
+
+#[test]
+fn keys_are_bounded_where_it_is_asked_for(rt: HostRuntime) -> Result<(), Fail> {
+    let alloc = rt.alloc();
+    let mut right = true;
+    for (flag, keys) in [
+        ("--cache-keys=1", Some(Some(1))),
+        ("--cache-keys=4096", Some(Some(4096))),
+        ("--cache-keys=4294967296", Some(Some(4_294_967_296))),
+        ("--cache-keys=4294967297", None),
+        ("--cache=1MiB", Some(None)),
+    ] {
+        right &= cache_keys(alloc, &["peer_front", "--listen", "127.0.0.1:1", flag])? == keys;
     }
     assert!(rt; right);
     Ok(())

@@ -43,7 +43,7 @@ impl Waits {
 #[derive(Drop)]
 pub struct EventLoop<'a, S: Source, F: Facts<S>> {
     turns: Turns<'a, S, F>,
-    // When clients that are overdue were last looked for, as it was when the bytes of the caches were last published.
+    // When clients that are overdue were last looked for, as it was when the caches were last published.
     caches_published: Duration,
 }
 
@@ -65,12 +65,11 @@ impl<'a, S: Source, F: Facts<S>> EventLoop<'a, S, F> {
         self.turns.site.slot().publish(counts);
     }
 
-    // Publishes how many bytes the caches have, where a tick is over, or the loop has no clients.
+    // Publishes what the caches have and have lost, if a tick is over or the loop has no clients.
     fn publish_caches<L: Ledger, H: Wait>(&mut self, rt: &H, seat: &LoopSeat<'a, S, L, F>) {
         if self.caches_published != self.turns.swept || self.turns.clients.each.is_empty() {
             self.caches_published = self.turns.swept;
-            let counters = self.turns.site.shared.counters;
-            counters.publish_cache_bytes(seat.cached_bytes(rt));
+            seat.publish_caches(rt, self.turns.site.shared.counters);
         }
     }
 

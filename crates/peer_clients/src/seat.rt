@@ -10,12 +10,23 @@ use crate::limits::JOBS_OF_TURN;
 use crate::loop_seats::LoopSeats;
 use peer_exchange::{Exchange, Rest};
 use peer_fill::Pool;
-use peer_source::Source;
-use peer_stats::LoopCounts;
+use peer_source::{GroupId, Source};
+use peer_stats::{CacheCounts, Counters, LoopCounts};
 use std::alloc::Global;
 use std::marker::PhantomData;
 use std::sync::Wait;
 use std::sync::ledger::Ledger;
+
+// What the page tells of the caches of a group.
+fn told(counts: peer_fill::CacheCounts) -> CacheCounts {
+    CacheCounts {
+        entries: counts.entries,
+        bytes: counts.bytes,
+        evicted_by_bytes: counts.lost.by_bytes,
+        evicted_by_keys: counts.lost.by_keys,
+        too_large: counts.lost.too_large,
+    }
+}
 
 /// The seats of a loop. All of its connections ask by the one.
 #[derive(Drop)]
@@ -155,9 +166,15 @@ impl<'a, S: Source, L: Ledger, F: Facts<S>> LoopSeat<'a, S, L, F> {
         }
     }
 
-    /// The bytes of keys and values in all caches.
-    pub fn cached_bytes<H: Wait>(&self, rt: &H) -> u64 {
-        self.pool.cached_bytes(rt)
+    /// Publishes what the caches of each group keep and have lost, and the bytes of all of them.
+    pub fn publish_caches<H: Wait>(&self, rt: &H, counters: &Counters) {
+        let mut bytes = 0u64;
+        for number in 0..self.pool.group_count() {
+            let counts = self.pool.cache_counts(rt, GroupId { number });
+            bytes = bytes.saturating_add(counts.bytes);
+            counters.of_group(number).publish(told(counts));
+        }
+        counters.publish_cache_bytes(bytes);
     }
 
     /// Whether a job is left, for which the queue of jobs had no room.

@@ -5,4 +5,5 @@ pub mod ExchangeLemmas
 pub mod FunctionalLemmas
 pub mod HoldingLemmas
 pub mod IntakeLemmas
+mod KnownLemmas
 pub mod SeatLemmas

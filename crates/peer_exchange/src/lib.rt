@@ -10,6 +10,7 @@ mod asking;
 mod exchange;
 mod exchange_state;
 mod intake;
+mod known;
 mod outgoing;
 mod rest;
 mod window;

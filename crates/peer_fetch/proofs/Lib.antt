@@ -1,1 +1,2 @@
+pub mod AllowLemmas
 mod ThreadLemmas

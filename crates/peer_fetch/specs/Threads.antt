@@ -1,5 +1,5 @@
 -- What a thread that fetches keeps of its seat, and which sources it fetches for.
-use Rattle.std.specs.Prelude.{◌≡◌, ℕ, ◌≤◌, List}
+use Rattle.std.specs.Prelude.{◌≡◌, ℕ, ◌≤◌, ◌+◌, List, Some, slice_get}
 use Rattle.peer_source.specs.Answers.{Answer}
 use Rattle.peer_source.specs.declared.source.Source as Source
 use Rattle.std.specs.declared.sync.ledger.Ledger as Ledger
@@ -7,15 +7,16 @@ use Rattle.peer_fill.specs.Pools.{IsFillSeatOf}
 use Rattle.peer_fill.specs.Seats.{fills_of, fill_parts}
 use Rattle.peer_fill.specs.declared.pool.Pool.{Pool}
 use Rattle.peer_fill.specs.declared.seats.FillSeat.{FillSeat}
-use Rattle.peer_origin.specs.Origins.{IsOriginAnswer}
+use Rattle.peer_origin.specs.Endpoints.{request_at}
+use Rattle.peer_origin.specs.Fetched.{IsFetchedAnswer}
 use Rattle.peer_origin.specs.declared.endpoint.Endpoint.{Endpoint}
-use Rattle.peer_value.specs.Endpoints.{HasEndpoint}
 use Rattle.peer_fetch.specs.declared.settings.FetchPlan.{FetchPlan}
 
--- of groups that have an endpoint the source may answer whatever an origin may
+-- for a key of the group of each endpoint, the first one's and those that follow it, the source may answer what a fetch by the request
+-- for this key at this endpoint may
 abbrev pub AllowsOrigins : (ℕ → List ℕ → Answer → Type 0) → ℕ → List Endpoint → Type 0
-AllowsOrigins answers first each = (group : ℕ) (key : List ℕ) (a : Answer) → HasEndpoint first each group → IsOriginAnswer a
-    → answers group key a
+AllowsOrigins answers first each = (n : ℕ) (e : Endpoint) (key : List ℕ) (a : Answer) → slice_get each n ≡ Some e
+    → IsFetchedAnswer (request_at e key) a → answers (first + n) key a
 
 -- the same for the endpoints of a plan
 abbrev pub Allows : (ℕ → List ℕ → Answer → Type 0) → FetchPlan → Type 0

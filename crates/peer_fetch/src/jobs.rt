@@ -1,11 +1,12 @@
 //! The jobs of a thread that fetches: they are taken off the pool's queue, and their flights filled.
 //!
 //! It stands on the pool of `peer_fill` and on the values that are under way (`Fetcher`). It promises that the seat stays one
-//! of the pool with its parts, and that a flight is filled with what its group's source may answer.
+//! of the pool with its parts, and that a flight is filled with what was fetched for its own key at the endpoint of its own group.
 ghost use Rattle.std.specs.Prelude.{IfSome};
 ghost use Rattle.peer_source.specs.Outcomes.{answer_of};
 ghost use Rattle.peer_fill.specs.Pools.{source_of, IsFillSeatOf};
-ghost use Rattle.peer_origin.specs.Origins.{IsOriginAnswer};
+ghost use Rattle.peer_origin.specs.Endpoints.{request_at};
+ghost use Rattle.peer_origin.specs.Fetched.{IsFetchedAnswer};
 ghost use Rattle.peer_fetch.specs.Fetchers.{MayTakeJob};
 ghost use Rattle.peer_fetch.specs.Threads.{Allows, IsLaterSeat};
 
@@ -13,6 +14,7 @@ use crate::fetcher::Fetcher;
 use crate::opening::System;
 use crate::settings::FetchPlan;
 use peer_fill::{FillSeat, Gate, Pool, TakenJob};
+use peer_origin::Endpoint;
 use peer_runtime::Network;
 use peer_source::{Outcome, Source};
 use peer_value::Done;
@@ -32,23 +34,24 @@ pub struct Jobs<'p, 'a, S: Source, L: Ledger, G> {
     pub plan: FetchPlan<'a>,
 }
 
-// Fills the flight of a job: with this outcome, where its group has an endpoint. No job of another group comes here, and one
-// that did would be filled by a call of the source.
+// Fills the flight of a job with this outcome, which was fetched at this endpoint, if that is the one of its group. No other job
+// comes here, and one that did would be filled by a call of the source.
 fn fill<'a, S: Source, L: Ledger, G: Gate, H: Wait>(
     rt: &H,
     jobs: &Jobs<'_, 'a, S, L, G>,
     seat: &mut FillSeat<S, L>,
+    endpoint: &Endpoint,
     job: TakenJob<S>,
     outcome: Outcome,
 )
     requires seat { IsFillSeatOf jobs.now.pool.now seat.old }
     requires answers { Allows (S.answers (source_of jobs.now.pool.now)) jobs.now.plan }
-    requires answer { IfSome (answer_of outcome) IsOriginAnswer }
+    requires answer { IfSome (answer_of outcome) (IsFetchedAnswer (request_at endpoint.now job.place.key)) }
     ensures { IsLaterSeat jobs.now.pool.now seat.old seat.new }
 {
     match jobs.plan.endpoints.of(job.group()) {
-        Some(_) => jobs.pool.finish(rt, seat, job, outcome, jobs.gate),
-        None => jobs.pool.fill_job(rt, jobs.alloc, seat, job, jobs.gate),
+        Some(at) if at.is_at(endpoint) => jobs.pool.finish(rt, seat, job, outcome, jobs.gate),
+        _ => jobs.pool.fill_job(rt, jobs.alloc, seat, job, jobs.gate),
     }
 }
 
@@ -69,8 +72,9 @@ fn fill_done<'a, S: Source, L: Ledger, G: Gate, H: Wait>(
     if let Some(fault) = done.fault() {
         jobs.plan.failures.count(fault.kind());
     }
+    let endpoint = done.endpoint();
     let (job, outcome) = done.settle(jobs.alloc);
-    fill(rt, jobs, seat, job, outcome);
+    fill(rt, jobs, seat, endpoint, job, outcome);
 }
 
 // Takes a job, and begins to fetch its value where its group has an endpoint. Whether there was one.

@@ -1,8 +1,10 @@
 -- What a pool's caches keep, and what they give.
 use Rattle.std.specs.Prelude.{◌≡◌, ℕ, List, [], All, length, set, slice_get, Option, None, Some}
 use Rattle.std.specs.Option.{ForSome, option_map_or}
+use Rattle.std.specs.NonZero.{non_zero_usize_get}
 use Rattle.peer_source.specs.Answers.{Filled}
-use Rattle.peer_source.specs.Caches.{Cache, found_fill, fill_of}
+use Rattle.peer_source.specs.Caches.{Cache, bounded_cache, found_fill, fill_of}
+use Rattle.peer_fill.specs.declared.plan.Bounds.{Bounds}
 
 -- the cache in each place is that of the group with this number
 pub record EachInPlace (caches : List Cache) : Type 0 where
@@ -12,6 +14,15 @@ pub record EachInPlace (caches : List Cache) : Type 0 where
 pub record AreEmpty (groups bytes : ℕ) (caches : List Cache) : Type 0 where
   pub count : length caches ≡ groups
   pub each : All (λ c. (c.limit ≡ bytes) × (c.entries ≡ [])) caches
+
+-- a group's cache of these bounds, without an entry
+abbrev pub cache_within : Bounds → ℕ → Cache
+cache_within bounds group = bounded_cache group bounds.limit (non_zero_usize_get bounds.most) bounds.each
+
+-- so many caches of these bounds, each without an entry
+pub record AreBounded (groups : ℕ) (bounds : Bounds) (caches : List Cache) : Type 0 where
+  pub count : length caches ≡ groups
+  pub each : All (λ c. c ≡ cache_within bounds c.group) caches
 
 -- the same caches, of which that of the group is changed so, where there is one
 abbrev pub with_cache : (Cache → Cache) → ℕ → List Cache → List Cache

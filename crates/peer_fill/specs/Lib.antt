@@ -7,6 +7,7 @@ pub mod Keeping
 pub mod Asks
 pub mod Totals
 pub mod Opens
+pub mod Plans
 pub mod Pools
 pub mod Claiming
 pub mod Openings

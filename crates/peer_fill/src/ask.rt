@@ -3,48 +3,42 @@
 //! It stands on the caches, the flights of `peer_flight` and the queue of jobs. It promises that a claim is of the group and
 //! the key that were asked for, that one which is ready shows a value that was found for them, and that it is counted once.
 ghost use Rattle.std.specs.Prelude.{◌≡◌, ◌+◌, ◌<◌, ◌^◌, ◌↔◌, Err, None, IfNone, IfOk, IfSome, IsErrOf, IsSome};
-ghost use Rattle.std.specs.Prelude.{OnErr, OnOk, option_map};
+ghost use Rattle.std.specs.Prelude.{OnErr, OnOk};
 ghost use Rattle.peer_flight.specs.SingleFlight.{place_of};
 ghost use Rattle.peer_fill.specs.Seats.{asks_of, left_of, IsUnchanged};
 
-use crate::caches::Caches;
 use crate::counts::Found;
 use crate::jobs::Job;
 use crate::pool::Pool;
 use crate::seats::{ConnSeat, MAX_COUNT};
 use peer_flight::{Ask, AskFault, Claim};
-use peer_source::{GroupId, Source};
+use peer_source::{Fill, GroupId, Source};
 use peer_view::ByteView;
 use peer_wait::lock;
-use std::alloc::{AllocError, Global};
+use std::alloc::Global;
 use std::sync::Wait;
 use std::sync::ledger::Ledger;
 
 impl<S: Source, L: Ledger> ConnSeat<S, L> {
-    ghost use Rattle.peer_fill.specs.Caches.{kept_fill};
-    ghost use Rattle.peer_fill.specs.Claiming.{MayGive};
+    ghost use Rattle.std.specs.Prelude.{option_map};
+    ghost use Rattle.peer_fill.specs.Claiming.{GivesClaim};
     ghost use Rattle.peer_fill.specs.Seats.{IsSameConn};
+    ghost use Rattle.peer_fill.specs.Caches.{IsFoundFor};
     ghost use Rattle.peer_flight.specs.declared.claim.Claim.TheVariants.{Ready};
 
-    // A claim on the value that these caches keep for the group and the key, where they keep one.
-    fn hit(
-        &mut self,
-        caches: &mut Caches<S>,
-        group: GroupId,
-        key: &[u8],
-    ) -> Result<Option<Claim<S>>, AllocError>
+    // A claim on a value that caches keep for the group and the key, if they keep one.
+    fn claim_kept(&mut self, group: GroupId, key: &[u8], kept: Option<Fill<S>>) -> Option<Claim<S>>
         requires most { (asks_of self.old).asked < 2 ^ 56 }
-        ensures own { IfOk result (λ found. found ≡ option_map Ready (kept_fill caches.old.each.items group.number key.now)) }
-        ensures gives { MayGive (place_of group.number key.now) (asks_of self.old) (asks_of self.new) result }
+        requires kept { IfSome kept (IsFoundFor group.number key.now) }
+        ensures own { result ≡ option_map Ready kept }
+        ensures some { IfSome result (GivesClaim (place_of group.number key.now) (asks_of self.old) (asks_of self.new)) }
+        ensures none { IfNone result (asks_of self.new ≡ asks_of self.old) }
         ensures seat { IsSameConn self.old self.new }
         ensures left { left_of self.new ≡ left_of self.old }
     {
-        let found = caches.get(group, key)?;
-        let Some(fill) = found else {
-            return Ok(None);
-        };
+        let fill = kept?;
         self.count(Found::Value);
-        Ok(Some(Claim::Ready(fill)))
+        Some(Claim::Ready(fill))
     }
 }
 
@@ -76,8 +70,8 @@ impl<S: Source, L: Ledger> Pool<S, L> {
         if seat.asks.asked >= MAX_COUNT {
             return Err(AskFault::Worn);
         }
-        let found = seat.hit(&mut lock(rt, &self.caches), group, key)?;
-        Ok(found)
+        let kept = self.caches.get(rt, group, key)?;
+        Ok(seat.claim_kept(group, key, kept))
     }
 
     // Joins the open flight of the group and the key, or leads one, whose job is left with the seat where the queue is

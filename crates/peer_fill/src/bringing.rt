@@ -147,8 +147,7 @@ impl<S: Source, L: Ledger> Pool<S, L> {
         ensures same { (seat.new.pass ≡ seat.old.pass) × (fill_parts seat.new ≡ fill_parts seat.old) }
         ensures counts { fills_of seat.new ≡ fills_of seat.old }
     {
-        seat.make_room();
-        self.keep(rt, &fill, &mut seat.evicted);
+        self.caches.keep(rt, &fill, &mut seat.evicted);
         self.put_and_land(rt, right, fill, gate);
     }
 }

@@ -1,8 +1,10 @@
 //! The main caches of a pool as it locks them: one for each group of its source.
-ghost use Rattle.std.specs.Prelude.{◌≡◌, ◌-◌, ◌^◌, None, IfOk, IfSome, IsOk, OnErr, OnOk, min, slice_get, sum_by};
+ghost use Rattle.std.specs.Prelude.{◌≡◌, ◌-◌, ◌^◌, None, IfOk, IfSome, IsOk, OnErr, OnOk, length, min, slice_get, sum_by};
 ghost use Rattle.peer_source.specs.Caches.{added, brought_to_front, bytes_in, value_to_keep};
-ghost use Rattle.peer_fill.specs.Caches.{AreEmpty, IsFoundFor, EachInPlace, kept_fill, with_cache};
+ghost use Rattle.peer_fill.specs.Caches.{AreBounded, AreEmpty, IsFoundFor, EachInPlace, kept_fill, with_cache};
 
+use crate::cache_counts::CacheCounts;
+use crate::plan::Bounds;
 use peer_source::{Evicted, Fill, GroupId, MainCache, Source};
 use std::alloc::{AllocError, Global};
 use std::hash::RandomState;
@@ -31,30 +33,80 @@ impl<S: Source> Caches<S> {
         Ok(Caches { each })
     }
 
-    /// The fill of the value that is kept for the group and the key. A group without a cache has none.
+    /// So many caches without entries, each within these bounds.
+    pub fn bounded(
+        alloc: Global,
+        count: usize,
+        bounds: Bounds,
+        seed: RandomState,
+    ) -> Result<Caches<S>, AllocError>
+        ensures { IfOk result (λ caches. AreBounded count bounds caches.each.items) }
+    {
+        let Bounds {
+            limit,
+            most,
+            each: beside,
+        } = bounds;
+        let mut each = Vec::new(alloc);
+        for number in 0..count {
+            let group = GroupId { number };
+            each.push(MainCache::bounded(alloc, group, limit, most, beside, seed)?)?;
+        }
+        Ok(Caches { each })
+    }
+
+    /// The fill of the value that is kept for the group and the key, which comes to the front of its cache, also where memory
+    /// refuses to share it. A group without a cache has none.
     #[tactic(auto, using(crate::proofs::Placing::in_place_set))]
     pub fn get(&mut self, group: GroupId, key: &[u8]) -> Result<Option<Fill<S>>, AllocError>
         ensures own { IfOk result (λ found. found ≡ kept_fill self.old.each.items group.number key.now) }
         ensures found { IfOk result (λ found. IfSome found (IsFoundFor group.number key.now)) }
-        ensures front { OnOk result (self.new.each.items ≡ with_cache (brought_to_front key.now) group.number self.old.each.items) }
-        ensures err { OnErr result (self.new.each.items ≡ self.old.each.items) }
+        ensures front { self.new.each.items ≡ with_cache (brought_to_front key.now) group.number self.old.each.items }
         ensures missing { kept_fill self.old.each.items group.number key.now ≡ None → IsOk result }
     {
         let Some(cache) = self.each.get_mut(group.number) else {
             return Ok(None);
         };
-        cache.get(key)
+        cache.find(key)
     }
 
     /// The bytes that all of them keep, 2^64 - 1 at most.
     pub fn bytes(&self) -> u64
-        ensures { result ≡ min (sum_by (λ c. bytes_in c.entries) self.now.each.items) (2 ^ 64 - 1) }
+        ensures { result ≡ min (sum_by (λ c. bytes_in c.each c.entries) self.now.each.items) (2 ^ 64 - 1) }
     {
         let mut bytes = 0u64;
         for cache in &self.each {
             bytes = bytes.saturating_add(cache.bytes());
         }
         bytes
+    }
+
+    /// What the cache of a group keeps and has lost. A group without a cache has nothing.
+    pub fn counts(&self, group: GroupId) -> CacheCounts
+        ensures entries { IfSome (slice_get self.now.each.items group.number) (λ c. result.entries ≡ length c.entries) }
+        ensures bytes { IfSome (slice_get self.now.each.items group.number) (λ c. result.bytes ≡ bytes_in c.each c.entries) }
+    {
+        match self.each.get(group.number) {
+            Some(cache) => CacheCounts {
+                entries: cache.len() as u64,
+                bytes: cache.bytes(),
+                lost: cache.lost(),
+            },
+            None => CacheCounts::NONE,
+        }
+    }
+
+    /// Lets entries go for this fill in the cache of its group, until it fits or the list of those that left is full: entries
+    /// that adding it would evict. Whether it fits by now.
+    #[tactic(auto, using(crate::proofs::Placing::in_place_set))]
+    pub fn make_room(&mut self, fill: &Fill<S>, evicted: &mut Evicted) -> bool
+        ensures { with_cache (added fill.now) fill.now.group self.new.each.items
+            ≡ with_cache (added fill.now) fill.now.group self.old.each.items }
+    {
+        let Some(own) = self.each.get_mut(fill.group().number) else {
+            return true;
+        };
+        own.make_room(fill, evicted)
     }
 
     /// Keeps a value that was found, in the cache of its group.

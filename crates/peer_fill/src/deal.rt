@@ -9,7 +9,7 @@ use crate::jobs::{Half, Job, Jobs, OnePart, PassLog, empty_queue};
 use crate::seat::MAX_SEATS;
 use crate::seats::{ConnSeat, FillSeat};
 use crossbeam_queue::Pass;
-use peer_source::Source;
+use peer_source::{Evicted, Source};
 use std::alloc::{AllocError, Global};
 use std::sync::ledger::{Blank, Book, Ledger, Share};
 
@@ -20,6 +20,18 @@ pub struct Dealt<S: Source, L: Ledger> {
     pub book: Book<L>,
     pub fills: Vec<FillSeat<S, L>>,
     pub conns: Vec<ConnSeat<S, L>>,
+}
+
+// How many entries leave a cache at most before it is unlocked to let go of them.
+const EVICTED_AT_ONCE: usize = 64;
+
+// Room for what leaves a cache.
+fn no_evicted(alloc: Global) -> Result<Evicted, AllocError>
+    ensures { IfOk result (λ evicted. evicted.items ≡ []) }
+{
+    let mut evicted = Vec::new(alloc);
+    evicted.reserve(EVICTED_AT_ONCE)?;
+    Ok(evicted)
 }
 
 // Deals 16 parts of the queue out to the seats of the workers: one each, and the last has the rest.
@@ -41,9 +53,9 @@ fn deal_fills<S: Source, L: Ledger>(
     for _i in 1..count {
         let one = jobs.another::<OnePart>(&mut pass);
         left -= 1;
-        seats.push(FillSeat::new(alloc, one, 1))?;
+        seats.push(FillSeat::new(one, 1, no_evicted(alloc)?))?;
     }
-    seats.push(FillSeat::new(alloc, pass, left))?;
+    seats.push(FillSeat::new(pass, left, no_evicted(alloc)?))?;
     Ok(seats)
 }
 

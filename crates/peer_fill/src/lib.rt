@@ -10,6 +10,7 @@
 
 mod ask;
 mod bringing;
+mod cache_counts;
 mod caches;
 mod close;
 mod closed;
@@ -24,10 +25,12 @@ mod lists;
 mod making;
 mod open;
 mod parts;
+mod plan;
 mod pool;
 mod pushing;
 mod seat;
 mod seats;
+mod shards;
 mod signals;
 mod table;
 mod taking;
@@ -36,6 +39,7 @@ mod waiting;
 mod work;
 
 pub use bringing::TakenJob;
+pub use cache_counts::CacheCounts;
 pub use close::{CloseFault, Report};
 pub use closed::Closed;
 pub use counts::{AskCounts, FillCounts};
@@ -45,6 +49,7 @@ pub use jobs::{Job, PassLog};
 pub use keeping::{Keeps, join_seats};
 pub use lists::Seats;
 pub use open::{OpenFault, Opened};
-pub use pool::Pool;
+pub use plan::{Bounds, CachePlan, ENTRY_BYTES};
+pub use pool::{Caching, Pool};
 pub use seat::{MAX_SEATS, Seat};
 pub use seats::{ConnSeat, FillSeat};

@@ -8,7 +8,6 @@ use crate::counts::FillCounts;
 use crate::pool::Pool;
 use peer_source::{Evicted, Fill, GroupId, Source};
 use peer_view::ByteView;
-use peer_wait::lock;
 use std::alloc::Global;
 use std::sync::Wait;
 use std::sync::ledger::Ledger;
@@ -67,19 +66,10 @@ impl<S: Source, L: Ledger> Pool<S, L> {
     ) -> Option<Fill<S>>
         ensures { IfSome result (IsFoundFor group.number key.now) }
     {
-        match lock(rt, &self.caches).get(group, key.as_slice()) {
+        match self.caches.get(rt, group, key.as_slice()) {
             Ok(found) => found,
             Err(_) => None,
         }
-    }
-
-    /// Keeps a value that was found in the cache of its group, unless memory refuses that. What is evicted for it is let go
-    /// once the caches are unlocked, where the list has room for it.
-    pub(crate) fn keep<R: Wait>(&self, rt: &R, fill: &Fill<S>, evicted: &mut Evicted)
-        ensures empty { evicted.new.items ≡ [] }
-    {
-        let _ = lock(rt, &self.caches).add(fill, evicted);
-        evicted.clear();
     }
 
     /// The fill that a cache keeps, where it keeps one, and else what a call of the source gives.
@@ -107,7 +97,7 @@ impl<S: Source, L: Ledger> Pool<S, L> {
         ensures { evicted.new.items ≡ [] }
     {
         if let Made::Called(fill) = made {
-            self.keep(rt, fill, evicted);
+            self.caches.keep(rt, fill, evicted);
         }
     }
 }

@@ -3,19 +3,20 @@ ghost use Rattle.std.specs.Prelude.{◌≡◌, ◌+◌, ◌↔◌, All, IfErr, I
 ghost use Rattle.peer_fill.specs.Opens.{IsOutside, IsWithin};
 ghost use Rattle.peer_fill.specs.Seats.{HaveAllConns, HaveAllFills};
 
-use crate::caches::Caches;
+use crate::cache_counts::CacheCounts;
 use crate::close::{CloseFault, Report, gather_conns, gather_fills};
 use crate::closed::Closed;
 use crate::deal::deal_all;
 use crate::jobs::Jobs;
 use crate::open::{OpenFault, Opened, check_numbers};
 use crate::parts::{has_all_conns, has_all_fills};
+use crate::plan::CachePlan;
 use crate::seats::{ConnSeat, FillSeat};
+use crate::shards::Shards;
 use crate::signals::Signals;
 use crate::table::{CountedTable, HasSixteenParts};
 use crossbeam_utils::CachePadded;
-use peer_source::{Names, Source};
-use peer_wait::lock;
+use peer_source::{GroupId, Names, Source};
 use std::alloc::Global;
 use std::hash::RandomState;
 use std::sync::atomic::AtomicBool;
@@ -23,13 +24,21 @@ use std::sync::atomic::Ordering::SeqCst;
 use std::sync::ledger::{Blank, Ledger};
 use std::sync::{Mutex, Wait};
 
+/// How the caches of a pool are made.
+#[derive(Clone, Copy)]
+pub struct Caching {
+    pub plan: CachePlan,
+    /// For the maps of the keys, which peers choose.
+    pub seed: RandomState,
+}
+
 /// Fills, made by workers for connections. Threads share it.
 #[derive(Drop)]
 pub struct Pool<S: Source, L: Ledger> {
     pub(crate) source: S,
     pub(crate) jobs: Jobs<S>,
     pub(crate) table: Mutex<CountedTable<S, L>>,
-    pub(crate) caches: Mutex<Caches<S>>,
+    pub(crate) caches: Shards<S>,
     pub(crate) signals: Signals,
     pub(crate) stopping: CachePadded<AtomicBool>,
     ledger_parts: HasSixteenParts<L>,
@@ -42,7 +51,7 @@ impl<S: Source, L: Ledger> Pool<S, L> {
     ghost use Rattle.peer_fill.specs.Totals.{AddsUp};
 
     /// A pool with a seat for each who fills and for each who asks. The blank names the ledger of the flights that
-    /// are led, in 16 parts. The cache of each group of the source keeps at most so many bytes; the seed
+    /// are led, in 16 parts. Each group of the source has one cache, as groupcache has it, of at most so many bytes; the seed
     /// is for the maps of its keys.
     pub fn open(
         alloc: Global,
@@ -62,15 +71,40 @@ impl<S: Source, L: Ledger> Pool<S, L> {
         ensures memory { IsErrOf result OpenFault.Memory → IsWithin 16 workers × IsWithin 16 conns × IsWithin 64 (S.count source) }
         ensures opened { IfOk result (Opens source workers conns) }
     {
+        let caching = Caching {
+            plan: CachePlan::Single(cache_bytes),
+            seed,
+        };
+        Pool::open_with(alloc, source, caching, workers, conns, blank)
+    }
+
+    /// As `open`, with caches as they are planned.
+    pub fn open_with(
+        alloc: Global,
+        source: S,
+        caching: Caching,
+        workers: usize,
+        conns: usize,
+        blank: Blank,
+    ) -> Result<Opened<S, L>, OpenFault>
+        requires name { blank.name ≡ L.name }
+        requires parts { blank.parts ≡ L.parts }
+        requires sixteen { blank.parts ≡ 16 }
+        ensures workers { IsErrOf result OpenFault.Workers ↔ IsOutside 16 workers }
+        ensures conns { IsErrOf result OpenFault.Conns ↔ (IsWithin 16 workers × IsOutside 16 conns) }
+        ensures groups { IsErrOf result OpenFault.Groups ↔ (IsWithin 16 workers × IsWithin 16 conns × IsOutside 64 (S.count source)) }
+        ensures memory { IsErrOf result OpenFault.Memory → IsWithin 16 workers × IsWithin 16 conns × IsWithin 64 (S.count source) }
+        ensures opened { IfOk result (Opens source workers conns) }
+    {
         let groups = source.group_count();
         check_numbers(workers, conns, groups)?;
-        let caches = Caches::new(alloc, groups, cache_bytes, seed)?;
+        let caches = Shards::new(alloc, groups, caching.plan, caching.seed)?;
         let dealt = deal_all::<S, L>(alloc, workers, conns, blank)?;
         let pool = Pool {
             source,
             jobs: dealt.jobs,
             table: Mutex::new(CountedTable::new(alloc, dealt.book)),
-            caches: Mutex::new(caches),
+            caches,
             signals: Signals::new(),
             stopping: CachePadded::new(AtomicBool::new(false)),
             ledger_parts: HasSixteenParts::new(),
@@ -89,9 +123,21 @@ impl<S: Source, L: Ledger> Pool<S, L> {
         Names::of(&self.source)
     }
 
-    /// The bytes of keys and values that the caches of all groups keep.
+    /// The bytes that the caches of all groups keep, as they count them.
     pub fn cached_bytes<R: Wait>(&self, rt: &R) -> u64 {
-        lock(rt, &self.caches).bytes()
+        self.caches.bytes(rt)
+    }
+
+    /// How many groups the source has.
+    pub fn group_count(&self) -> usize
+        ensures { result ≡ S.count (source_of self.now) }
+    {
+        self.source.group_count()
+    }
+
+    /// What the caches of a group keep and have lost.
+    pub fn cache_counts<R: Wait>(&self, rt: &R, group: GroupId) -> CacheCounts {
+        self.caches.counts(rt, group)
     }
 
     /// Tells the workers to return once they find no job.

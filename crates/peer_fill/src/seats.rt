@@ -7,8 +7,7 @@ ghost use Rattle.peer_fill.specs.Jobs.{pass_log, left_count, Rises};
 use crate::counts::{AskCounts, FillCounts, Found};
 use crate::jobs::{Job, PassLog};
 use crossbeam_queue::Pass;
-use peer_source::{Evicted, MAX_ENTRIES, Source};
-use std::alloc::Global;
+use peer_source::{Evicted, Source};
 use std::marker::PhantomData;
 use std::sync::ledger::{Ledger, Share};
 
@@ -43,7 +42,7 @@ pub struct FillSeat<S: Source, L: Ledger> {
     pub(crate) of: PhantomData<L>,
     pub(crate) parts: u64,
     pub(crate) fills: FillCounts,
-    // Room for what one addition to a cache evicts.
+    // Where what left a cache is put until the cache is unlocked.
     pub(crate) evicted: Evicted,
     ghost has_parts: { (0 < parts) × (parts ≤ 16) },
     ghost pass_parts: { (view pass).parts ≡ parts },
@@ -148,10 +147,11 @@ impl<S: Source, L: Ledger> ConnSeat<S, L> {
 impl<S: Source, L: Ledger> FillSeat<S, L> {
     ghost use Rattle.peer_fill.specs.Seats.{fills_of, fill_parts};
 
-    /// A seat that has taken no job.
-    pub(crate) fn new(alloc: Global, pass: Pass<Job<S>, PassLog>, parts: u64) -> FillSeat<S, L>
+    /// A seat that has taken no job. The list is for what leaves a cache.
+    pub(crate) fn new(pass: Pass<Job<S>, PassLog>, parts: u64, evicted: Evicted) -> FillSeat<S, L>
         requires parts { (0 < parts) × (parts ≤ 16) }
         requires pass { view pass ≡ pass_log parts [] [] }
+        requires evicted { evicted.items ≡ [] }
         ensures pass { result.pass ≡ pass }
         ensures parts { fill_parts result ≡ parts }
         ensures fills { fills_of result ≡ no_fills }
@@ -161,19 +161,7 @@ impl<S: Source, L: Ledger> FillSeat<S, L> {
             of: PhantomData,
             parts,
             fills: FillCounts::none(),
-            evicted: Vec::new(alloc),
-        }
-    }
-
-    /// Makes room for what one addition to a cache evicts, where there is none yet. Where memory is refused, it is let go
-    /// under the lock of the caches.
-    pub(crate) fn make_room(&mut self)
-        ensures pass { self.new.pass ≡ self.old.pass }
-        ensures parts { fill_parts self.new ≡ fill_parts self.old }
-        ensures fills { fills_of self.new ≡ fills_of self.old }
-    {
-        if self.evicted.capacity() == 0 {
-            let _ = self.evicted.reserve(MAX_ENTRIES);
+            evicted,
         }
     }
 

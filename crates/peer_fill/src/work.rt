@@ -65,7 +65,6 @@ impl<S: Source, L: Ledger> Pool<S, L> {
         ensures rehits { (fills_of seat).rehits ≤ (fills_of result).rehits }
     {
         let mut seat = seat;
-        seat.make_room();
         while seat.may_take() {
             if !self.work_one(rt, alloc, &mut seat, Take::OnceThere, gate) {
                 break;
@@ -92,7 +91,6 @@ impl<S: Source, L: Ledger> Pool<S, L> {
         ensures rehits { (fills_of seat.old).rehits ≤ (fills_of seat.new).rehits }
         ensures counted { taken_of (fills_of seat.new) ≡ taken_of (fills_of seat.old) + result }
     {
-        seat.make_room();
         let mut done = 0;
         while done < most && seat.may_take() {
             if !self.work_one(rt, alloc, seat, Take::IfThere, gate) {

@@ -28,7 +28,7 @@ struct Flag {
 
 // The flags, as `--help` lists them: for what is served, for how services are asked, for how it is served, and for whoever
 // runs it.
-const FLAGS: [Flag; 15] = [
+const FLAGS: [Flag; 16] = [
     Flag {
         name: "listen",
         takes: Takes::Required("ADDR"),
@@ -87,7 +87,12 @@ const FLAGS: [Flag; 15] = [
     Flag {
         name: "cache",
         takes: Takes::Defaulted("BYTES", "64MiB"),
-        help: "Keys and values that the cache of each group keeps, in bytes, KiB, MiB or GiB; 4096 keys at most",
+        help: "Memory that the cache of each group takes, with all that its keys and values need, in bytes, KiB, MiB or GiB",
+    },
+    Flag {
+        name: "cache-keys",
+        takes: Takes::Value("N"),
+        help: "Keys that the cache of each group keeps at most; without it bytes alone bound it",
     },
     Flag {
         name: "memory",

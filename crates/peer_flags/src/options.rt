@@ -1,5 +1,5 @@
 //! The words that the program is called with.
-ghost use Rattle.std.specs.Prelude.{◌≤◌, IfOk};
+ghost use Rattle.std.specs.Prelude.{◌≤◌, ◌^◌, IfOk, IfSome};
 ghost use Rattle.std.specs.Duration.{as_nanos};
 
 use crate::size::{bytes_of, number_of};
@@ -21,6 +21,9 @@ const MAX_UNDER_WAY: u64 = 1024;
 
 // The most connections.
 const MAX_CONNECTIONS: u64 = 65_536;
+
+// The most keys of a cache.
+const MAX_CACHE_KEYS: u64 = 4_294_967_296;
 
 // The most seconds for a value.
 const MAX_TIMEOUT: u64 = 3600;
@@ -80,6 +83,8 @@ pub struct Options<'w> {
     pub loops: usize,
     pub connections: usize,
     pub cache_bytes: u64,
+    /// The most keys of the cache of each group, if there is such a bound.
+    pub cache_keys: Option<u64>,
     pub memory: usize,
     pub timeout: Duration,
     pub connection_for_each: bool,
@@ -106,6 +111,24 @@ fn number<'w>(
             word,
             fault: WordFault::Number(least, most),
         }),
+    }
+}
+
+// The number of a flag, if it is given.
+fn number_if_given<'w>(
+    matches: &ArgMatches<'w>,
+    flag: &'w str,
+    least: u64,
+    most: u64,
+) -> Result<Option<u64>, BadWord<'w>>
+    ensures { IfOk result (λ given. IfSome given (λ number. (least ≤ number) × (number ≤ most))) }
+{
+    if matches.get_str(flag).is_none() {
+        return Ok(None);
+    }
+    match number(matches, flag, least, most) {
+        Ok(number) => Ok(Some(number)),
+        Err(bad) => Err(bad),
     }
 }
 
@@ -215,6 +238,7 @@ impl Counts {
 #[derive(Clone, Copy)]
 struct Limits {
     cache_bytes: u64,
+    cache_keys: Option<u64>,
     memory: usize,
     timeout: Duration,
 }
@@ -222,10 +246,12 @@ struct Limits {
 impl Limits {
     // What the words say, or the first that cannot be used.
     fn of<'w>(matches: &ArgMatches<'w>) -> Result<Limits, BadWord<'w>>
-        ensures { IfOk result (λ l. (1_000_000_000 ≤ as_nanos l.timeout) × (as_nanos l.timeout ≤ 3_600_000_000_000)) }
+        ensures cache_keys { IfOk result (λ l. IfSome l.cache_keys (λ n. (1 ≤ n) × (n ≤ 2 ^ 32))) }
+        ensures timeout { IfOk result (λ l. (1_000_000_000 ≤ as_nanos l.timeout) × (as_nanos l.timeout ≤ 3_600_000_000_000)) }
     {
         Ok(Limits {
             cache_bytes: size(matches, "cache")?,
+            cache_keys: number_if_given(matches, "cache-keys", 1, MAX_CACHE_KEYS)?,
             memory: size(matches, "memory")? as usize,
             timeout: Duration::from_secs(number(matches, "timeout", 1, MAX_TIMEOUT)?),
         })
@@ -240,6 +266,7 @@ impl<'w> Options<'w> {
         ensures workers { IfOk result (λ o. o.workers ≤ 16) }
         ensures loops { IfOk result (λ o. (1 ≤ o.loops) × (o.loops ≤ 16)) }
         ensures connections { IfOk result (λ o. (1 ≤ o.connections) × (o.connections ≤ 65536)) }
+        ensures cache_keys { IfOk result (λ o. IfSome o.cache_keys (λ n. (1 ≤ n) × (n ≤ 2 ^ 32))) }
         ensures timeout { IfOk result (λ o. (1_000_000_000 ≤ as_nanos o.timeout) × (as_nanos o.timeout ≤ 3_600_000_000_000)) }
     {
         let listen = listen(matches)?;
@@ -256,6 +283,7 @@ impl<'w> Options<'w> {
             loops: counts.loops,
             connections: counts.connections,
             cache_bytes: limits.cache_bytes,
+            cache_keys: limits.cache_keys,
             memory: limits.memory,
             timeout: limits.timeout,
             connection_for_each: matches.get_flag("connection-for-each"),

@@ -4,6 +4,7 @@
 //! be used is refused by a sentence before anything is bound.
 #![tactic(auto)]
 
+mod caches;
 mod end;
 mod exit;
 mod files;

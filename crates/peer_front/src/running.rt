@@ -22,6 +22,8 @@ pub struct Service<'a, S: Source> {
     pub source: S,
     pub listener: TcpListener,
     pub settings: &'a Settings<'a>,
+    /// The names of its groups, in the order of their numbers.
+    pub names: &'a [Vec<u8>],
     /// What threads fetch, where they do.
     pub plan: Option<FetchPlan<'a>>,
 }
@@ -38,6 +40,7 @@ fn serve_planned<S: Source + Send + Sync, H: AllocGlobal + Host>(
         listener,
         settings,
         plan,
+        ..
     } = service;
     serve_fetching(rt, rt.alloc(), source, listener, settings, plan)
 }
@@ -84,10 +87,10 @@ fn serve_paged<S: Source + Send + Sync, H: AllocGlobal + Host>(
         return serve_planned(rt, service);
     };
     let end = &end;
-    let counters = service.settings.counters;
+    let (counters, names) = (service.settings.counters, service.names);
     serve_beside(
         rt,
-        move || server.run(rt, counters, end),
+        move || server.run(rt, counters, names, end),
         move || end.end(),
         move || -> Result<Report, ServerFault>
             requires { IfSome service.plan (Allows (S.answers service.source)) }

@@ -1,5 +1,6 @@
 //! What the program says of its serving.
 
+use crate::caches::CachesSaid;
 use peer_fill::Report;
 use peer_flags::Options;
 use peer_origin::Endpoint;
@@ -73,6 +74,11 @@ pub fn say_serving<H: AllocGlobal + Eprint>(
             "peer_front: serves {groups} at {address}, {most} at most, on {loops}"
         ),
     };
+}
+
+/// Says on standard error what the caches of so many groups may take.
+pub fn say_caches<H: AllocGlobal + Eprint>(rt: &H, groups: usize, options: &Options<'_>) {
+    let _ = eprintln!(rt; "peer_front: {}", CachesSaid::of(options, groups));
 }
 
 // Whether a key can stand right behind this prefix as a part of its own: of the path, or of the query.

@@ -6,11 +6,11 @@ use crate::exit::{BAD_WORD, CANNOT_BIND, DONE, Exit, NO_SEED, OUT_OF_MEMORY, no_
 use crate::files::within_files;
 use crate::page::{Page, page_of};
 use crate::running::{Service, serve_watched};
-use crate::said::{FilledBy, say_listening, say_prefixes, say_serving, say_totals};
-use crate::source::{fetch_settings, source_of};
+use crate::said::{FilledBy, say_caches, say_listening, say_prefixes, say_serving, say_totals};
+use crate::source::{fetch_settings, group_names, source_of};
 use crate::until_eof::stop_of;
 use peer_fetch::FetchPlan;
-use peer_fill::Report;
+use peer_fill::{CachePlan, Caching, Report};
 use peer_flags::Options;
 use peer_groups::fetched_of;
 use peer_loop::{Fillers, ServerFault, Settings, Stop};
@@ -39,6 +39,8 @@ fn who_fills(options: &Options<'_>, has_services: bool) -> FilledBy {
 #[derive(Clone, Copy)]
 struct Outside<'a> {
     counters: &'a Counters,
+    // The names of the groups, in the order of their numbers.
+    names: &'a [Vec<u8>],
     stop: &'a Stop,
 }
 
@@ -59,8 +61,10 @@ fn settings_of<'a>(
         connections: options.connections,
         memory: options.memory,
         accepts: None,
-        cache_bytes: options.cache_bytes,
-        seed,
+        caching: Caching {
+            plan: CachePlan::sharded(options.cache_bytes, options.cache_keys),
+            seed,
+        },
         limits: Limits::usual(),
         counters: outside.counters,
         stop: outside.stop,
@@ -145,13 +149,9 @@ fn serve_source<S: Source + Send + Sync, H: AllocGlobal + Print + Eprint + Rando
         }
     };
     let filled_by = who_fills(options, plan.is_some());
-    say_serving(
-        rt,
-        source.group_count(),
-        &opened.listener,
-        options,
-        filled_by,
-    );
+    let groups = source.group_count();
+    say_serving(rt, groups, &opened.listener, options, filled_by);
+    say_caches(rt, groups, options);
     if let Err(error) = say_listening(rt) {
         drop(opened);
         drop(source);
@@ -163,6 +163,7 @@ fn serve_source<S: Source + Send + Sync, H: AllocGlobal + Print + Eprint + Rando
         source,
         listener,
         settings: &settings,
+        names: outside.names,
         plan,
     };
     let served = serve_watched(rt, service, page);
@@ -208,6 +209,9 @@ pub fn serve<
     let (Some(fetched), Ok(stop)) = (fetched_of(rt.alloc(), &source), stop_of(rt, options)) else {
         return refuse(rt, &"out of memory, threads or descriptors", OUT_OF_MEMORY);
     };
+    let Some(names) = group_names(rt.alloc(), &source, words) else {
+        return refuse(rt, &"out of memory", OUT_OF_MEMORY);
+    };
     let plan = if has_services {
         let fetch = fetch_settings(options);
         let plan = fetched.plan(fetch, options.under_way, counters.failures());
@@ -218,6 +222,7 @@ pub fn serve<
     };
     let outside = Outside {
         counters: &counters,
+        names: names.as_slice(),
         stop: &stop,
     };
     serve_source(rt, options, source, plan, outside)

@@ -1,20 +1,21 @@
--- A source allows what an origin may answer, for the groups of its origins.
-use Rattle.std.proofs.Common.{◌≡◌, ℕ, ◌+◌, ◌<◌, ◌≤◌, List, length, map, ap, sym, ◌∙◌, arith}
-use Rattle.std.proofs.lemmas.List.{length-map}
+-- A source answers what is fetched at its origins, for their groups.
+use Rattle.std.proofs.Common.{◌≡◌, ℕ, ◌+◌, ◌-◌, ◌<◌, ◌≤◌, List, map, sym, subst, slice_get, arith}
+use Rattle.std.proofs.lemmas.Option.{slice_get_within}
 use Rattle.peer_source.specs.Answers.{Answer}
 use Rattle.peer_origin.specs.Endpoints.{reached_at}
-use Rattle.peer_origin.specs.declared.origin.Origin.{Origin}
+use Rattle.peer_origin.specs.Fetched.{AnswersAt}
 use Rattle.peer_origin.specs.declared.endpoint.Endpoint.{Endpoint}
+use Rattle.peer_origin.specs.declared.origin.Origin.{Origin}
 use Rattle.peer_fetch.specs.Threads.{AllowsOrigins}
+use Rattle.peer_fetch.proofs.AllowLemmas.{allows_from}
 use Rattle.peer_groups.specs.Besides.{AnswersOrigins}
 
-pub allows_origins : (count origins from : ℕ) (first second : ℕ → List ℕ → Answer → Type 0) (each : List Endpoint) → from ≡ count → length each ≡ origins
-    → AllowsOrigins (AnswersOrigins count origins first second) from each
-allows_origins count origins from first second each e n g k a has o =
-    (λ low. (λ l. absurd (omega (arith, l, has.0, e)), λ h. o), λ h. absurd (omega (arith, h, has.1, e, n)))
-
--- there is an endpoint for each origin
-pub as_many : (endpoints : List Endpoint) (origins origins' : List Origin) → map reached_at endpoints ≡ map (λ o. reached_at o.endpoint) origins → origins ≡ origins'
-    → length endpoints ≡ length origins'
-as_many endpoints origins origins' same e =
-    sym (length-map endpoints reached_at) ∙ ap length same ∙ length-map origins (λ o. reached_at o.endpoint) ∙ ap length e
+pub allows_origins : (count from : ℕ) (os : List Origin) (first second : ℕ → List ℕ → Answer → Type 0) (each : List Endpoint) → from ≡ count
+    → map reached_at each ≡ map (λ o. reached_at o.endpoint) os → AllowsOrigins (AnswersOrigins count os first second) from each
+allows_origins count from os first second each e same =
+    allows_from (AnswersOrigins count os first second) os from each same (λ n o key a there h.
+    let low = slice_get_within os n o there in
+    let place : (from + n) - count ≡ n = omega (arith, e) in (
+      λ l. (λ b. absurd (omega (arith, b, e)), λ b. subst (λ i. AnswersAt (slice_get os i) key a) (sym place) (subst (λ x. AnswersAt x key a) (sym there) h)),
+      λ b. absurd (omega (arith, b, low, e)),
+    ))

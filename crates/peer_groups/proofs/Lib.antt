@@ -1,1 +1,2 @@
 mod FetchedLemmas
+mod NameLemmas

@@ -1,17 +1,19 @@
 -- Sources beside one another: the groups of the first, and behind them those of the second.
-use Rattle.std.specs.Prelude.{◌≡◌, ℕ, ◌+◌, ◌-◌, ◌<◌, ◌≤◌, ◌⊎◌, List, Option, Some, None, option_map}
+use Rattle.std.specs.Prelude.{◌≡◌, ℕ, ◌+◌, ◌-◌, ◌<◌, ◌≤◌, ◌⊎◌, List, length, Option, Some, None, option_map}
 use Rattle.std.proofs.Common.{inl, inr, arith, refl}
 use Rattle.std.proofs.lemmas.Bool.{cases_lt}
 use Rattle.peer_source.specs.Answers.{Answer, Failed, IsWithinLimit}
-use Rattle.peer_origin.specs.Origins.{IsOriginAnswer}
+use Rattle.peer_origin.specs.Fetched.{AnswersFrom}
+use Rattle.peer_origin.specs.declared.origin.Origin.{Origin}
 
 -- what the first answers for its groups, and the second for those behind them
 abbrev pub AnswersEither : ℕ → (ℕ → List ℕ → Answer → Type 0) → (ℕ → List ℕ → Answer → Type 0) → ℕ → List ℕ → Answer → Type 0
 AnswersEither count first second g k a = (g < count → first g k a) × (count ≤ g → second (g - count) k a)
 
--- what a source answers in which so many origins stand between a first that has so many groups and a second
-abbrev pub AnswersOrigins : ℕ → ℕ → (ℕ → List ℕ → Answer → Type 0) → (ℕ → List ℕ → Answer → Type 0) → ℕ → List ℕ → Answer → Type 0
-AnswersOrigins count origins first second = AnswersEither (count + origins) (AnswersEither count first (λ g k a. IsOriginAnswer a)) second
+-- what a source answers in which these origins stand between a first that has so many groups and a second
+abbrev pub AnswersOrigins : ℕ → List Origin → (ℕ → List ℕ → Answer → Type 0) → (ℕ → List ℕ → Answer → Type 0) → ℕ → List ℕ → Answer → Type 0
+AnswersOrigins count origins first second =
+    AnswersEither (count + length origins) (AnswersEither count first (AnswersFrom origins)) second
 
 -- what either allows, for some group
 abbrev pub AllowsEither : (ℕ → List ℕ → Answer → Type 0) → (ℕ → List ℕ → Answer → Type 0) → ℕ → List ℕ → Answer → Type 0

@@ -1,2 +1,3 @@
 pub mod Besides
 pub mod Maybes
+pub mod Names

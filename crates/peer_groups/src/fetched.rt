@@ -57,7 +57,7 @@ pub fn fetched_of<A: Source + Send + Sync, B: Source + Send + Sync>(
     ensures groups { IfSome result (λ fetched. fetched.groups
         ≡ A.count source.now.first.first + length source.now.first.second.origins.items + B.count source.now.second) }
     ensures allows { IfSome result (λ fetched. AllowsOrigins (AnswersOrigins (A.count source.now.first.first)
-        (length source.now.first.second.origins.items) (A.answers source.now.first.first) (B.answers source.now.second))
+        source.now.first.second.origins.items (A.answers source.now.first.first) (B.answers source.now.second))
         fetched.first fetched.each.items) }
 {
     let services = source.first();

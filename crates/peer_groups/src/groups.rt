@@ -108,8 +108,8 @@ pub fn origins_of<'w, H: Net<Listener = TcpListener, Stream = TcpStream>>(
     Ok(origins)
 }
 
-// The name in a word that names an origin.
-fn name_in<'w>(word: &'w str) -> &'w str {
+/// The name in a word that names a group, and its origin or not.
+pub(crate) fn name_in<'w>(word: &'w str) -> &'w str {
     match word.split_once('=') {
         Some((name, _)) => name,
         None => word,

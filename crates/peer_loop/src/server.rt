@@ -3,6 +3,7 @@ ghost use Rattle.std.specs.Prelude.{◌≡◌, All, IfSome};
 ghost use Rattle.peer_fill.specs.Pools.{source_of, IsConnSeatOf, IsFillSeatOf};
 ghost use Rattle.peer_fill.specs.Seats.{HaveAllConns, HaveAllFills};
 ghost use Rattle.peer_fetch.specs.Threads.{Allows};
+ghost use Rattle.peer_known.specs.Names.{IsNamed};
 ghost use Rattle.peer_fill.specs.Lists.{AreSeatsOf, Balances, ComeBack};
 ghost use Rattle.peer_loop.specs.Reports.{ServesWith};
 ghost use Rattle.peer_loop.specs.Serving.{fill_seats};
@@ -13,6 +14,7 @@ use crate::settings::{Orders, Settings};
 use crate::threads::use_threads;
 use peer_fetch::FetchPlan;
 use peer_fill::{MAX_SEATS, OpenFault, Opened, Pool, Report, Seats};
+use peer_known::{Known, Relation};
 use peer_runtime::Host;
 use peer_site::Site;
 use peer_source::Source;
@@ -125,11 +127,10 @@ fn over_pool<S: Source + Send + Sync, L: Ledger + Send + Sync, H: Host>(
     ensures { ServesWith (fill_seats orders.entry.settings.now) orders.entry.settings.now.loops (S.count source) result }
 {
     let settings = orders.settings;
-    let opened = match Pool::<S, L>::open(
+    let opened = match Pool::<S, L>::open_with(
         alloc,
         source,
-        settings.cache_bytes,
-        settings.seed,
+        settings.caching,
         settings.fillers.seats(settings.loops),
         settings.loops,
         blank,
@@ -140,10 +141,27 @@ fn over_pool<S: Source + Send + Sync, L: Ledger + Send + Sync, H: Host>(
     serve_opened(rt, alloc, opened, listener, orders).ok_or(ServerFault::Refused)
 }
 
+// Serves under a name of the source's answers, so that what the type of the server's source allows is what this source may answer.
+fn serve_known<S: Source + Send + Sync, W: Relation + Send + Sync, H: Host>(
+    rt: &H,
+    alloc: Global,
+    source: S,
+    listener: TcpListener,
+    orders: Orders<'_>,
+) -> Result<Report, ServerFault>
+    requires named { IsNamed (S.answers source) W.may }
+    requires allows { IfSome orders.plan (Allows (S.answers source)) }
+    ensures { ServesWith (fill_seats orders.entry.settings.now) orders.entry.settings.now.loops (S.count source) result }
+{
+    let known = Known::<S, W>::new(source);
+    over_pool::<Known<S, W>, Brand, H>(rt, alloc, known, listener, orders, Blank::new(MAX_SEATS))
+}
+
 /// Serves the listener's clients until so many connections as the settings say were accepted and have ended, or until it
 /// was told to stop, and gives the pool's report. Once it accepts no more it lets go of the listener, and then waits for the
 /// clients that it has. Where there is a plan, threads that fill fetch the values of its groups, each with hundreds under
-/// way. They call the source for all others, and so do loops that fill, for all groups.
+/// way. They call the source for all others, and so do loops that fill, for all groups. What its clients get are answers that this
+/// very source may give: it is served under a name of these (`Known`).
 pub fn serve_fetching<S: Source + Send + Sync, H>(
     rt: &H,
     alloc: Global,
@@ -158,7 +176,7 @@ where
     ensures { ServesWith (fill_seats settings.now) settings.now.loops (S.count source) result }
 {
     let orders = Orders { settings, plan };
-    over_pool::<S, Brand, H>(rt, alloc, source, listener, orders, Blank::new(MAX_SEATS))
+    serve_known::<S, Brand, H>(rt, alloc, source, listener, orders)
 }
 
 /// The same without a plan: all values are had by calls of the source.

@@ -3,9 +3,9 @@
 use crate::fillers::Fillers;
 use crate::stop::Stop;
 use peer_fetch::FetchPlan;
+use peer_fill::Caching;
 use peer_runtime::Limits;
 use peer_stats::Counters;
-use std::hash::RandomState;
 
 /// How a server serves.
 #[derive(Clone, Copy)]
@@ -21,10 +21,8 @@ pub struct Settings<'a> {
     pub memory: usize,
     /// How many connections are accepted before the server ends by itself, none where it does not.
     pub accepts: Option<u64>,
-    /// How many bytes of keys and values the cache of each group keeps at most.
-    pub cache_bytes: u64,
-    /// The seed of the caches' maps.
-    pub seed: RandomState,
+    /// How the caches of its groups are made.
+    pub caching: Caching,
     /// How long clients are waited for.
     pub limits: Limits,
     /// Where its threads publish what they count.

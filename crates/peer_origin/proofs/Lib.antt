@@ -1,2 +1,3 @@
+pub mod AskedLemmas
 mod FaultLemmas
 mod TargetLemmas

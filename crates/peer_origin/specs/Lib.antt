@@ -1,3 +1,4 @@
+pub mod Fetched
 pub mod Fetches
 pub mod Kinds
 pub mod Origins

@@ -1,6 +1,7 @@
 //! The source over origins.
-ghost use Rattle.std.specs.Prelude.{◌≡◌, ◌+◌, ◌<◌, ◌≤◌, length, drop, option_map};
-ghost use Rattle.peer_origin.specs.Origins.{IsOriginAnswer, number_from, origin_answered, origin_limited, origin_numbered};
+ghost use Rattle.std.specs.Prelude.{◌≡◌, ◌+◌, ◌<◌, ◌≤◌, length, drop, option_map, slice_get};
+ghost use Rattle.peer_origin.specs.Fetched.{AnswersFrom, answer_within, answered_at};
+ghost use Rattle.peer_origin.specs.Origins.{IsOriginAnswer, number_from, origin_limited, origin_numbered};
 
 use crate::endpoint::Endpoint;
 use crate::fault::{FetchFault, get_fault};
@@ -54,7 +55,7 @@ fn find(origins: &[Origin], name: &[u8]) -> Option<GroupId>
 }
 
 impl Source for OriginSource {
-    ghost answers = { λ s g k a. IsOriginAnswer a };
+    ghost answers = { λ s. AnswersFrom s.origins.items };
 
     ghost allowed = { λ g k a. IsOriginAnswer a };
 
@@ -77,11 +78,11 @@ impl Source for OriginSource {
         Err(get_fault(alloc, FetchFault::Unreached))
     }
 
-    ghost within = { λ s g k a h. h };
+    ghost within = { λ s g k a h. answer_within (slice_get s.origins.items g) k a h };
 
     ghost limited = { λ g k a h. origin_limited a h };
 
-    ghost answered = { λ s g k. origin_answered };
+    ghost answered = { λ s g k. answered_at (slice_get s.origins.items g) k };
 
     ghost numbered = { λ s name i e. origin_numbered s.origins.items name i e };
 }

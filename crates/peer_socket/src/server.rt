@@ -3,11 +3,13 @@ ghost use Rattle.std.specs.Prelude.{◌≡◌, All, IfSome};
 ghost use Rattle.peer_fill.specs.Pools.{IsConnSeatOf, IsFillSeatOf};
 ghost use Rattle.peer_fill.specs.Seats.{HaveAllConns, HaveAllFills};
 ghost use Rattle.peer_fill.specs.Lists.{Balances};
+ghost use Rattle.peer_known.specs.Names.{IsNamed};
 ghost use Rattle.peer_socket.specs.Serving.{ServesWith};
 
 use crate::acceptor::Acceptor;
 use crate::threads::use_seats;
 use peer_fill::{MAX_SEATS, OpenFault, Opened, Pool, Report, Seats};
+use peer_known::{Known, Relation};
 use peer_runtime::{Host, Limits};
 use peer_source::Source;
 use std::alloc::Global;
@@ -105,7 +107,23 @@ fn over_pool<S: Source + Send + Sync, L: Ledger + Send + Sync, H: Host>(
     }
 }
 
-/// `peer_server` with settings of one's own.
+// Serves under a name of the source's answers, so that what the type of the server's source allows is what this source may answer.
+fn serve_known<S: Source + Send + Sync, W: Relation + Send + Sync, H: Host>(
+    rt: &H,
+    alloc: Global,
+    source: S,
+    listener: &TcpListener,
+    settings: &Settings,
+) -> Result<Report, ServerFault>
+    requires named { IsNamed (S.answers source) W.may }
+    ensures { ServesWith settings.now.workers settings.now.conns (S.count source) result }
+{
+    let known = Known::<S, W>::new(source);
+    over_pool::<Known<S, W>, Brand, H>(rt, alloc, known, listener, settings, Blank::new(MAX_SEATS))
+}
+
+/// `peer_server` with settings of one's own. What its clients get are answers that this very source may give: it is served under a
+/// name of these (`Known`).
 pub fn serve_within<S: Source + Send + Sync, H>(
     rt: &H,
     alloc: Global,
@@ -117,14 +135,7 @@ where
     H: Net<Listener = TcpListener, Stream = TcpStream> + Threads + Wait + Clock + Sync,
     ensures { ServesWith settings.now.workers settings.now.conns (S.count source) result }
 {
-    over_pool::<S, Brand, H>(
-        rt,
-        alloc,
-        source,
-        &listener,
-        settings,
-        Blank::new(MAX_SEATS),
-    )
+    serve_known::<S, Brand, H>(rt, alloc, source, &listener, settings)
 }
 
 /// Serves `rounds` connections on each of `conns` threads, with so many workers that call the source, and gives the

@@ -1,3 +1,4 @@
 pub mod CacheLemmas
 pub mod EntryLemmas
 pub mod FittingLemmas
+pub mod WayLemmas

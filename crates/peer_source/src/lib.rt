@@ -12,8 +12,8 @@ mod entries;
 mod fill;
 mod functional;
 mod group;
-mod kept;
 mod lent_key;
+mod lost;
 mod names;
 mod source;
 
@@ -23,6 +23,6 @@ pub use entries::Evicted;
 pub use fill::{Fill, Outcome, too_long_text};
 pub use functional::FunctionalSource;
 pub use group::{GroupId, MAX_GROUPS};
-pub use kept::Kept;
+pub use lost::Lost;
 pub use names::Names;
 pub use source::{GetFault, GetResult, Shared, Source};

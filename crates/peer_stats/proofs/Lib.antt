@@ -1,1 +1,3 @@
+pub mod EachLemmas
 pub mod JoinLemmas
+pub mod TextLemmas

@@ -1,5 +1,5 @@
 -- Which answer a request gets.
-use Rattle.std.specs.Prelude.{◌≡◌, ℕ, List, Bool, codes, bytes_eq, ◌||◌, cond}
+use Rattle.std.specs.Prelude.{ℕ, List, Bool, codes, bytes_eq, ◌||◌, cond}
 use Rattle.peer_stats.specs.declared.answer.Answer.{Answer}
 use Rattle.peer_stats.specs.declared.answer.Answer.TheVariants as answer
 

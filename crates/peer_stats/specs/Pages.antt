@@ -1,31 +1,13 @@
 -- The page of numbers, in Prometheus' text format 0.0.4.
-use Rattle.std.specs.Prelude.{◌≡◌, ℕ, List, [], ◌++◌, codes, decimal}
+use Rattle.std.specs.Prelude.{ℕ, List, ◌++◌, codes}
+use Rattle.peer_stats.specs.Families.{counter_text, family_text, gauge_text, number_text}
+use Rattle.peer_stats.specs.Groups.{groups_text}
 use Rattle.peer_stats.specs.declared.counts.LoopCounts.{LoopCounts}
 use Rattle.peer_stats.specs.declared.counts.FillerCounts.{FillerCounts}
 use Rattle.peer_stats.specs.declared.counts.AcceptCounts.{AcceptCounts}
 use Rattle.peer_stats.specs.declared.counts.FailureCounts.{FailureCounts}
 use Rattle.peer_stats.specs.declared.counts.Counts.{Counts}
-
--- what a name is for, and its type
-abbrev pub family_text : List ℕ → List ℕ → List ℕ → List ℕ
-family_text name kind help =
-    codes "# HELP peer_front_" ++ name ++ codes " " ++ help ++ codes "\n# TYPE peer_front_" ++ name ++ codes " " ++ kind ++ codes "\n"
-
--- a number and the end of its line
-abbrev pub number_text : ℕ → List ℕ
-number_text value = decimal value ++ codes "\n"
-
--- a number with its name
-abbrev pub sample_text : List ℕ → ℕ → List ℕ
-sample_text name value = codes "peer_front_" ++ name ++ codes " " ++ number_text value
-
--- a number that never falls
-abbrev pub counter_text : List ℕ → ℕ → List ℕ → List ℕ
-counter_text name value help = family_text name (codes "counter") help ++ sample_text name value
-
--- a number that rises and falls
-abbrev pub gauge_text : List ℕ → ℕ → List ℕ → List ℕ
-gauge_text name value help = family_text name (codes "gauge") help ++ sample_text name value
+use Rattle.peer_stats.specs.declared.counts.GroupCounts.{GroupCounts}
 
 -- what loops have counted
 abbrev pub loops_text : LoopCounts → List ℕ
@@ -66,11 +48,11 @@ failures_text c =
 -- the process
 abbrev pub process_text : ℕ → ℕ → List ℕ
 process_text cached seconds =
-    gauge_text (codes "cache_bytes") cached (codes "Bytes of keys and values in all caches.")
+    gauge_text (codes "cache_bytes") cached (codes "Bytes in all caches: keys, values and what holds them.")
     ++ gauge_text (codes "uptime_seconds") seconds (codes "Seconds since the start.")
 
 -- the whole page
-abbrev pub page_text : Counts → ℕ → List ℕ
-page_text c seconds =
+abbrev pub page_text : Counts → List GroupCounts → ℕ → List ℕ
+page_text c groups seconds =
     loops_text c.loops ++ fillers_text c.fillers ++ connections_text c.loops.connections c.accepts
-    ++ failures_text c.failures ++ process_text c.cache_bytes seconds
+    ++ failures_text c.failures ++ groups_text groups ++ process_text c.cache_bytes seconds

@@ -1,5 +1,5 @@
 -- Sums of counts, modulo 2^64.
-use Rattle.std.specs.Prelude.{◌≡◌, ℕ, ◌+◌, ◌^◌, ◌%◌}
+use Rattle.std.specs.Prelude.{ℕ, ◌+◌, ◌^◌, ◌%◌}
 use Rattle.peer_stats.specs.declared.counts.LoopCounts.{LoopCounts}
 use Rattle.peer_stats.specs.declared.counts.FillerCounts.{FillerCounts}
 

@@ -42,14 +42,35 @@ pub struct FailureCounts {
     pub memory: u64,
 }
 
-/// All that a server has counted.
+/// What the cache of a group has by now, and what it has counted.
+#[derive(Clone, Copy, Debug, PartialEq, Eq)]
+pub struct CacheCounts {
+    pub entries: u64,
+    /// The bytes of the entries: keys, values and what holds them.
+    pub bytes: u64,
+    /// The entries that left it as their bytes were too many.
+    pub evicted_by_bytes: u64,
+    /// The entries that left it as the keys were too many.
+    pub evicted_by_keys: u64,
+    /// The values that it did not keep, since they are larger than it may be.
+    pub too_large: u64,
+}
+
+/// A group that is served, by its name.
+#[derive(Clone, Copy, Debug, PartialEq, Eq)]
+pub struct GroupCounts<'n> {
+    pub name: &'n [u8],
+    pub cache: CacheCounts,
+}
+
+/// All that a server has counted, but for what it has of each group.
 #[derive(Clone, Copy, Debug, PartialEq, Eq)]
 pub struct Counts {
     pub loops: LoopCounts,
     pub fillers: FillerCounts,
     pub accepts: AcceptCounts,
     pub failures: FailureCounts,
-    /// The bytes of keys and values in all caches.
+    /// The bytes in all caches: keys, values and what holds them.
     pub cache_bytes: u64,
 }
 

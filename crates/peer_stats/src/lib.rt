@@ -11,15 +11,20 @@ mod counters;
 mod counts;
 mod end;
 mod failure;
+mod family;
+mod groups;
+mod label;
 mod page;
 mod server;
 mod service;
 mod slots;
 
 pub use counters::Counters;
-pub use counts::{AcceptCounts, Counts, FailureCounts, FillerCounts, LoopCounts};
+pub use counts::{
+    AcceptCounts, CacheCounts, Counts, FailureCounts, FillerCounts, GroupCounts, LoopCounts,
+};
 pub use end::StatsEnd;
 pub use failure::OriginFailure;
 pub use page::metrics_page;
 pub use server::{StatsServer, open_stats};
-pub use slots::{AcceptSlot, FailureSlots, FillerSlot, LoopSlot};
+pub use slots::{AcceptSlot, CacheSlot, FailureSlots, FillerSlot, LoopSlot};

@@ -1,77 +1,13 @@
 //! The page that Prometheus reads, in its text format 0.0.4.
-ghost use Rattle.std.specs.Prelude.{◌≡◌, ◌++◌, codes, decimal, IfOk, OnOk};
-ghost use Rattle.peer_stats.specs.Pages.{counter_text, family_text, gauge_text, kind_text, number_text, sample_text};
-ghost use Rattle.peer_stats.specs.Pages.{connections_text, failures_text, fillers_text, loops_text, page_text, process_text};
+ghost use Rattle.std.specs.Prelude.{◌≡◌, ◌++◌, codes, IfOk, OnOk};
+ghost use Rattle.peer_stats.specs.Families.{counter_text, family_text, gauge_text, number_text};
+ghost use Rattle.peer_stats.specs.Groups.{groups_text};
+ghost use Rattle.peer_stats.specs.Pages.{connections_text, failures_text, fillers_text, kind_text, loops_text, page_text, process_text};
 
-use crate::counts::{AcceptCounts, Counts, FailureCounts, FillerCounts, LoopCounts};
-use itoa::Buffer;
+use crate::counts::{AcceptCounts, Counts, FailureCounts, FillerCounts, GroupCounts, LoopCounts};
+use crate::family::{put_between, put_counter, put_family, put_gauge};
+use crate::groups::put_groups;
 use std::alloc::{AllocError, Global};
-
-// Appends what a name is for, and of which type it is.
-fn put_family(page: &mut Vec<u8>, name: &[u8], kind: &[u8], help: &[u8]) -> Result<(), AllocError>
-    ensures { OnOk result (page.new.items ≡ page.old.items ++ family_text name.now kind.now help.now) }
-{
-    page.extend_from_slice(b"# HELP peer_front_")?;
-    page.extend_from_slice(name)?;
-    page.extend_from_slice(b" ")?;
-    page.extend_from_slice(help)?;
-    page.extend_from_slice(b"\n# TYPE peer_front_")?;
-    page.extend_from_slice(name)?;
-    page.extend_from_slice(b" ")?;
-    page.extend_from_slice(kind)?;
-    page.extend_from_slice(b"\n")?;
-    Ok(())
-}
-
-// Appends a number and the end of its line.
-fn put_number(page: &mut Vec<u8>, value: u64) -> Result<(), AllocError>
-    ensures { OnOk result (page.new.items ≡ page.old.items ++ number_text value) }
-{
-    page.extend_from_slice(Buffer::new().format(value).as_bytes())?;
-    page.extend_from_slice(b"\n")?;
-    Ok(())
-}
-
-// Appends a number behind its name, which stands between these texts.
-fn put_between(
-    page: &mut Vec<u8>,
-    before: &[u8],
-    name: &[u8],
-    behind: &[u8],
-    value: u64,
-) -> Result<(), AllocError>
-    ensures { OnOk result (page.new.items ≡ page.old.items ++ before.now ++ name.now ++ behind.now ++ number_text value) }
-{
-    page.extend_from_slice(before)?;
-    page.extend_from_slice(name)?;
-    page.extend_from_slice(behind)?;
-    put_number(page, value)
-}
-
-// Appends a number with its name.
-fn put_sample(page: &mut Vec<u8>, name: &[u8], value: u64) -> Result<(), AllocError>
-    ensures { OnOk result (page.new.items ≡ page.old.items ++ sample_text name.now value) }
-{
-    put_between(page, b"peer_front_", name, b" ", value)
-}
-
-// Appends a number that never falls.
-fn put_counter(page: &mut Vec<u8>, name: &[u8], value: u64, help: &[u8]) -> Result<(), AllocError>
-    ensures { OnOk result (page.new.items ≡ page.old.items ++ counter_text name.now value help.now) }
-{
-    put_family(page, name, b"counter", help)?;
-    put_sample(page, name, value)?;
-    Ok(())
-}
-
-// Appends a number that rises and falls.
-fn put_gauge(page: &mut Vec<u8>, name: &[u8], value: u64, help: &[u8]) -> Result<(), AllocError>
-    ensures { OnOk result (page.new.items ≡ page.old.items ++ gauge_text name.now value help.now) }
-{
-    put_family(page, name, b"gauge", help)?;
-    put_sample(page, name, value)?;
-    Ok(())
-}
 
 // Appends what loops have counted.
 fn put_loops(page: &mut Vec<u8>, counts: &LoopCounts) -> Result<(), AllocError>
@@ -185,7 +121,7 @@ fn put_process(page: &mut Vec<u8>, cache_bytes: u64, seconds: u64) -> Result<(),
         page,
         b"cache_bytes",
         cache_bytes,
-        b"Bytes of keys and values in all caches.",
+        b"Bytes in all caches: keys, values and what holds them.",
     )?;
     put_gauge(
         page,
@@ -196,15 +132,21 @@ fn put_process(page: &mut Vec<u8>, cache_bytes: u64, seconds: u64) -> Result<(),
     Ok(())
 }
 
-/// The page with these numbers, so many seconds behind the start.
-pub fn metrics_page(alloc: Global, counts: &Counts, seconds: u64) -> Result<Vec<u8>, AllocError>
-    ensures { IfOk result (λ page. page.items ≡ page_text counts.now seconds) }
+/// The page with these numbers, and those of the groups, so many seconds after the start.
+pub fn metrics_page(
+    alloc: Global,
+    counts: &Counts,
+    groups: &[GroupCounts<'_>],
+    seconds: u64,
+) -> Result<Vec<u8>, AllocError>
+    ensures { IfOk result (λ page. page.items ≡ page_text counts.now groups.now seconds) }
 {
     let mut page = Vec::new(alloc);
     put_loops(&mut page, &counts.loops)?;
     put_fillers(&mut page, &counts.fillers)?;
     put_connections(&mut page, counts.loops.connections, &counts.accepts)?;
     put_failures(&mut page, &counts.failures)?;
+    put_groups(&mut page, groups)?;
     put_process(&mut page, counts.cache_bytes, seconds)?;
     Ok(page)
 }

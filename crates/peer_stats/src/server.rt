@@ -171,8 +171,8 @@ impl<'a> Running<'a> {
 }
 
 impl StatsServer {
-    /// Serves until it is ended.
-    pub fn run<H: Network>(self, rt: &H, counters: &Counters, end: &StatsEnd) {
+    /// Serves what is counted of the groups of these names, which stand in the order of their numbers, until it is ended.
+    pub fn run<H: Network>(self, rt: &H, counters: &Counters, names: &[Vec<u8>], end: &StatsEnd) {
         let StatsServer {
             alloc,
             listener,
@@ -187,6 +187,7 @@ impl StatsServer {
             service: StatsService {
                 alloc,
                 counters,
+                names,
                 uptime: Duration::ZERO,
             },
             failed: false,

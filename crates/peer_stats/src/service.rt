@@ -14,15 +14,19 @@ use std::time::Duration;
 pub struct StatsService<'a> {
     pub alloc: Global,
     pub counters: &'a Counters,
+    /// The names of the groups, in the order of their numbers.
+    pub names: &'a [Vec<u8>],
     /// How long the server runs by now.
     pub uptime: Duration,
 }
 
 // Fills the response with the page.
 fn put_page(service: &StatsService<'_>, response: &mut Response) -> Result<(), AllocError> {
+    let groups = service.counters.read_groups(service.alloc, service.names)?;
     let page = metrics_page(
         service.alloc,
         &service.counters.read(),
+        groups.as_slice(),
         service.uptime.as_secs(),
     )?;
     response.add_header(

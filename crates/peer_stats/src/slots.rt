@@ -2,9 +2,10 @@
 //!
 //! The slot of a loop, or of a thread that fills, has one writer: the thread that it was dealt to. So a publish is a store of
 //! each number that changed. Failures of origins, which several threads count, are added in one step, and so are accepts. What
-//! a loop asks is told last, and read first: a reader never sees more asked than hit, led and joined together.
+//! a loop asks is told last, and read first: a reader never sees more asked than hit, led and joined together. Each loop
+//! publishes what it saw of the caches of groups, so what never falls there is raised to the largest that was seen.
 
-use crate::counts::{AcceptCounts, FailureCounts, FillerCounts, LoopCounts};
+use crate::counts::{AcceptCounts, CacheCounts, FailureCounts, FillerCounts, LoopCounts};
 use crate::failure::OriginFailure;
 use std::sync::atomic::AtomicU64;
 use std::sync::atomic::Ordering::SeqCst;
@@ -13,6 +14,13 @@ use std::sync::atomic::Ordering::SeqCst;
 fn publish(cell: &AtomicU64, count: u64) {
     if cell.load(SeqCst) != count {
         cell.store(count, SeqCst);
+    }
+}
+
+// Raises a number of several writers, which never falls.
+fn raise(cell: &AtomicU64, count: u64) {
+    if cell.load(SeqCst) < count {
+        cell.fetch_max(count, SeqCst);
     }
 }
 
@@ -98,6 +106,38 @@ impl AcceptSlot {
         AcceptCounts {
             accepted: self.accepted.load(SeqCst),
             failed: self.failed.load(SeqCst),
+        }
+    }
+}
+
+/// Where loops publish what the cache of a group has, and what it has counted.
+#[derive(Default, Drop)]
+pub struct CacheSlot {
+    entries: AtomicU64,
+    bytes: AtomicU64,
+    evicted_by_bytes: AtomicU64,
+    evicted_by_keys: AtomicU64,
+    too_large: AtomicU64,
+}
+
+impl CacheSlot {
+    /// The cache has counted so much by now.
+    pub fn publish(&self, counts: CacheCounts) {
+        publish(&self.entries, counts.entries);
+        publish(&self.bytes, counts.bytes);
+        raise(&self.evicted_by_bytes, counts.evicted_by_bytes);
+        raise(&self.evicted_by_keys, counts.evicted_by_keys);
+        raise(&self.too_large, counts.too_large);
+    }
+
+    /// What was published of the cache.
+    pub fn read(&self) -> CacheCounts {
+        CacheCounts {
+            entries: self.entries.load(SeqCst),
+            bytes: self.bytes.load(SeqCst),
+            evicted_by_bytes: self.evicted_by_bytes.load(SeqCst),
+            evicted_by_keys: self.evicted_by_keys.load(SeqCst),
+            too_large: self.too_large.load(SeqCst),
         }
     }
 }

@@ -1,6 +1,6 @@
 //! The source whose answers are the lines of a text.
 ghost use Rattle.std.specs.Prelude.{◌≡◌, ℕ, ◌+◌, ◌-◌, ◌^◌, ◌<◌, ◌≤◌, List, ◌∷◌, ◌++◌, length, Some, None, Ok, Err};
-ghost use Rattle.std.specs.Prelude.{refl, IfOk, IfErr, IfSome, IsErr, All};
+ghost use Rattle.std.specs.Prelude.{refl, IfOk, IfErr, IfSome, IsErr, All, option_map, slice_get};
 ghost use Rattle.peer_table.specs.Holds.{Holds};
 ghost use Rattle.peer_table.specs.Reads.{IsFirstBad, ReadsAs};
 ghost use Rattle.peer_view.specs.ReadWrite.{reading};
@@ -11,7 +11,7 @@ ghost use Rattle.peer_source.specs.Reports.{reported};
 
 use crate::fault::{TableFault, memory_fault};
 use crate::fields::next_of;
-use crate::index::{Index, add_line, find};
+use crate::index::{Index, add_line, find, name_at};
 use crate::intake::read_all;
 use peer_source::{GetFault, GetResult, GroupId, Source};
 use peer_view::{AllocSink, ByteView, PeerRead, SinkFault};
@@ -73,6 +73,15 @@ impl TableSource {
         let text = ByteView::from_vec(bytes).map_err(memory_fault)?;
         let index = index_of(alloc, &text)?;
         Ok(TableSource { text, index })
+    }
+}
+
+impl TableSource {
+    /// The name of the group with this number.
+    pub fn name(&self, number: usize) -> Option<&[u8]>
+        ensures { option_map (λ name. name.now) result ≡ slice_get (names_of (lines_of self.now)) number }
+    {
+        name_at(&self.index.names, number).map(ByteView::as_slice)
     }
 }
 

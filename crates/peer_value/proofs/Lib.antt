@@ -1,3 +1,4 @@
+mod DoneLemmas
 mod FetchingLemmas
 mod ShareLemmas
 mod WaitingLemmas

@@ -3,11 +3,8 @@ use Rattle.std.specs.Prelude.{◌≡◌, ℕ, Bool, false, List, [], ◌∷◌, 
 use Rattle.std.specs.Prelude.{Vec}
 use Rattle.std.specs.declared.alloc.Global.{Global}
 use Rattle.peer_origin.specs.Fetches.{Use, Fetches}
-use Rattle.peer_origin.specs.Targets.{target_of}
-use Rattle.peer_origin.specs.declared.endpoint.Endpoint.{Endpoint}
 use Rattle.http1.specs.declared.client.Client.{Client}
 use Rattle.peer_http.specs.Receivings.{MayAskAgain}
-use Rattle.peer_http.specs.Requests.{request_for}
 use Rattle.peer_http.specs.declared.reply.Reply.{Reply}
 use Rattle.peer_value.specs.declared.fetching.Silence.{Silence}
 
@@ -36,7 +33,3 @@ IsFreeBehind came c = (r : Reply) × MayAskAgain came c r
 -- behind the one use of a connection on which nothing came, there is one on which nothing was done yet
 abbrev pub GoesOnAnew : List ℕ → List Use → List Use → Type 0
 GoesOnAnew request us us' = (u : Use) × (us ≡ u ∷ []) × (u.came ≡ Some []) × (us' ≡ use_by request 0 [] false ∷ us)
-
--- the request for a key at an endpoint
-abbrev pub request_at : Endpoint → List ℕ → List ℕ
-request_at endpoint key = request_for endpoint.host.items (target_of endpoint.prefix.items key)

@@ -4,9 +4,9 @@ ghost use Rattle.peer_view.specs.Sinks.{MAX_VALUE};
 ghost use Rattle.std.proofs.Props.{props};
 ghost use Rattle.peer_source.specs.Answers.{Failed, Found, too_long_text};
 ghost use Rattle.peer_source.specs.Outcomes.{answer_of};
-ghost use Rattle.peer_origin.specs.Origins.{IsOriginAnswer};
+ghost use Rattle.peer_origin.specs.Endpoints.{request_at};
+ghost use Rattle.peer_origin.specs.Fetched.{IsFetchedAnswer};
 ghost use Rattle.peer_origin.specs.Texts.{text_of};
-ghost use Rattle.peer_value.specs.Fetchings.{request_at};
 ghost use Rattle.peer_value.specs.Values.{AnswersBy, IsValueOf};
 
 use crate::fetching::Fetching;
@@ -64,7 +64,6 @@ fn outcome_of(alloc: Global, got: Result<Vec<u8>, FetchFault>) -> Outcome
     requires { IfOk got (λ v. length v.items ≤ MAX_VALUE) }
     ensures found { IfOk got (λ v. AnswersBy (Found v.items) (answer_of result)) }
     ensures failed { IfErr got (λ why. AnswersBy (Failed (text_of why)) (answer_of result)) }
-    ensures allowed { IfSome (answer_of result) IsOriginAnswer }
 {
     match got {
         Ok(value) => found(value),
@@ -73,6 +72,13 @@ fn outcome_of(alloc: Global, got: Result<Vec<u8>, FetchFault>) -> Outcome
 }
 
 impl<'a, S: Source> Done<'a, S> {
+    /// The endpoint that it was fetched at.
+    pub fn endpoint(&self) -> &'a Endpoint
+        ensures { result ≡ self.now.endpoint }
+    {
+        self.endpoint
+    }
+
     /// A job for which nothing was fetched from this endpoint, since its fetch could not begin, or not begin anew.
     pub(crate) fn failed(endpoint: &'a Endpoint, job: TakenJob<S>, why: FetchFault) -> Done<'a, S>
         ensures kept { (result.endpoint ≡ endpoint.entry) × (result.job ≡ job) }
@@ -117,12 +123,13 @@ impl<'a, S: Source> Done<'a, S> {
         }
     }
 
-    /// The job, and what was fetched for it as the answer of a source over origins.
+    /// The job, and what was fetched for it as the answer of a source over origins: by the request for the job's own key at this
+    /// endpoint.
     pub fn settle(self, alloc: Global) -> (TakenJob<S>, Outcome)
         ensures job { result.0 ≡ self.entry.job }
         ensures found { IfOk self.entry.got (λ v. AnswersBy (Found v.items) (answer_of result.1)) }
         ensures failed { IfErr self.entry.got (λ why. AnswersBy (Failed (text_of why)) (answer_of result.1)) }
-        ensures allowed { IfSome (answer_of result.1) IsOriginAnswer }
+        ensures fetched { IfSome (answer_of result.1) (IsFetchedAnswer (request_at self.entry.endpoint.now self.entry.job.place.key)) }
     {
         let Done { job, got, .. } = self;
         (job, outcome_of(alloc, got))

@@ -1,5 +1,6 @@
 //! Which groups are fetched for, and where.
 ghost use Rattle.std.specs.Prelude.{◌≡◌, ◌↔◌, ◌+◌, ◌≤◌, IfNone, IfSome, IsTrue, Some, length, slice_get};
+ghost use Rattle.peer_origin.specs.Endpoints.{asked_at};
 ghost use Rattle.peer_value.specs.Endpoints.{HasEndpoint, IsOfGroup};
 
 use peer_origin::Endpoint;
@@ -30,6 +31,13 @@ impl<'a> Numbered<'a> {
         ensures { result ≡ self.now.number }
     {
         self.number
+    }
+
+    /// Whether it is at this endpoint: the same host, and the same before a key.
+    pub fn is_at(&self, endpoint: &Endpoint) -> bool
+        ensures { IsTrue result → asked_at self.now.endpoint.now ≡ asked_at endpoint.now }
+    {
+        self.endpoint.host == endpoint.host && self.endpoint.prefix == endpoint.prefix
     }
 }
 

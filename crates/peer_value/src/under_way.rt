@@ -4,7 +4,8 @@ ghost use Rattle.std.specs.Prelude.{Err, IfErr, IfOk, IfSome, IsErr, IsTrue};
 ghost use Rattle.peer_origin.specs.declared.failure.Failure.TheVariants as fail;
 ghost use Rattle.peer_origin.specs.declared.fault.FetchFault.TheVariants as fault;
 ghost use Rattle.peer_value.specs.Endpoints.{IsOfGroup};
-ghost use Rattle.peer_value.specs.Fetchings.{request_at, use_by};
+ghost use Rattle.peer_origin.specs.Endpoints.{request_at};
+ghost use Rattle.peer_value.specs.Fetchings.{use_by};
 ghost use Rattle.peer_value.specs.Values.{uses_of, IsFailureOf, IsFree, IsRefusedFor, IsSameTry, IsSecondTry, IsValueOf};
 
 use crate::done::Done;

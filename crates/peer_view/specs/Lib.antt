@@ -3,5 +3,7 @@ pub mod Moves
 pub mod Pages
 pub mod Pieces
 pub mod ReadWrite
+pub mod Short
 pub mod Sinks
 pub mod StdDevices
+pub mod Views

@@ -7,24 +7,46 @@ use std::hash::{Hash, Hasher};
 use std::marker::Model;
 
 mod copies;
+mod held;
 mod parts;
+mod short;
 
 pub use copies::TextFault;
+use held::Held;
 
-/// An immutable list of bytes, which lends its parts.
-#[derive(PartialEq, Eq, Drop)]
+/// An immutable list of bytes, which lends its parts. A few bytes stand in the view itself.
+#[derive(Drop)]
 pub struct ByteView {
-    bytes: Bytes<Global>,
+    held: Held,
 }
 
 impl Model for ByteView {
     ghost use Rattle.std.specs.Prelude.{List, ℕ};
+    ghost use Rattle.peer_view.specs.Views.{held_bytes};
 
     ghost Value = { List ℕ };
 
-    ghost view = { λ v. v.bytes };
+    ghost view = { λ v. held_bytes v.held };
+}
 
-    ghost inverse = { λ d. record { bytes = d } };
+impl PartialEq for ByteView {
+    ghost use Rattle.std.specs.Prelude.{nat_eq};
+    ghost use Rattle.std.specs.Cmp.{partial_equiv_from_equiv};
+    ghost use Rattle.std.specs.Cmp.Lexicographic.{pointwise, nat_list_eq_equiv};
+
+    ghost eq = { pointwise nat_eq };
+
+    ghost laws = { partial_equiv_from_equiv nat_list_eq_equiv };
+
+    fn eq(&self, other: &ByteView) -> bool {
+        self.as_slice() == other.as_slice()
+    }
+}
+
+impl Eq for ByteView {
+    ghost use Rattle.std.specs.Cmp.Lexicographic.{nat_list_eq_equiv};
+
+    ghost laws = { nat_list_eq_equiv };
 }
 
 impl Hash for ByteView {
@@ -47,51 +69,53 @@ impl ByteView {
     pub fn copy_of(alloc: Global, bytes: &[u8]) -> Result<ByteView, AllocError>
         ensures { IfOk result (λ v. v ≡ bytes.now) }
     {
-        let bytes = Bytes::copy_from_slice(alloc, bytes)?;
-        Ok(ByteView { bytes })
+        let held = Held::copy_of(alloc, bytes)?;
+        Ok(ByteView { held })
     }
 
     /// A view of a buffer that is shared already.
     pub fn from_shared(bytes: Bytes<Global>) -> ByteView
         ensures { result ≡ bytes }
     {
-        ByteView { bytes }
+        ByteView {
+            held: Held::Shared(bytes),
+        }
     }
 
     /// A view of these bytes, which it takes over.
     pub fn from_vec(bytes: Vec<u8>) -> Result<ByteView, AllocError>
         ensures { IfOk result (λ v. v ≡ bytes.items) }
     {
-        let bytes = Bytes::from_vec(bytes)?;
-        Ok(ByteView { bytes })
+        let held = Held::from_vec(bytes)?;
+        Ok(ByteView { held })
     }
 
     /// A second view of the same bytes.
     pub fn share(&self) -> Result<ByteView, AllocError>
         ensures { IfOk result (λ v. v ≡ self.now) }
     {
-        let bytes = self.bytes.clone()?;
-        Ok(ByteView { bytes })
+        let held = self.held.share()?;
+        Ok(ByteView { held })
     }
 
     /// The length in bytes.
     pub fn len(&self) -> usize
         ensures { result ≡ length self.now }
     {
-        self.bytes.len()
+        self.held.len()
     }
 
     /// Whether there is no byte.
     pub fn is_empty(&self) -> bool
         ensures { result ≡ (length self.now == 0) }
     {
-        self.bytes.is_empty()
+        self.held.len() == 0
     }
 
     /// All the bytes.
     pub fn as_slice(&self) -> &[u8]
         ensures { result.now ≡ self.now }
     {
-        self.bytes.as_slice()
+        self.held.as_slice()
     }
 }

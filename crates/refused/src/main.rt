@@ -115,6 +115,9 @@ enum One {
     Without(Without),
 }
 
+// A key of more bytes than a view holds itself.
+const LONG_KEY: &[u8] = b"a key of more letters than a view holds itself, as a path has them";
+
 const ONES: [(&str, One); 43] = [
     ("copy_of", One::CopyOf),
     ("share", One::Share),
@@ -128,9 +131,9 @@ const ONES: [(&str, One); 43] = [
     ("view_sink_bytes", One::ViewSink(Set::Bytes)),
     ("view_sink_str", One::ViewSink(Set::Text)),
     ("view_sink_view", One::ViewSink(Set::View)),
-    ("fill_found", One::Fill(ECHO, b"k", b"k")),
+    ("fill_found", One::Fill(ECHO, LONG_KEY, LONG_KEY)),
     ("fill_failed", One::Fill(SQUARE, b"x", b"not a number")),
-    ("fill_letters", One::Fill(FILL, b"3", b"xxx")),
+    ("fill_letters", One::Fill(FILL, b"60", &[b'x'; 60])),
     ("fill_share", One::FillShare),
     ("cache_new", One::CacheNew),
     ("cache_get", One::CacheGet),

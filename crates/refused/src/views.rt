@@ -5,11 +5,12 @@ use crate::window;
 use peer_view::{AllocSink, ByteView, Sink, SinkFault, TextFault, ViewSink};
 use std::alloc::{AllocError, Global};
 
-const OLD: &[u8] = b"what was there";
+// Texts of more bytes than a view holds itself.
+const OLD: &[u8] = b"what was there, in more letters than a view holds itself, so that it asks";
 
-const NEW: &[u8] = b"what is set";
+const NEW: &[u8] = b"what is set, in more letters than a view holds itself, so that it asks";
 
-const NEW_TEXT: &str = "what is set";
+const NEW_TEXT: &str = "what is set, in more letters than a view holds itself, so that it asks";
 
 // Whether a view was given that has these bytes.
 fn given(view: &Result<ByteView, AllocError>, bytes: &[u8]) -> Seen {
@@ -39,13 +40,13 @@ pub fn share(alloc: Global) -> Option<Seen> {
 /// `ByteView::slice`.
 pub fn slice(alloc: Global) -> Option<Seen> {
     let view = ByteView::copy_of(alloc, OLD).ok()?;
-    if view.len() < 8 {
+    if view.len() < 60 {
         return None;
     }
     window::begin(alloc);
-    let part = view.slice(5, 8);
+    let part = view.slice(5, 60);
     window::end(alloc);
-    Some(given(&part, b"was").only_if(view.eq_bytes(OLD), "the view changed"))
+    Some(given(&part, &OLD[5..60]).only_if(view.eq_bytes(OLD), "the view changed"))
 }
 
 /// `ByteView::slice_from`.
@@ -57,7 +58,7 @@ pub fn slice_from(alloc: Global) -> Option<Seen> {
     window::begin(alloc);
     let part = view.slice_from(9);
     window::end(alloc);
-    Some(given(&part, b"there").only_if(view.eq_bytes(OLD), "the view changed"))
+    Some(given(&part, &OLD[9..]).only_if(view.eq_bytes(OLD), "the view changed"))
 }
 
 // Whether a list was given that has these bytes.

@@ -1,4 +1,5 @@
 //! The page of counters, and its server.
 
+mod groups;
 mod pages;
 mod served;

@@ -16,9 +16,9 @@ mod workers;
 
 pub use asks::{ask_for, ask_in};
 pub use hooked::{Hook, Hooked, Refusing};
-pub use pools::{close_pool, open_pool};
+pub use pools::{close_pool, open_pool, open_pool_with};
 pub use reports::all_called;
 pub use seats::push_seat;
-pub use seeds::seed;
+pub use seeds::{seed, seed_of};
 pub use steps::Step;
 pub use workers::{beside_worker, do_jobs, work_all};

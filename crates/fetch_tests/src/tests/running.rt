@@ -238,7 +238,9 @@ fn see_at<L: Ledger + Send + Sync, H: Host>(
     let settings = beside.setting.settings;
     let counters = Counters::new();
     let source = OriginSource::new(origins);
-    let endpoints = source.endpoints(alloc).ok()?;
+    let Ok(endpoints) = source.endpoints(alloc) else {
+        return None;
+    };
     let (parts, wakers) = parts_of(
         rt,
         alloc,

@@ -5,7 +5,7 @@ use super::lookup::LOOPBACK;
 use super::origin::{Told, serve};
 use super::running::{Prepared, patient, plan_of, prepare};
 use peer_fetch::FetchPlan;
-use peer_fill::Report;
+use peer_fill::{CachePlan, Caching, Report};
 use peer_loop::{Fillers, Settings, Stop, serve_fetching};
 use peer_origin::OriginSource;
 use peer_runtime::{Host, Limits, Network};
@@ -142,7 +142,9 @@ fn serve_prepared<
     let address = server.local_addr().ok()?;
     let Prepared { listener, origins } = prepare(rt, rt.alloc(), &[(b"echo", LOOPBACK)])?;
     let source = OriginSource::new(origins);
-    let endpoints = source.endpoints(rt.alloc()).ok()?;
+    let Ok(endpoints) = source.endpoints(rt.alloc()) else {
+        return None;
+    };
     let fetched = Counters::new();
     let plan = plan_of(endpoints.as_slice(), patient(), fetched.failures());
     let settings = Settings {
@@ -151,8 +153,10 @@ fn serve_prepared<
         connections: 100,
         memory: 1_048_576,
         accepts: None,
-        cache_bytes: 0,
-        seed,
+        caching: Caching {
+            plan: CachePlan::Single(0),
+            seed,
+        },
         limits: Limits {
             tick: Duration::from_secs(60),
             ..Limits::usual()

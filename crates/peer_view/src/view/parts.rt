@@ -31,17 +31,17 @@ impl ByteView {
         self.as_slice().split_at(index)
     }
 
-    /// A view of the bytes from one index to before another, which shares the buffer.
+    /// A view of the bytes from one index to before another, which shares the buffer if they are many.
     pub fn slice(&self, from: usize, to: usize) -> Result<ByteView, AllocError>
         requires order { from ≤ to }
         requires within { to ≤ length self.now }
         ensures { IfOk result (λ v. v ≡ slice_range self.now from to) }
     {
-        let bytes = self.bytes.slice(from..to)?;
-        Ok(ByteView { bytes })
+        let held = self.held.slice(from, to)?;
+        Ok(ByteView { held })
     }
 
-    /// A view of the bytes from an index on, which shares the buffer.
+    /// A view of the bytes from an index on, which shares the buffer if they are many.
     pub fn slice_from(&self, from: usize) -> Result<ByteView, AllocError>
         requires { from ≤ length self.now }
         ensures { IfOk result (λ v. v ≡ drop from self.now) }

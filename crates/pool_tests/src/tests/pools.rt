@@ -10,5 +10,6 @@ mod halves;
 mod numbering;
 mod opening;
 mod refills;
+mod sharded;
 mod taken;
 mod threads;

@@ -3,7 +3,7 @@
 use super::actions::is_seen;
 use super::calls::{Calls, Waiting};
 use super::plans::{Case, Ended, Kind, Plan};
-use peer_fill::{OpenFault, Report};
+use peer_fill::{CachePlan, Caching, OpenFault, Report};
 use peer_loop::{Stop, serve_loops};
 use peer_socket::{peer_server, serve_within};
 use peer_stats::Counters;
@@ -55,8 +55,10 @@ fn loops_of<'a>(outside: &'a Outside, plan: &Plan, seed: RandomState) -> peer_lo
         connections: plan.connections,
         memory: 1_048_576,
         accepts: plan.accepts,
-        cache_bytes: plan.cache_bytes,
-        seed,
+        caching: Caching {
+            plan: CachePlan::Single(plan.cache_bytes),
+            seed,
+        },
         limits: plan.limits,
         counters: &outside.counters,
         stop: &outside.stop,

@@ -6,6 +6,7 @@ use peer_view::ByteView;
 use std::alloc::{AllocError, Global};
 use std::hash::RandomState;
 use std::io;
+use std::num::NonZeroUsize;
 use std::random::RandomSource;
 
 // Gives zeros, so that each run has the same seed.
@@ -21,6 +22,18 @@ impl RandomSource for Zeros {
 // A cache without an entry.
 fn cache_of(alloc: Global, group: GroupId, limit: u64) -> Option<MainCache<DemoSource>> {
     MainCache::new(alloc, group, limit, RandomState::new(&Zeros).ok()?).ok()
+}
+
+// A cache of `echo` without an entry, of these bounds.
+fn bounded_cache_of(
+    alloc: Global,
+    limit: u64,
+    most: usize,
+    each: u64,
+) -> Option<MainCache<DemoSource>> {
+    let most = NonZeroUsize::new(most)?;
+    let seed = RandomState::new(&Zeros).ok()?;
+    MainCache::bounded(alloc, ECHO, limit, most, each, seed).ok()
 }
 
 // Whether a fill was added. What leaves the cache is let go.
@@ -96,9 +109,22 @@ fn goes(alloc: Global, cache: &mut MainCache<DemoSource>, step: Step) -> bool {
 
 // Whether all steps of a new cache went so.
 fn all_go(alloc: Global, group: GroupId, limit: u64, steps: &[Step]) -> bool {
-    let Some(mut cache) = cache_of(alloc, group, limit) else {
-        return false;
-    };
+    match cache_of(alloc, group, limit) {
+        Some(cache) => all_go_in(alloc, cache, steps),
+        None => false,
+    }
+}
+
+// Whether all steps of a new cache of `echo` went so, which has these bounds.
+fn all_go_within(alloc: Global, limit: u64, most: usize, each: u64, steps: &[Step]) -> bool {
+    match bounded_cache_of(alloc, limit, most, each) {
+        Some(cache) => all_go_in(alloc, cache, steps),
+        None => false,
+    }
+}
+
+// Whether all steps of this cache went so.
+fn all_go_in(alloc: Global, mut cache: MainCache<DemoSource>, steps: &[Step]) -> bool {
     let mut all = true;
     for step in steps {
         all &= goes(alloc, &mut cache, *step);
@@ -138,6 +164,25 @@ fn the_last_used_stay_within_the_limit(rt: HostRuntime) {
         Step::Lacks(b"abc"),
     ];
     assert!(rt; all_go(alloc, ECHO, 4, &steps));
+}
+
+#[test]
+fn a_bounded_cache_spares_what_it_has(rt: HostRuntime) {
+    let alloc = rt.alloc();
+    // Each entry counts 6 bytes more, and one over the limit changes nothing.
+    let steps = [
+        Step::Letters(b"abc"),
+        Step::Has(2, 16),
+        Step::Lacks(b"a"),
+        Step::Fill(ECHO, b"abcdef"),
+        Step::Has(2, 16),
+        Step::Lacks(b"abcdef"),
+        Step::Finds(b"b", b"b"),
+    ];
+    assert!(rt; all_go_within(alloc, 16, 100, 6, &steps));
+    // There are no more entries than there may be.
+    let steps = [Step::Letters(b"abc"), Step::Has(2, 4), Step::Lacks(b"a")];
+    assert!(rt; all_go_within(alloc, 100, 2, 0, &steps));
 }
 
 #[test]

@@ -62,7 +62,7 @@ const ROWS: [&str; 21] = [
 
 #[test]
 fn the_page_has_a_row_for_each_number(rt: HostRuntime) -> Result<(), Fail> {
-    let page = metrics_page(rt.alloc(), &COUNTS, 7)?;
+    let page = metrics_page(rt.alloc(), &COUNTS, &[], 7)?;
     let text = String::from_utf8(page)?;
     let mut right = true;
     for row in ROWS {

@@ -117,7 +117,7 @@ where
     let (server, end) = open_stats(rt, rt.alloc(), listener, seed)?;
     let (counters, end) = (&Counters::new(), &end);
     thread::scope(thread::scope_env(), rt, move |scope| {
-        let run = move || server.run(rt, counters, end);
+        let run = move || server.run(rt, counters, &[], end);
         let Ok(running) = scope.spawn(run) else {
             return None;
         };

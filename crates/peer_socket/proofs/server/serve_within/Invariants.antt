@@ -1,4 +1,4 @@
 use Rattle.peer_socket.proofs.server.serve_within.Given as goal
 
-abbrev pub ghosts-over_pool : goal.ghosts-over_pool
-ghosts-over_pool g a = record { name = a.blank.name; parts = a.blank.parts }
+abbrev pub ghosts-serve_known : goal.ghosts-serve_known
+ghosts-serve_known g a = record { may = g.S.Source.answers a.source }

@@ -6,8 +6,8 @@ abbrev pub invariant-loop-others : goal.invariant-loop-others
 invariant-loop-others l = record {
   cap : l.entries.cap ≡ l.fn.entries.cap;
   first : take 1 l.entries.entries ≡ take 1 l.fn.entries.entries;
-  others : l.others ≡ bytes_in (drop 1 l.entries.entries);
-  fits : fitting l.room (drop 1 l.entries.entries) ≡ fitting l.room (drop 1 l.fn.entries.entries);
+  others : l.others ≡ bytes_in l.each (drop 1 l.entries.entries);
+  fits : fitting l.each l.room (drop 1 l.entries.entries) ≡ fitting l.each l.room (drop 1 l.fn.entries.entries);
 }
 
 abbrev pub decreases-loop-others : goal.decreases-loop-others

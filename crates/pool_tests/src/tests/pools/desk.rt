@@ -3,7 +3,8 @@ ghost use Rattle.std.specs.Prelude.{◌≡◌, ◌<◌, All, IfSome};
 ghost use Rattle.peer_fill.specs.Pools.{source_of, IsConnSeatOf, IsFillSeatOf};
 
 use peer_fill::{
-    CloseFault, ConnSeat, FillSeat, Gate, NoGate, Pool, Report, Seats, TakenJob, pop_seat,
+    CacheCounts, CachePlan, Caching, CloseFault, ConnSeat, FillSeat, Gate, NoGate, Pool, Report,
+    Seats, TakenJob, pop_seat,
 };
 use peer_flight::Claim;
 use peer_source::{GroupId, Source};
@@ -12,7 +13,7 @@ use std::marker::Brand;
 use std::mem;
 use std::sync::Wait;
 use std::sync::ledger::{Blank, Ledger};
-use test_support::{ask_in, close_pool, open_pool};
+use test_support::{ask_in, close_pool, open_pool_with, seed};
 
 /// A pool and its seats.
 #[derive(Drop)]
@@ -101,7 +102,20 @@ impl<S: Source, L: Ledger> Desk<S, L> {
         requires name { blank.name ≡ L.name }
         requires parts { (blank.parts ≡ L.parts) × (blank.parts ≡ 16) }
     {
-        let opened = open_pool::<S, L>(alloc, source, cache_bytes, 1, 2, blank);
+        let caching = Caching {
+            plan: CachePlan::Single(cache_bytes),
+            seed: seed()?,
+        };
+        Desk::open_with(alloc, source, caching, blank)
+    }
+
+    /// The same with these caches.
+    pub fn open_with(alloc: Global, source: S, caching: Caching, blank: Blank) -> Option<Desk<S, L>>
+        requires groups { 1 < S.count source }
+        requires name { blank.name ≡ L.name }
+        requires parts { (blank.parts ≡ L.parts) × (blank.parts ≡ 16) }
+    {
+        let opened = open_pool_with::<S, L>(alloc, source, caching, 1, 2, blank);
         let Some((pool, mut lists)) = opened else {
             return None;
         };
@@ -133,6 +147,11 @@ impl<S: Source, L: Ledger> Desk<S, L> {
         requires { group.number < 2 }
     {
         ask_in(rt, self.alloc, &self.pool, &mut self.seats.conn, group, key)
+    }
+
+    /// What the caches of a group keep and have lost.
+    pub fn cache_counts<R: Wait>(&self, rt: &R, group: GroupId) -> CacheCounts {
+        self.pool.cache_counts(rt, group)
     }
 
     /// The worker waits for no job from now on.

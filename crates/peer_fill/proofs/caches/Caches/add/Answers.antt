@@ -3,7 +3,7 @@ use Rattle.std.proofs.Math.ListN.{set}
 use Rattle.std.proofs.lemmas.Option.{slice_get_read}
 use Rattle.peer_source.specs.Caches.{added}
 use Rattle.peer_fill.specs.Caches.{with_cache}
-use Rattle.peer_fill.proofs.Caching.{err_same, ok_cached}
+use Rattle.peer_fill.proofs.CacheLemmas.{err_same, ok_cached}
 use Rattle.peer_fill.proofs.caches.Caches.add.Goals as goal
 
 pub returns-in_default-clause-nothing : goal.returns-in_default-clause-nothing

@@ -1,0 +1,105 @@
+#!/usr/bin/env python3
+"""By how much the built peer_front grows while its cache fills up, against what `--cache` says.
+
+    ./build
+    apt-get install gcc wrk
+    python3 bench/memory.py [--caches 64,256,1024] [--values 20,100,1000,10000] [--seconds 2] [PROGRAM]
+
+For each cache, in MiB, and each length of values a server of its own is asked for keys that are each asked for once, until what its
+cache holds grows no more. What it grew by is its resident memory then, less what it was after a load of one key, which gives each
+connection its buffers. A cell has that over the flag, and how many entries the cache has, if the page tells it.
+"""
+import argparse
+import os
+import re
+import subprocess
+import sys
+import time
+import urllib.request
+
+from net import HERE, OUT, built, free_port, program, started
+
+# A cache is full once it grows by less than this part in one run of the load.
+FULL = 0.002
+
+
+def resident(process):
+    """The resident memory of a process in bytes."""
+    with open(f"/proc/{process.pid}/status", encoding="ascii") as lines:
+        return next(int(line.split()[1]) for line in lines if line.startswith("VmRSS")) * 1024
+
+
+class Filled:
+    """A server with its service and its page."""
+
+    def __init__(self, path, cache, size):
+        service, page = f"127.0.0.1:{free_port()}", f"127.0.0.1:{free_port()}"
+        self.service = subprocess.Popen([os.path.join(OUT, "origin"), service, "0", str(size)])
+        words = ["--cache", f"{cache}MiB", "--stats", page, f"values=http://{service}/"]
+        self.page = f"http://{page}/metrics"
+        self.address, self.process = started([path, "--listen", "{addr}", *words])
+
+    def told(self, name):
+        """A number of the page, or none."""
+        with urllib.request.urlopen(self.page, timeout=10) as page:
+            found = re.search(f"^peer_front_{name} (\\d+)$", page.read().decode(), re.M)
+        return int(found[1]) if found else None
+
+    def load(self, seconds, *words):
+        command = ["wrk", "-t2", "-c64", f"-d{seconds}s", *words]
+        told = subprocess.run(command, capture_output=True, text=True, check=True).stdout
+        if "Non-2xx" in told or not re.search(r"[1-9]\d* requests in", told):
+            sys.exit("memory.py: the server answered another status, or nothing")
+
+    def fill(self, seconds):
+        """Asks for new keys until the cache grows no more."""
+        script, before = os.path.join(HERE, "net", "unique.lua"), 0
+        for turn in range(10_000):
+            self.load(seconds, "-s", script, f"http://{self.address}/", "--", str(turn))
+            time.sleep(1.5)  # the page tells the bytes once a second
+            held = self.told("cache_bytes")
+            if held <= before * (1 + FULL):
+                return
+            before = held
+
+    def end(self):
+        for process in (self.process, self.service):
+            process.kill()
+            process.wait()
+
+
+def grown(path, cache, size, seconds):
+    """By how much a server grew, over its flag, and the entries of its cache."""
+    server = Filled(path, cache, size)
+    try:
+        server.load(2, f"http://{server.address}/_groupcache/values/one")
+        before = resident(server.process)
+        server.fill(seconds)
+        entries = server.told('group_cache_entries{group="values"}')
+        return (resident(server.process) - before) / (cache << 20), entries
+    finally:
+        server.end()
+
+
+def shown(ratio, entries):
+    return f"{ratio:.2f}" + (f" ({entries:,} entries)" if entries is not None else "")
+
+
+def main():
+    words = argparse.ArgumentParser(description=__doc__.split("\n", 1)[0])
+    words.add_argument("--caches", default="64,256,1024")
+    words.add_argument("--values", default="20,100,1000,10000")
+    words.add_argument("--seconds", type=int, default=2)
+    words.add_argument("program", nargs="?", default=os.path.join(HERE, "..", "crates", "peer_front", "out", "peer_front"))
+    given = words.parse_args()
+    os.makedirs(OUT, exist_ok=True)
+    built("origin", ["gcc", "-O2", "-o", "{out}/origin", "origin.c"], ".")
+    path, sizes = program(given.program), [int(size) for size in given.values.split(",")]
+    print("| --cache | " + " | ".join(f"values of {size:,} bytes" for size in sizes) + " |")
+    print("|---" * (len(sizes) + 1) + "|")
+    for cache in map(int, given.caches.split(",")):
+        cells = [shown(*grown(path, cache, size, given.seconds)) for size in sizes]
+        print("| " + " | ".join([f"{cache} MiB", *cells]) + " |", flush=True)
+
+
+main()
