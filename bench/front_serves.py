@@ -211,9 +211,15 @@ def each_failure_is_of_its_kind():
         paths = [f"g{number}/{key}" for number in range(len(KINDS)) for key in range(number + 1)]
         list(threads.map(server.ask, paths))
         counted = server.says(**{f'origin_failures_total{{kind="{kind}"}}': number + 1 for number, (_, kind) in enumerate(KINDS)})
-        time.sleep(3)  # the program looks once a second what there was more of: each is told, and none again
-        told = {what: sum(map(int, re.findall(f"peer_front: {what}: (\\d+) more", server.said()))) for what in TROUBLES}
-        return counted and told == TROUBLES
+
+        def are_told():
+            said = server.said()
+            return all(sum(map(int, re.findall(f"peer_front: {what}: (\\d+) more", said))) == more for what, more in TROUBLES.items())
+
+        # The program looks once a second what there was more of: each is told, and none again.
+        told = comes_to(are_told)
+        time.sleep(2)
+        return counted and told and are_told()
 
 
 def a_status_is_told_where_its_rest_is_late():
@@ -303,8 +309,8 @@ def a_value_is_late_by_the_flag():
         return b"origin timed out" in server.ask("g/k")
 
 
-# A value of 100,000 bytes, its key of 6, and what an entry takes beside them.
-ENTRY = 100206
+# A value of 100,000 bytes, its key of 6, and what an entry and a block take beside them.
+ENTRY = 100222
 
 
 def hits_of(*words):
@@ -329,9 +335,9 @@ def leave_at_once(stream):
     stream.close()
 
 
-def asked_at_once(*words, leaves=False):
+def asked_at_once(wait, *words, leaves=False):
     """How many of two values of a service are asked for at once for a client, beside another one that waits for a first value, while
-    two more of 1 MiB each are there for it; or after that one has left."""
+    two more of 1 MiB each are there for it; or after that one has left. So many seconds later the first one's bytes are counted."""
     asked, may_answer = [], threading.Event()
 
     def serve(stream):
@@ -347,23 +353,28 @@ def asked_at_once(*words, leaves=False):
                 stream.recv(10000)
         other.sendall(get("g/first", "fill/1048576", "fill/1048575"))
         server.calls(9)
-        time.sleep(2.5)  # what clients hold is counted once a second
+        time.sleep(wait)  # what clients hold is counted once a second
         if leaves:
             leave_at_once(other)
             server.says(connections=1)
         client.sendall(get("g/one", "g/two"))
         server.calls(10)
-        time.sleep(0.5)
+        time.sleep(wait / 5)
         may_answer.set()
         return len({b"/one", b"/two"} & set(asked))
 
 
+def asks_at_once_for(number, *words, leaves=False):
+    """Whether so many are asked for. A busy machine counts later, so it is asked again with more time."""
+    return any(asked_at_once(wait, *words, leaves=leaves) == number for wait in (2.5, 5, 10))
+
+
 def above_the_memory_one_value_is_asked_for():
-    return [asked_at_once("--memory", "64KiB"), asked_at_once()] == [1, 2]
+    return asks_at_once_for(1, "--memory", "64KiB") and asks_at_once_for(2)
 
 
 def who_leaves_holds_nothing():
-    return asked_at_once("--memory", "64KiB", leaves=True) == 2
+    return asks_at_once_for(2, "--memory", "64KiB", leaves=True)
 
 
 run_rows(

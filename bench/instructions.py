@@ -11,7 +11,7 @@ Serial: so many requests on standard input, one thread, no cache. Over a connect
 has 16 requests in flight. A loop: peer_front with one loop and the same client; its counters are published in each turn. An exchange: a connection as a state over memory, as the loops of peer_front have one for each client,
 in one thread that fills the jobs too; a thousand bytes come in each turn. Each row runs 1,000 requests and 9,000; what the 9,000
 took more, over 8,000, is the number for one. Over a connection the threads wait for one another, so the median of three runs is
-given with the least and the largest. --only serial, connection, loop or exchange prints those rows alone. With --parts it prints in
+given with the least and the largest. A loop's last row is of 99,000 keys that are kept. --only serial, connection, loop or exchange prints those rows alone. With --parts it prints in
 place of that what share of a run's instructions which part of the program takes, by the names of functions; what a compiler wrote
 into another function counts as that one's.
 """
@@ -51,12 +51,20 @@ CONNECTED = [
     ("a hit: echo/k, the head of Go's client", same("echo/k", GO)),
     ("a key asked for once: echo", lambda i: request(f"echo/{i:09}")),
 ]
+# So many keys are each asked for once, and then in no order.
+KEYS = 99_000
+SCATTERED = "a hit of 99,000 keys in no order: echo, the head of Go's client"
 EXCHANGE = [
     ("a hit: echo/k, 45 bytes", same("echo/k")),
     ("a hit: echo/k, the head of Go's client", same("echo/k", GO)),
     ("a key asked for once: echo", lambda i: request(f"echo/{i:09}")),
     ("a group that is not there: 404", same("none/k")),
 ]
+
+
+def scattered(i):
+    """Each key once, and then one after the other that have nothing to do with one another."""
+    return request(f"echo/{i if i < KEYS else i * 7919 % KEYS:09}", GO)
 
 
 def counted(words, program=None, **how):
@@ -117,18 +125,24 @@ def connected(made, number):
 
 
 def ask_all(server, port, made, number):
-    """Asks a server that says that it listens, 16 requests at a time."""
+    """Asks a server that says that it listens, 9,000 requests over each connection, since the 10,000th reply closes it."""
     server.stdout.readline()
+    for first in range(0, number, MANY):
+        ask_some(port, made, range(first, min(first + MANY, number)))
+
+
+def ask_some(port, made, numbers):
+    """Asks over one connection, 16 requests at a time."""
     with socket.create_connection(("127.0.0.1", port)) as client, client.makefile("rb") as text:
         client.setsockopt(socket.IPPROTO_TCP, socket.TCP_NODELAY, 1)
-        for i in range(0, number, 16):
-            batch = range(i, min(i + 16, number))
+        for i in range(0, len(numbers), 16):
+            batch = numbers[i : i + 16]
             client.sendall(b"".join(made(j) for j in batch))
             replies(text, len(batch))
 
 
-def each(run, made):
-    return (run(made, MANY) - run(made, FEW)) / (MANY - FEW)
+def each(run, made, few=FEW, many=MANY):
+    return (run(made, many) - run(made, few)) / (many - few)
 
 
 def shares(run, made):
@@ -165,6 +179,8 @@ def print_counts():
     for name, made in CONNECTED if options.only in (None, "loop") else []:
         counts = [each(looped, made) for _ in range(3)]
         print(f"| a loop, {name} | {statistics.median(counts):,.0f} ({min(counts):,.0f} to {max(counts):,.0f}) |")
+    if options.only in (None, "loop"):
+        print(f"| a loop, {SCATTERED} | {each(looped, scattered, KEYS + MANY, 2 * KEYS):,.0f} |")
     for name, made in EXCHANGE if options.only in (None, "exchange") else []:
         print(f"| an exchange, {name} | {each(exchange, made):,.0f} |")
 

@@ -3,13 +3,15 @@
 
     ./build
     apt-get install gcc wrk
-    python3 bench/memory.py [--caches 64,256,1024] [--values 20,100,1000,10000] [--seconds 2] [PROGRAM]
+    python3 bench/memory.py [--caches 64,256,1024] [--values 20,100,1000,10000] [--seconds 2] [--beside] [PROGRAM]
 
 For each cache, in MiB, and each length of values a server of its own is asked for keys that are each asked for once, until what its
 cache holds grows no more. What it grew by is its resident memory then, less what it was after a load of one key, which gives each
-connection its buffers. A cell has that over the flag, and how many entries the cache has, if the page tells it.
+connection its buffers. A cell has that over the flag, and how many entries the cache has, if the page tells it. With `--beside` one
+client asks for one key that is kept meanwhile, and a cell has the time of its slowest reply.
 """
 import argparse
+import concurrent.futures
 import os
 import re
 import subprocess
@@ -29,6 +31,12 @@ def resident(process):
         return next(int(line.split()[1]) for line in lines if line.startswith("VmRSS")) * 1024
 
 
+def slowest(told):
+    """The milliseconds of the slowest reply, as wrk tells them."""
+    number, unit = re.search(r"Latency\s+\S+\s+\S+\s+([\d.]+)(us|ms|s)", told).groups()
+    return float(number) * {"us": 0.001, "ms": 1, "s": 1000}[unit]
+
+
 class Filled:
     """A server with its service and its page."""
 
@@ -45,22 +53,28 @@ class Filled:
             found = re.search(f"^peer_front_{name} (\\d+)$", page.read().decode(), re.M)
         return int(found[1]) if found else None
 
-    def load(self, seconds, *words):
-        command = ["wrk", "-t2", "-c64", f"-d{seconds}s", *words]
-        told = subprocess.run(command, capture_output=True, text=True, check=True).stdout
+        self.one = f"http://{self.address}/_groupcache/values/one"
+
+    def load(self, *words):
+        told = subprocess.run(["wrk", *words], capture_output=True, text=True, check=True).stdout
         if "Non-2xx" in told or not re.search(r"[1-9]\d* requests in", told):
             sys.exit("memory.py: the server answered another status, or nothing")
+        return told
 
-    def fill(self, seconds):
-        """Asks for new keys until the cache grows no more."""
-        script, before = os.path.join(HERE, "net", "unique.lua"), 0
+    def fill(self, seconds, has_client):
+        """Asks for new keys until the cache grows no more. The slowest reply of a client beside that, if there is one."""
+        script, before, longest = os.path.join(HERE, "net", "unique.lua"), 0, 0
         for turn in range(10_000):
-            self.load(seconds, "-s", script, f"http://{self.address}/", "--", str(turn))
+            with concurrent.futures.ThreadPoolExecutor(1) as pool:
+                client = pool.submit(self.load, "-t1", "-c1", f"-d{seconds}s", self.one) if has_client else None
+                self.load("-t2", "-c64", f"-d{seconds}s", "-s", script, f"http://{self.address}/", "--", str(turn))
+            longest = max(longest, slowest(client.result())) if client else None
             time.sleep(1.5)  # the page tells the bytes once a second
             held = self.told("cache_bytes")
             if held <= before * (1 + FULL):
-                return
+                break
             before = held
+        return longest
 
     def end(self):
         for process in (self.process, self.service):
@@ -68,21 +82,22 @@ class Filled:
             process.wait()
 
 
-def grown(path, cache, size, seconds):
-    """By how much a server grew, over its flag, and the entries of its cache."""
+def grown(path, cache, size, given):
+    """By how much a server grew, over its flag, the entries of its cache, and the slowest reply beside that."""
     server = Filled(path, cache, size)
     try:
-        server.load(2, f"http://{server.address}/_groupcache/values/one")
+        server.load("-t2", "-c64", "-d2s", server.one)
         before = resident(server.process)
-        server.fill(seconds)
+        longest = server.fill(given.seconds, given.beside)
         entries = server.told('group_cache_entries{group="values"}')
-        return (resident(server.process) - before) / (cache << 20), entries
+        return (resident(server.process) - before) / (cache << 20), entries, longest
     finally:
         server.end()
 
 
-def shown(ratio, entries):
-    return f"{ratio:.2f}" + (f" ({entries:,} entries)" if entries is not None else "")
+def shown(ratio, entries, longest):
+    more = [f"{entries:,} entries"] * (entries is not None) + [f"{longest:.1f} ms"] * (longest is not None)
+    return f"{ratio:.2f}" + (f" ({', '.join(more)})" if more else "")
 
 
 def main():
@@ -90,6 +105,7 @@ def main():
     words.add_argument("--caches", default="64,256,1024")
     words.add_argument("--values", default="20,100,1000,10000")
     words.add_argument("--seconds", type=int, default=2)
+    words.add_argument("--beside", action="store_true")
     words.add_argument("program", nargs="?", default=os.path.join(HERE, "..", "crates", "peer_front", "out", "peer_front"))
     given = words.parse_args()
     os.makedirs(OUT, exist_ok=True)
@@ -98,7 +114,7 @@ def main():
     print("| --cache | " + " | ".join(f"values of {size:,} bytes" for size in sizes) + " |")
     print("|---" * (len(sizes) + 1) + "|")
     for cache in map(int, given.caches.split(",")):
-        cells = [shown(*grown(path, cache, size, given.seconds)) for size in sizes]
+        cells = [shown(*grown(path, cache, size, given)) for size in sizes]
         print("| " + " | ".join([f"{cache} MiB", *cells]) + " |", flush=True)
 
 

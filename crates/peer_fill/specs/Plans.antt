@@ -16,12 +16,12 @@ abbrev pub keys_of : Option ℕ → ℕ
 keys_of None = 18446744073709551615
 keys_of (Some keys) = keys
 
--- so many shards of 16 MiB and 1,024 keys each at least share the bytes and the keys; 200 bytes are counted for an entry
+-- so many shards of 16 MiB and 1,024 keys each at least share the bytes and the keys; 144 bytes are counted for an entry
 pub record ArePartsOf (bytes keys shards : ℕ) (bounds : Bounds) : Type 0 where
   pub count : IsLargestPower (min (bytes / 16777216) (keys / 1024)) shards
   pub limit : bounds.limit ≡ bytes / shards
   pub most : non_zero_usize_get bounds.most ≡ max 1 (keys / shards)
-  pub each : bounds.each ≡ 200
+  pub each : bounds.each ≡ 144
 
 -- a plan of shards that share the bytes and the keys
 abbrev pub IsPlanFor : ℕ → Option ℕ → CachePlan → Type 0

@@ -10,8 +10,9 @@ const SHARD_BYTES: u64 = 16 << 20;
 
 const SHARD_KEYS: u64 = 1024;
 
-/// The bytes that an entry counts beside those of its key and its value, for what it takes beside them (`bench/memory.py`).
-pub const ENTRY_BYTES: u64 = 200;
+/// The bytes that an entry counts beside those of its key and its value, for what it takes beside them (`bench/memory.py`). Each of
+/// the two that has a block of its own counts half as many more.
+pub const ENTRY_BYTES: u64 = 144;
 
 /// What a cache may keep.
 #[derive(Clone, Copy, Debug, PartialEq, Eq)]
@@ -20,7 +21,8 @@ pub struct Bounds {
     pub limit: u64,
     /// The most entries.
     pub most: NonZeroUsize,
-    /// The bytes that an entry counts beside those of its key and its value.
+    /// The bytes that an entry counts beside those of its key and its value, each of which counts half as many more if it has a
+    /// block of its own.
     pub each: u64,
 }
 

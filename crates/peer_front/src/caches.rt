@@ -6,7 +6,7 @@ use std::cmp::min;
 use std::fmt;
 use std::fmt::{Display, Formatter};
 
-// The bytes of the key and the value of a usual entry.
+// The bytes of the key and the value of a usual entry, one of which has a block of its own.
 const USUAL_BYTES: u64 = 100;
 
 // A size in the largest unit of which it is a whole number.
@@ -69,7 +69,7 @@ impl CachesSaid {
 
     // How many usual entries each cache has at most.
     fn entries(&self) -> u64 {
-        let entries = self.bytes / (ENTRY_BYTES + USUAL_BYTES);
+        let entries = self.bytes / (USUAL_BYTES + ENTRY_BYTES + ENTRY_BYTES / 2);
         match self.keys {
             Some(keys) => min(entries, keys),
             None => entries,

@@ -1,5 +1,5 @@
 -- The main cache of a group (groupcache, `groupcache.go` and `lru/lru.go`).
-use Rattle.std.specs.Prelude.{◌≡◌, ℕ, ◌+◌, ◌-◌, ◌≤◌, List, [], ◌∷◌, length, take, All, cond, nat_lt, nat_le, ◌==◌}
+use Rattle.std.specs.Prelude.{◌≡◌, ℕ, ◌+◌, ◌-◌, ◌/◌, ◌≤◌, List, [], ◌∷◌, length, take, All, cond, nat_lt, nat_le, ◌==◌}
 use Rattle.std.specs.Prelude.{◌<◌, ◌&&◌, Bool, true, false, bytes_eq, Option, Some, None, option_map}
 use Rattle.std.specs.Option.{option_map_or}
 use Rattle.std.specs.Map.{lookup, remove_entry}
@@ -42,9 +42,13 @@ abbrev pub bounded_cache : ℕ → ℕ → ℕ → ℕ → Cache
 bounded_cache group limit most each =
     record { group = group; limit = limit; most = most; each = each; clears = false; entries = [] }
 
--- the bytes of an entry: those that each counts, and those of its key and of its value
+-- what is counted beside its bytes for a key or a value that its view does not hold itself: half as much as for an entry
+abbrev pub block_of : ℕ → List ℕ → ℕ
+block_of each text = cond (nat_le (length text) 46) 0 (each / 2)
+
+-- the bytes of an entry: those of its key and of its value, and those that are counted beside them
 abbrev pub bytes_of : ℕ → Entry → ℕ
-bytes_of each e = each + length e.0 + length e.1
+bytes_of each e = each + length e.0 + block_of each e.0 + length e.1 + block_of each e.1
 
 -- the bytes of all these entries
 abbrev pub bytes_in : ℕ → List Entry → ℕ

@@ -27,7 +27,7 @@ use std::num::NonZeroUsize;
 pub const MAX_ENTRIES: usize = 4096;
 
 /// The values used last for the keys of a group. The bytes of an entry are those of its key and of its value, and as many
-/// more as the cache counts for each.
+/// more as the cache counts for an entry, and half as many for each of the two that has a block of its own.
 #[derive(Drop)]
 pub struct MainCache<S: Source> {
     alloc: Global,
@@ -85,7 +85,8 @@ impl<S: Source> MainCache<S> {
     }
 
     /// A cache for a group without an entry, of these bounds: it keeps at most so many bytes, and at 0 nothing, and at most so
-    /// many entries. For each entry it counts so many bytes beside those of the key and the value. An entry larger than
+    /// many entries. For each entry it counts so many bytes beside those of the key and the value, and half as many for each of
+    /// the two that its view does not hold itself. An entry larger than
     /// the limit changes nothing.
     pub fn bounded(
         alloc: Global,
@@ -142,19 +143,23 @@ impl<S: Source> MainCache<S> {
         Ok(Some(Fill::of_value(self.group, own_key, value)))
     }
 
-    // What the entry of this fill leaves of the limit, if it is to be kept beside the others: its key has no entry yet.
+    // What the entry of this fill leaves of the limit, if others have to go for it: its key has no entry yet.
     fn room_for(&self, fill: &Fill<S>) -> Option<u64>
         ensures { IfSome result (λ room. LeavesRoom fill.now self.now room) }
     {
         let Outcome::Found(value) = fill.outcome() else {
             return None;
         };
-        let key = fill.key();
         let is_ours = fill.group() == self.group && self.limit > 0;
-        if !is_ours || look_up(&self.entries, key.as_slice()).is_some() {
+        if !is_ours {
             return None;
         }
-        room_beside(self.limit, self.each, key, value)
+        let key = fill.key();
+        let room = room_beside(self.limit, self.each, key, value)?;
+        if self.bytes <= room || look_up(&self.entries, key.as_slice()).is_some() {
+            return None;
+        }
+        Some(room)
     }
 
     /// Lets entries go for this fill, those used last of all first, until it fits or the list of those that left is full. They

@@ -5,11 +5,11 @@ ghost use Rattle.std.specs.Prelude.{◌≡◌, None, bytes_eq, ◌+◌, ◌-◌,
 ghost use Rattle.std.specs.Prelude.{Some, take, drop, IfSome, IfNone, IfOk, IsOk, OnOk, OnErr};
 ghost use Rattle.std.specs.NonZero.{non_zero_usize_get};
 ghost use Rattle.lru.specs.LruCache.{lru_cache, promoted};
-ghost use Rattle.peer_source.specs.Caches.{IsFrontOf, bytes_of, bytes_in, fitting, without};
+ghost use Rattle.peer_source.specs.Caches.{IsFrontOf, block_of, bytes_of, bytes_in, fitting, without};
 
 use crate::lent_key::LentKey;
 use lru::LruCache;
-use peer_view::ByteView;
+use peer_view::{ByteView, SHORT};
 use std::alloc::{AllocError, Global};
 use std::hash::RandomState;
 use std::num::NonZeroUsize;
@@ -76,6 +76,13 @@ pub(crate) fn find(entries: &mut Entries, key: &[u8]) -> Result<Option<Entry>, A
     Ok(Some(share(own_key, value)?))
 }
 
+// What is counted for a key or a value beside its bytes.
+fn block_of(each: u64, text: &ByteView) -> u64
+    ensures { result ≡ block_of each text.now }
+{
+    if text.len() <= SHORT { 0 } else { each / 2 }
+}
+
 /// What an entry leaves of the limit, if it is not larger.
 pub(crate) fn room_beside(limit: u64, each: u64, key: &ByteView, value: &ByteView) -> Option<u64>
     ensures room { IfSome result (λ room. room + bytes_of each (key.now, value.now) ≡ limit) }
@@ -84,7 +91,9 @@ pub(crate) fn room_beside(limit: u64, each: u64, key: &ByteView, value: &ByteVie
     limit
         .checked_sub(each)?
         .checked_sub(key.len() as u64)?
-        .checked_sub(value.len() as u64)
+        .checked_sub(block_of(each, key))?
+        .checked_sub(value.len() as u64)?
+        .checked_sub(block_of(each, value))
 }
 
 /// Entries that left a cache, as many as there is room for. What has no room in it is let go at once.
@@ -103,7 +112,8 @@ fn bytes_without(bytes: u64, each: u64, entry: Entry, evicted: &mut Evicted) -> 
     ensures { result + bytes_of each entry ≡ bytes }
 {
     let (key, value) = &entry;
-    let rest = bytes - each - key.len() as u64 - value.len() as u64;
+    let rest = bytes - each - key.len() as u64 - block_of(each, key);
+    let rest = rest - value.len() as u64 - block_of(each, value);
     set_aside(entry, evicted);
     rest
 }

@@ -31,6 +31,6 @@ pub use sink::{MAX_VALUE, Sink, SinkFault};
 pub use std_reader::StdReader;
 pub use std_writer::StdWriter;
 pub use trunc_sink::TruncSink;
-pub use view::{ByteView, TextFault};
+pub use view::{ByteView, SHORT, TextFault};
 pub use view_sink::ViewSink;
 pub use writer::{PeerWrite, WriteFailed, WriteFault, write_all};

@@ -13,6 +13,7 @@ mod short;
 
 pub use copies::TextFault;
 use held::Held;
+pub use short::SHORT;
 
 /// An immutable list of bytes, which lends its parts. A few bytes stand in the view itself.
 #[derive(Drop)]

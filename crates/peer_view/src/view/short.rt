@@ -6,7 +6,7 @@ use crate::front::copy_front;
 use std::marker::Model;
 
 /// The most bytes that a view holds itself.
-pub(super) const SHORT: usize = 46;
+pub const SHORT: usize = 46;
 
 /// At most `SHORT` bytes. What stands after them in the array is of no account.
 #[derive(Drop)]

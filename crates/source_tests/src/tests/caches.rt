@@ -186,6 +186,18 @@ fn a_bounded_cache_spares_what_it_has(rt: HostRuntime) {
 }
 
 #[test]
+fn a_bounded_cache_counts_the_blocks_of_long_texts(rt: HostRuntime) {
+    // Keys of 46 and of 47 bytes, each its own value. An entry counts 6 bytes more, and a block 3.
+    let steps = [
+        Step::Fill(ECHO, b"a short key of 46 bytes is held by its own vie"),
+        Step::Has(1, 98),
+        Step::Fill(ECHO, b"a longer key of 47 bytes has a block of its own"),
+        Step::Has(2, 204),
+    ];
+    assert!(rt; all_go_within(rt.alloc(), 1000, 100, 6, &steps));
+}
+
+#[test]
 fn only_values_of_the_group_are_kept_and_counted_once(rt: HostRuntime) {
     let alloc = rt.alloc();
     // An entry of the limit stays.

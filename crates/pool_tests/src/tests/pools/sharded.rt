@@ -147,24 +147,24 @@ fn a_seed_says_in_which_shard_a_key_is(rt: HostRuntime) {
     assert!(rt; seen.iter().any(|hits| *hits != seen[0]), "{seen:?}");
 }
 
-// The entry of 500,000 letters takes 1,000,460 of 1,048,576 bytes, and leaves room for 102 keys of four digits, of 468 bytes each.
+// The entry of 500,000 letters takes 1,000,920 of 1,048,576 bytes, and leaves room for 101 keys of four digits, of 468 bytes each.
 #[test]
 fn one_value_pushes_out_thousands(rt: HostRuntime) {
     let asked = Asked {
         numbers: 2000,
         letters: 500_000,
-        again_from: 1898,
+        again_from: 1899,
     };
     let seen = seen_of(&rt, rt.alloc(), 1, [1_048_576, 1_000_000, 460], 0, asked);
     let lost = Lost {
-        by_bytes: 1898,
+        by_bytes: 1899,
         ..Lost::NONE
     };
     let counts = CacheCounts {
         lost,
-        ..kept(103, 1_000_460 + 102 * 468)
+        ..kept(102, 1_000_920 + 101 * 468)
     };
-    assert_eq!(rt; seen, Some((102, counts)));
+    assert_eq!(rt; seen, Some((101, counts)));
 }
 
 #[test]
