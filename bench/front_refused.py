@@ -5,11 +5,11 @@
     python3 bench/front_refused.py [PROGRAM]
 
 The program is run with its n-th growth refused, for n from 1 until runs meet no refusal, and again with all growths from the
-n-th on refused (`bench/refused.py` has how): in front of a service, over a table and over the demonstration's groups. In each
-run three requests come on one connection, and the input ends. It may then have told why it ended, with the status of that; or
-each reply is whole and right, the connection ends with one of them, and the totals add up. Where one growth alone was refused
-a second client, which asks for other keys (the flights of the first may not have landed), is answered whole. Its last line is
-`0 wrong`, or says how many were; then the program fails too.
+n-th on refused (`bench/refused.py` has how): in front of a service that words or a file name, over a table and over the
+demonstration's groups. In each run three requests come on one connection, and the input ends. It may then have told why it
+ended, with the status of that; or each reply is whole and right, the connection ends with one of them, and the totals add up.
+Where one growth alone was refused a second client, which asks for other keys (the flights of the first may not have landed), is
+answered whole. Its last line is `0 wrong`, or says how many were; then the program fails too.
 """
 import os
 import re
@@ -82,9 +82,13 @@ def cases(folder, service):
     table = os.path.join(folder, "table")
     with open(table, "wb") as file:
         file.write(b"".join(b"values\t%c\t%s\n" % (key, VALUE) for key in b"abcd"))
+    config = os.path.join(folder, "config")
+    with open(config, "w", encoding="utf-8") as file:
+        file.write(f'loops = 1\n[groups.values]\nurl = "{service.url}"\n')
     first, second = values_of("a", "b", "none"), values_of("c", "d", "none2")
     return [
         Case("a service", [f"values={service.url}"], first, second),
+        Case("a service that a file names", ["--config", config], first, second),
         Case("a table", ["--table", table], first, second),
         Case("the demonstration", ["--demo"], of_demo("a"), of_demo("b")),
     ]

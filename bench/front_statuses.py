@@ -46,6 +46,9 @@ LISTENER, TAKEN = taken_address()
 HERE = ["--listen", "127.0.0.1:0"]
 GOOD = table(b"colors\tred\tv\n")
 BAD = table(b"colors\tred\n")
+NO_END = table(b"g\tk\tv\ng\tl\tv")
+MANY = table(b"g0\ta\tv\n" + b"".join(b"g%d\tk\tv\n" % i for i in range(65)))
+OVER = table(b"g\tk\t" + b"v" * 1_048_577 + b"\n")
 TWICE = table(b"g\tk\tv\ng\tk\tv\n")
 LARGE = table(b"x" * 16777217)
 ECHO = table(b"echo\tk\tv\n")
@@ -57,7 +60,9 @@ FETCHERS = "a number from 1 to 4 is needed"
 UNDER_WAY = "a number from 1 to 1024 is needed"
 NO_WORKERS = "--workers is for a table and --demo alone: where a service is named, --fetchers says how many threads there are"
 FOR_SERVICES = "is for services: name one, such as thumbs=http://10.0.0.7/thumbs/"
+TIME = "a time from 1ms to 60m is needed, such as 500ms, 1.5s or 2m"
 SIZE = "a number of bytes is needed, or of KiB, MiB or GiB, such as 64MiB"
+ADDRESS = "a port, or an address and a port, is needed, such as :8001 or 127.0.0.1:8001"
 PAGE = "a port, or an address and a port, is needed, such as 9180 or 127.0.0.1:9180"
 
 # the words, the status, what standard error holds
@@ -67,11 +72,15 @@ ROWS = [
     ([], 1, "--listen <ADDR>"),
     (HERE + ["--table", b"caf\xe9"], 1, "peer_front: a word is not UTF-8\n"),
     (HERE, 1, "peer_front: nothing to serve: give GROUP=URL, --table FILE or --demo\n"),
-    (["--listen", "127.0.0.1", "--demo"], 1,
-     "peer_front: --listen 127.0.0.1: an address and a port are needed, such as 127.0.0.1:8001\n"),
-    (["--listen", "::1", "--demo"], 1, "peer_front: --listen ::1: an address and a port are needed, such as 127.0.0.1:8001\n"),
+    (["--listen", "127.0.0.1", "--demo"], 1, f"peer_front: --listen 127.0.0.1: {ADDRESS}\n"),
+    (["--listen", "::1", "--demo"], 1, f"peer_front: --listen ::1: {ADDRESS}\n"),
     (["--listen", TAKEN, "--demo"], 2, f"peer_front: cannot serve {TAKEN}: "),
     (HERE + ["--demo", "--nothing"], 1, "--nothing"),
+    (["--config", "/nothing/here"], 1, "peer_front: --config /nothing/here: "),
+    (["--config", table(b"demo = true\n")], 1, "peer_front: --listen : a port, or an address and a port, is needed"),
+    (["--config", table(b"demo = true\n"), "--listen", "x"], 1, "peer_front: --listen x: "),
+    (["--check", "--config", table(b"listen = 80\ndemo = true\nloops = 4\n"), "--loops", "x"], 1, f"peer_front: --loops x: {THREADS}\n"),
+    (["--check"] + HERE, 1, "peer_front: nothing to serve: give GROUP=URL, --table FILE or --demo\n"),
     (HERE + ["--demo", "--workers", "17"], 1, f"peer_front: --workers 17: {WORKERS}\n"),
     (HERE + ["--demo", "--workers", "-1"], 1, "-1"),
     (HERE + ["--demo", "--workers", "x"], 1, f"peer_front: --workers x: {WORKERS}\n"),
@@ -99,7 +108,10 @@ ROWS = [
     (HERE + ["--demo", "--cache", "64MB"], 1, f"peer_front: --cache 64MB: {SIZE}\n"),
     (HERE + ["--demo", "--cache-keys", "0"], 1, "peer_front: --cache-keys 0: a number from 1 to 4294967296 is needed\n"),
     (HERE + ["--demo", "--memory", "18446744073709551615GiB"], 1, f"peer_front: --memory 18446744073709551615GiB: {SIZE}\n"),
-    (HERE + ["--demo", "--timeout", "0"], 1, "peer_front: --timeout 0: a number from 1 to 3600 is needed\n"),
+    (HERE + ["--demo", "--timeout", "0"], 1, f"peer_front: --timeout 0: {TIME}\n"),
+    (HERE + ["g=" + URL, "--connect-timeout", "0"], 1, f"peer_front: --connect-timeout 0: {TIME}\n"),
+    (HERE + ["--demo", "--connect-timeout", "1"], 1, f"peer_front: --connect-timeout {FOR_SERVICES}\n"),
+    (HERE + ["g=" + URL, "--timeout", "1.s"], 1, f"peer_front: --timeout 1.s: {TIME}\n"),
     (HERE + ["--demo", "--stats", "x"], 1, f"peer_front: --stats x: {PAGE}\n"),
     (HERE + ["--demo", "--stats", ""], 1, f"peer_front: --stats : {PAGE}\n"),
     (HERE + ["--demo", "--stats", "0"], 1, f"peer_front: --stats 0: {PAGE}\n"),
@@ -111,7 +123,7 @@ ROWS = [
     (HERE + ["--demo", "--stats"], 1, "--stats"),
     (HERE + ["--demo", "--until-eof=x"], 1, "--until-eof"),
     (HERE + ["--demo", "--until-eof"], 0, "peer_front: serves 3 groups at 127.0.0.1:"),
-    (HERE + ["--demo", "--timeout", "3601"], 1, "peer_front: --timeout 3601: a number from 1 to 3600 is needed\n"),
+    (HERE + ["--demo", "--timeout", "3601"], 1, f"peer_front: --timeout 3601: {TIME}\n"),
     (HERE + ["colors"], 1, "peer_front: colors: GROUP=URL is needed, such as thumbs=http://10.0.0.7/thumbs/\n"),
     (HERE + ["=" + URL], 1, f"peer_front: ={URL}: GROUP=URL is needed, such as thumbs=http://10.0.0.7/thumbs/\n"),
     (HERE + ["a=ftp://127.0.0.1/"], 1, "peer_front: a=ftp://127.0.0.1/: "),
@@ -126,8 +138,11 @@ ROWS = [
     (HERE + [f"g{i}={URL}" for i in range(65)], 1, f"peer_front: g64={URL}: there are more than 64 groups\n"),
     (HERE + ["--table", "/nothing/here"], 1, "/nothing/here"),
     (HERE + ["--table", "/"], 3, "peer_front: --table /: read failed\n"),
-    (HERE + ["--table", BAD], 2, "bad table at line 1\n"),
-    (HERE + ["--table", TWICE], 2, "bad table at line 2\n"),
+    (HERE + ["--table", BAD], 2, f"peer_front: --table {BAD}: bad table at line 1: not three fields or no end of line\n"),
+    (HERE + ["--table", NO_END], 2, "bad table at line 2: not three fields or no end of line\n"),
+    (HERE + ["--table", TWICE], 2, "bad table at line 2: group and key stood before\n"),
+    (HERE + ["--table", MANY], 2, "bad table at line 66: the 65th group\n"),
+    (HERE + ["--table", OVER], 2, "bad table at line 1: the value is over 1 MiB\n"),
     (HERE + ["--table", LARGE], 2, "table too large\n"),
 ]
 
@@ -146,6 +161,89 @@ STARTS = [
      "1 group at ADDR, 1 connection at most, on 2 loops, and fetches on 4 threads, 1024 values under way on each"),
     (["--table", GOOD, "--demo", "g=" + URL, "--fetchers", "2", "--under-way", "1"],
      "5 groups at ADDR, 10000 connections at most, on 2 loops, and fetches on 2 threads, 1 value under way on each"),
+]
+
+# files that cannot be used, and what standard error says of them after their name
+LINES = 'listen = "127.0.0.1:0"\n'
+GROUP = LINES + "\n[groups.colors]\n"
+
+
+def groups_file(count):
+    """A file with so many groups."""
+    return LINES + "".join(f'[groups.g{number:02}]\nurl = "{URL}"\n' for number in range(count))
+
+
+GROUP_KEY = "a group has no such key: url and table are those it may have"
+NO_NAME = "the name of a group has no = and no slash, and is not empty"
+ONE_SOURCE = "url or table is needed, and not both"
+WORD = "a text or a whole number is needed"
+SERVED_ALREADY = "a group of this name is served already"
+BAD_FILES = [
+    (LINES + "loops 4\n", "line 2: key with no value, expected `=`"),
+    (LINES + "loops = 4\nloops = 4\n", "line 3: duplicate key"),
+    (LINES + "[groups.colors\n", "line 2: unclosed table, expected `]`"),
+    (LINES + 'table = "a\n', "line 2: invalid string"),
+    (LINES + "loops = 4x\n", "line 2: invalid value, expected a string, number, boolean, date-time, array or inline table"),
+    (LINES + "loops = [1, 2\n", "line 3: missing comma between array elements, expected `,` or `]`"),
+    (b"listen = \"caf\xe9\"\n", "line 1: invalid UTF-8"),
+    (LINES + "looops = 4\n", "line 2: looops: there is no such flag"),
+    (LINES + "under_way = 4\n", "line 2: under_way: there is no such flag"),
+    (LINES + "help = true\n", "line 2: help: there is no such flag"),
+    (LINES + "check = true\n", "line 2: check: there is no such flag"),
+    (LINES + 'config = "a"\n', "line 2: config: there is no such flag"),
+    (LINES + "demo = 1\n", "line 2: demo: true or false is needed"),
+    (LINES + '\n\nuntil-eof = "yes"\n', "line 4: until-eof: true or false is needed"),
+    (LINES + "loops = true\n", f"line 2: loops: {WORD}"),
+    (LINES + "timeout = 1.5\n", f"line 2: timeout: {WORD}"),
+    (LINES + "loops = [\n4,\n]\n", f"line 4: loops: {WORD}"),
+    (LINES + "timeout = 07:32:00\n", f"line 2: timeout: {WORD}"),
+    (LINES + "[cache]\nbytes = 1\n", f"line 2: cache: {WORD}"),
+    (LINES + "demo = true\nloops = 17\n", f"line 3: loops 17: {THREADS}"),
+    (LINES + "demo = true\nworkers = -1\n", f"line 3: workers -1: {WORKERS}"),
+    (LINES + "demo = true # all\ntimeout = 0\n", f"line 3: timeout 0: {TIME}"),
+    (LINES + 'connect-timeout = "1h"\n', f"line 2: connect-timeout 1h: {TIME}"),
+    (LINES + 'cache = "64MB"\n', f"line 2: cache 64MB: {SIZE}"),
+    (LINES + "cache-keys = 0\n", "line 2: cache-keys 0: a number from 1 to 4294967296 is needed"),
+    ('demo = true\nlisten = "127.0.0.1"\n', f"line 2: listen 127.0.0.1: {ADDRESS}"),
+    (LINES + "stats = 0\n", f"line 2: stats 0: {PAGE}"),
+    (LINES + "demo = true\nfetchers = 2\n", f"line 3: fetchers {FOR_SERVICES}"),
+    (f"workers = 1\n{GROUP}" + f'url = "{URL}"\n', "line 1: workers " + NO_WORKERS.removeprefix("--workers ")),
+    (LINES + "groups = 3\n", "line 2: groups: groups are tables, such as [groups.colors]"),
+    (LINES + "[[groups]]\n", "line 2: groups: groups are tables, such as [groups.colors]"),
+    (LINES + "[groups]\ncolors = 3\n",
+     'line 3: groups.colors: a group is a table with url or table, such as url = "http://10.0.0.7/colors/"'),
+    (GROUP, 'line 3: groups.colors: a group is a table with url or table, such as url = "http://10.0.0.7/colors/"'),
+    (GROUP + f'url = "{URL}"\ntimeout = "1s"\n', f"line 5: groups.colors.timeout: {GROUP_KEY}"),
+    (GROUP + f'URL = "{URL}"\n', f"line 4: groups.colors.URL: {GROUP_KEY}"),
+    (GROUP + "url = 80\ntable = true\n", f"line 5: groups.colors.table: {WORD}"),
+    (GROUP + f'url = "{URL}"\ntable = "{GOOD}"\n', f"line 3: groups.colors: {ONE_SOURCE}"),
+    (LINES + f'[groups."a/b"]\nurl = "{URL}"\n', f"line 2: groups.a/b: {NO_NAME}"),
+    (LINES + f'[groups."a=b"]\nurl = "{URL}"\n', f"line 2: groups.a=b: {NO_NAME}"),
+    (LINES + f'[groups.""]\nurl = "{URL}"\n', f"line 2: groups.: {NO_NAME}"),
+    (GROUP + 'url = "https://127.0.0.1/"\n', "line 4: groups.colors.url https://127.0.0.1/: https is not supported: "),
+    (GROUP + 'url = "http://name.invalid/"\n', "line 4: groups.colors.url http://name.invalid/: "),
+    (LINES + f'demo = true\n[groups.echo]\nurl = "{URL}"\n', f"line 4: groups.echo.url {URL}: {SERVED_ALREADY}"),
+    (LINES + f'table = "{GOOD}"\n[groups.colors]\nurl = "{URL}"\n', f"line 4: groups.colors.url {URL}: {SERVED_ALREADY}"),
+    (LINES + f'table = "{BAD}"\n', f"line 2: table {BAD}: bad table at line 1: not three fields or no end of line"),
+    (GROUP + 'table = "/nothing/here"\n', "line 4: groups.colors.table /nothing/here: "),
+    (LINES + f'[groups.shapes]\ntable = "{GOOD}"\n', "line 3: groups.shapes.table has no such group"),
+    (GROUP + f'table = "{GOOD}"\n[groups.g]\ntable = "{TWICE}"\n',
+     "line 6: groups.g.table: one table is served, and another one stands elsewhere in the file"),
+    (groups_file(65), f"line 131: groups.g64.url {URL}: there are more than 64 groups"),
+    (LINES + "#" * 65_536 + "\n", "it has more than 64 KiB"),
+]
+
+# files, words beside them, and what standard output and standard error hold under --check
+DEMO = "would serve at 127.0.0.1:0, with 3 caches of 64 MiB, about N entries of 100 bytes in each:\necho\nsquare\nfill\n"
+CHECKED = [
+    ("", HERE + ["--demo"], DEMO),
+    (LINES + "demo = true\n", [], DEMO),
+    (LINES + f'cache = "1GiB"\n[groups.colors]\ntable = "{GOOD}"\n[groups.b]\nurl = "{URL}"\n', ["--listen", ":1"],
+     "would serve at :1, with 2 caches of 1 GiB, about N entries of 100 bytes in each:\ncolors\nb\n"),
+    (f'listen = ":1"\ntimeout = "1.5s"\n[groups.b]\nurl = "{URL}"\n', ["a=" + URL, "--timeout", "2", "b=" + URL + "v/"],
+     "would serve at :1, with 2 caches of 64 MiB, about N entries of 100 bytes in each:\na\nb\n"),
+    (groups_file(64), [], "would serve at 127.0.0.1:0, with 64 caches of 64 MiB, about N entries of 100 bytes in each:\n"
+     + "".join(f"g{i:02}\n" for i in range(64))),
 ]
 
 # the words, and what standard error says last there, of the caches
@@ -187,11 +285,15 @@ REFUSED = [
 TAKEN_WORDS = [
     ["--demo", "--workers", "1", "--loops", "1", "--connections", "1", "--cache", "0", "--memory", "1KiB"],
     ["a=" + URL, "--timeout", "1"],
+    ["a=" + URL, "--timeout", "1.5s", "--connect-timeout", "500ms"],
     ["a=" + URL, "--connection-for-each"],
     ["a=" + URL + "v?k=", "--timeout", "1"],
     ["a=http://localhost:1/", "--timeout", "1"],
     ["a=http://[::1]:1/"],
     ["--demo", "--listen", "[::1]:0"],
+    ["--demo", "--listen", ":0"],
+    ["--demo", "--listen", "0"],
+    ["--config", table(b'listen = "127.0.0.1:0"\ndemo = true\nloops = 1\n')],
     ["--table", GOOD, "--demo", "a=" + URL],
     ["--demo", "--stats", "127.0.0.1:0"],
 ]
@@ -201,6 +303,9 @@ STOOD_IN = [
     ("NO_SEED", ["--demo"], 7, "peer_front: no random seed\n"),
     ("ONE_BYTE", ["--table", LONG], 6, f"peer_front: --table {LONG}: too many reads\n"),
 ]
+
+# what names every address of the machine, and where a client then connects
+EVERYWHERE = [(":%d", "127.0.0.1"), (":%d", "::1"), ("%d", "127.0.0.1")]
 
 # standard streams that are closed when the program starts
 CLOSED = [0, 2]
@@ -216,6 +321,13 @@ def ended_at_once(words, files=20000, output=subprocess.PIPE):
     done = subprocess.run([PROGRAM] + words, stdin=subprocess.DEVNULL, stdout=output, stderr=subprocess.PIPE,
                           timeout=60, check=False, preexec_fn=allow)
     return done.returncode, done.stderr.decode()
+
+
+def checked(words):
+    """The status of a program under `--check`, and what it prints."""
+    done = subprocess.run([PROGRAM] + words, stdin=subprocess.DEVNULL, stdout=subprocess.PIPE, stderr=subprocess.DEVNULL, timeout=60,
+                          check=False)
+    return done.returncode, done.stdout.decode()
 
 
 def told_to_end(sent):
@@ -250,6 +362,21 @@ def held_for(stream):
     run.kill()
     run.wait()
     return held
+
+
+def reached(word, host):
+    """Whether a server that was told to serve at this word is reached at this address of the machine."""
+    port = free_port()
+    run = subprocess.Popen([PROGRAM, "--demo", "--listen", word % port], stdout=subprocess.PIPE, stderr=subprocess.DEVNULL)
+    try:
+        run.stdout.readline()
+        with socket.create_connection((host, port), 10):
+            return True
+    except OSError:
+        return False
+    finally:
+        run.kill()
+        run.wait()
 
 
 def stood_in(word, words):
@@ -297,6 +424,20 @@ for words, text in STARTS:
     if ended != 0 or hides_numbers(told) != served_by(text):
         failures += 1
         print("words", words, "status", ended, "told", repr(told), "wanted", repr(text))
+
+for text, wanted in BAD_FILES:
+    path = table(text if isinstance(text, bytes) else text.encode())
+    ended, told = ended_at_once(["--config", path])
+    if not ended or not told.startswith(f"peer_front: --config {path}: {wanted}") or not told.endswith("\n"):
+        failures += 1
+        print("file", repr(text[:200]), "status", ended, "told", repr(told), "wanted", repr(wanted))
+
+for text, words, wanted in CHECKED:
+    words = ["--check", *words] + (["--config", table(text.encode())] if text else [])
+    ended, told = checked(words)
+    if ended != 0 or hides_numbers(told) != wanted:
+        failures += 1
+        print("words", words, "status", ended, "told", repr(told), "wanted", repr(wanted))
 
 for words, text in CACHES:
     ended, told = ended_at_once(HERE + ["--until-eof"] + words)
@@ -348,6 +489,11 @@ for word, words, status, text in STOOD_IN:
         failures += 1
         print(word, "words", words, "status", ended, "wanted", status, "told", repr(told))
 
+for word, host in EVERYWHERE:
+    if not reached(word, host):
+        failures += 1
+        print("served at", word, "and is not reached at", host)
+
 ended = unreadable()
 if ended != 0:
     failures += 1
@@ -359,6 +505,6 @@ for stream in CLOSED:
         failures += 1
         print("standard stream", stream, "was closed, and is", held)
 
-counted = [ROWS, STARTS, PREFIXES, FEW_FILES, REFUSED, TAKEN_WORDS, SIGNALS, STOOD_IN, CLOSED]
+counted = [ROWS, STARTS, BAD_FILES, CHECKED, CACHES, PREFIXES, FEW_FILES, REFUSED, TAKEN_WORDS, SIGNALS, STOOD_IN, EVERYWHERE, CLOSED]
 print("rows", sum(len(rows) for rows in counted) + 1, "failures", failures)
 sys.exit(1 if failures else 0)

@@ -77,7 +77,7 @@ def archive_serves():
     with tarfile.open(ARCHIVE) as archive:
         archive.extractall(ROOM)
     folder = os.path.join(ROOM, f"peer_front-{VERSION}-linux-amd64")
-    there = {"LICENSE", "end_on_term.sh", "peer_front", "peer_front.1", "peer_front.default", "peer_front.service"}
+    there = {"LICENSE", "end_on_term.sh", "peer_front", "peer_front.1", "peer_front.default", "peer_front.service", "peer_front.toml"}
     return set(os.listdir(folder)) == there and is_well(f"{folder}/end_on_term.sh", f"{folder}/peer_front")
 
 
@@ -92,6 +92,14 @@ def man_page_names_flags():
 def package_says_what_it_needs():
     needs = said("dpkg-deb", "--field", PACKAGE, "Depends")
     return bool(re.search(r"libc6 \(>= \d+\.\d+\)", needs)) and said("dpkg-deb", "--field", PACKAGE, "Version").strip() == VERSION
+
+
+def file_is_taken():
+    """Whether the program would serve what the file of the package says."""
+    folder = os.path.join(ROOM, "file")
+    subprocess.run(["dpkg-deb", "--extract", PACKAGE, folder], check=True)
+    told = said(PROGRAM, "--check", "--config", os.path.join(folder, "etc/peer_front.toml"))
+    return told.startswith("would serve at 127.0.0.1:8001, ") and told.endswith("\ncolors\n")
 
 
 def fresh_root():
@@ -121,7 +129,8 @@ def installed_serves():
     served = is_well(*as_user, "/usr/lib/peer_front/end_on_term.sh", "/usr/bin/peer_front")
     version = said("chroot", root, "/usr/bin/peer_front", "--version").split()[-1]
     told += said("chroot", root, "dpkg", "--purge", "peer-front")
-    left = [path for path in ("usr/bin/peer_front", "etc/default/peer_front") if os.path.exists(os.path.join(root, path))]
+    theirs = ("usr/bin/peer_front", "etc/default/peer_front", "etc/peer_front.toml")
+    left = [path for path in theirs if os.path.exists(os.path.join(root, path))]
     if "status" in told or left:
         print(told, left)
     return served and version == VERSION and not left
@@ -145,7 +154,8 @@ def unit_is_taken():
 
 if __name__ == "__main__":
     try:
-        run_rows([same_bytes, sums_hold, archive_serves, man_page_names_flags, package_says_what_it_needs, unit_is_taken, installed_serves])
+        rows = [same_bytes, sums_hold, archive_serves, man_page_names_flags, package_says_what_it_needs, file_is_taken, unit_is_taken]
+        run_rows([*rows, installed_serves])
     finally:
         shutil.rmtree(ROOM, ignore_errors=True)
         sys.stdout.flush()

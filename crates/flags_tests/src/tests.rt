@@ -1,7 +1,9 @@
 //! The words that the program is called with.
 
+mod config;
+
 use clap::ArgMatches;
-use peer_flags::{Options, Room, command};
+use peer_flags::{ListenAddress, Options, Room, command, time_of};
 use std::alloc::Global;
 use std::test::Fail;
 use std::time::Duration;
@@ -44,7 +46,8 @@ fn each_flag_has_its_default(rt: HostRuntime) -> Result<(), Fail> {
     let words = ["peer_front", "--listen", "127.0.0.1:1"];
     let matches = matches_of(rt.alloc(), &words)?;
     let usual = Options {
-        listen: "127.0.0.1:1",
+        listen: ListenAddress::At("127.0.0.1:1"),
+        check: false,
         demo: false,
         table: None,
         fetchers: 1,
@@ -56,6 +59,7 @@ fn each_flag_has_its_default(rt: HostRuntime) -> Result<(), Fail> {
         cache_keys: None,
         memory: 268_435_456,
         timeout: Duration::from_secs(10),
+        connect_timeout: Duration::from_secs(2),
         connection_for_each: false,
         stats: None,
         until_eof: false,
@@ -87,10 +91,60 @@ fn numbers_are_within_their_bounds(rt: HostRuntime) -> Result<(), Fail> {
         ("--cache-keys", "4294967297", Some("1 to 4294967296")),
         ("--cache-keys", "", Some("1 to 4294967296")),
         ("--cache-keys", "1KiB", Some("1 to 4294967296")),
-        ("--timeout", "", Some("1 to 3600")),
-        ("--timeout", "99999999999999999999", Some("1 to 3600")),
     ] {
         right &= is_bounded(rt.alloc(), flag, value, bounds)?;
+    }
+    assert!(rt; right);
+    Ok(())
+}
+
+#[test]
+fn times_are_numbers_with_a_unit(rt: HostRuntime) {
+    let mut right = true;
+    for (text, millis) in [
+        ("500ms", 500),
+        ("1.5s", 1_500),
+        ("2m", 120_000),
+        ("10", 10_000),
+        ("0.25", 250),
+        ("1.125m", 67_500),
+        ("0.001s", 1),
+        ("00000001ms", 1),
+        ("60m", 3_600_000),
+    ] {
+        let time = time_of(text, 1_000_000, 3_600_000_000_000);
+        right &= time == Some(Duration::from_millis(millis));
+    }
+    assert!(rt; right);
+}
+
+#[test]
+fn other_texts_are_no_times(rt: HostRuntime) -> Result<(), Fail> {
+    let fault = "a time from 1ms to 60m is needed, such as 500ms, 1.5s or 2m";
+    let mut right = true;
+    for word in [
+        "",
+        "s",
+        "ms",
+        "1.",
+        ".5s",
+        "1.5.5s",
+        "1.1234s",
+        "000000001",
+        "1 s",
+        "1h",
+        "1S",
+        "+1",
+        "1e3",
+        "1sm",
+        "0",
+        "0.5ms",
+        "60.001m",
+        "3601",
+        "99999999",
+    ] {
+        let text = format!(in rt.alloc(); "--timeout {word}: {fault}")?;
+        right &= tells(rt.alloc(), "--timeout", word, text.as_str())?;
     }
     assert!(rt; right);
     Ok(())
@@ -163,13 +217,18 @@ fn keys_are_bounded_where_it_is_asked_for(rt: HostRuntime) -> Result<(), Fail> {
 fn an_address_has_a_port(rt: HostRuntime) -> Result<(), Fail> {
     let alloc = rt.alloc();
     let mut right = true;
-    for word in ["127.0.0.1:0", "name:65535", "[::1]:80"] {
+    for word in ["127.0.0.1:0", "name:65535", "[::1]:80", ":80", "80", "0"] {
         let text = told(alloc, &["peer_front", "--listen", word])?;
         right &= text.as_str().is_empty();
     }
     for word in [
         "127.0.0.1",
-        ":80",
+        "",
+        ":",
+        "::80",
+        ":65536",
+        "65536",
+        "+80",
         "127.0.0.1:",
         "127.0.0.1:65536",
         "127.0.0.1:+80",
@@ -180,8 +239,26 @@ fn an_address_has_a_port(rt: HostRuntime) -> Result<(), Fail> {
     ] {
         let text = told(alloc, &["peer_front", "--listen", word])?;
         right &= text.as_str().ends_with(
-            ": an address and a port are needed, such as 127.0.0.1:8001",
+            ": a port, or an address and a port, is needed, such as :8001 or 127.0.0.1:8001",
         );
+    }
+    assert!(rt; right);
+    Ok(())
+}
+
+#[test]
+fn a_port_alone_is_that_of_every_address(rt: HostRuntime) -> Result<(), Fail> {
+    let mut right = true;
+    for (word, address) in [
+        (":8001", ListenAddress::Everywhere(8001)),
+        ("8001", ListenAddress::Everywhere(8001)),
+        ("0.0.0.0:8001", ListenAddress::At("0.0.0.0:8001")),
+        ("[::]:8001", ListenAddress::At("[::]:8001")),
+    ] {
+        let words = ["peer_front", "--listen", word];
+        let matches = matches_of(rt.alloc(), &words)?;
+        right &= Options::of(&matches).is_ok_and(|options| options.listen == address);
+        drop(matches);
     }
     assert!(rt; right);
     Ok(())

@@ -8,7 +8,7 @@ use std::alloc::{AllocError, Global};
 enum Takes {
     // Nothing.
     Nothing,
-    // A value of this name, always.
+    // A value of this name, unless there is a file that may have it.
     Required(&'static str),
     // A value of this name.
     Value(&'static str),
@@ -26,13 +26,28 @@ struct Flag {
     help: &'static str,
 }
 
+// The flags that no file has.
+const CONFIG: &str = "config";
+
+const CHECK: &str = "check";
+
 // The flags, as `--help` lists them: for what is served, for how services are asked, for how it is served, and for whoever
 // runs it.
-const FLAGS: [Flag; 16] = [
+const FLAGS: [Flag; 19] = [
     Flag {
         name: "listen",
         takes: Takes::Required("ADDR"),
-        help: "The address to serve, such as 127.0.0.1:8001",
+        help: "The address to serve, such as 127.0.0.1:8001, or :8001 for every address of the machine",
+    },
+    Flag {
+        name: CONFIG,
+        takes: Takes::Value("FILE"),
+        help: "Read flags and groups from a file, in TOML; those given beside it win",
+    },
+    Flag {
+        name: CHECK,
+        takes: Takes::Nothing,
+        help: "Say what would be served, or why it cannot be, and end",
     },
     Flag {
         name: "demo",
@@ -61,8 +76,13 @@ const FLAGS: [Flag; 16] = [
     },
     Flag {
         name: "timeout",
-        takes: Takes::Defaulted("SECONDS", "10"),
-        help: "How long a service may take for a value, 1 to 3600",
+        takes: Takes::Defaulted("TIME", "10s"),
+        help: "How long a service may take for a value, such as 500ms, 1.5s or 2m; a number alone is seconds",
+    },
+    Flag {
+        name: "connect-timeout",
+        takes: Takes::Defaulted("TIME", "2s"),
+        help: "How long a connection to one address of a service may take",
     },
     Flag {
         name: "connection-for-each",
@@ -111,19 +131,43 @@ const FLAGS: [Flag; 16] = [
     },
 ];
 
-// A flag, as `clap` reads it.
-fn arg_of<'a>(alloc: Global, flag: Flag) -> Arg<'a> {
-    let arg = Arg::new(alloc, flag.name).help(flag.help);
+/// What a flag takes in a file.
+#[derive(Clone, Copy, Debug, PartialEq, Eq)]
+pub enum FlagKind {
+    /// Whether it is given.
+    Switch,
+    Value,
+}
+
+/// What the flag of a name takes in a file, if there is one that may stand there.
+pub fn kind_of(name: &str) -> Option<FlagKind> {
+    if name == CONFIG || name == CHECK {
+        return None;
+    }
+    let flag = FLAGS.iter().find(|flag| flag.name == name)?;
     match flag.takes {
+        Takes::Nothing => Some(FlagKind::Switch),
+        Takes::Words => None,
+        _ => Some(FlagKind::Value),
+    }
+}
+
+// A flag, as `clap` reads it.
+fn arg_of<'a>(alloc: Global, flag: Flag) -> Result<Arg<'a>, AllocError> {
+    let arg = Arg::new(alloc, flag.name).help(flag.help);
+    Ok(match flag.takes {
         Takes::Nothing => arg.long(flag.name).action(ArgAction::SetTrue),
-        Takes::Required(value) => arg.long(flag.name).value_name(value).required(true),
+        Takes::Required(value) => arg
+            .long(flag.name)
+            .value_name(value)
+            .required_unless_present(CONFIG)?,
         Takes::Value(value) => arg.long(flag.name).value_name(value),
         Takes::Defaulted(value, default) => arg
             .long(flag.name)
             .value_name(value)
             .default_value(default),
         Takes::Words => arg.action(ArgAction::Append).num_args(0..),
-    }
+    })
 }
 
 /// What the program can be called with.
@@ -132,7 +176,7 @@ pub fn command<'a>(alloc: Global) -> Result<Command<'a>, AllocError> {
         "A peer server for groupcache's clients, in front of HTTP services, a table or both",
     );
     for flag in FLAGS {
-        command = command.arg(arg_of(alloc, flag))?;
+        command = command.arg(arg_of(alloc, flag)?)?;
     }
     Ok(command)
 }

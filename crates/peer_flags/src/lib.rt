@@ -1,14 +1,21 @@
 //! The words that `peer_front` is called with: its flags, their defaults and their bounds.
 //!
-//! It stands on `clap`. It promises numbers within the bounds of their flags, and room for one connection and one value at
-//! least, and for no more than were asked for. `flags_tests` shows the sentence for each word that cannot be used.
+//! It stands on `clap`. It promises numbers within the bounds of their flags, which time a text means, and room for one
+//! connection and one value at least, and for no more than were asked for. `flags_tests` shows the sentence for each word that
+//! cannot be used.
 #![tactic(auto)]
 
+mod address;
+mod fault;
 mod flags;
 mod options;
 mod room;
 mod size;
+mod time;
 
-pub use flags::command;
-pub use options::{BadWord, Options, PageAddress, WordFault};
+pub use address::{ListenAddress, PageAddress};
+pub use fault::{BadWord, WordFault};
+pub use flags::{FlagKind, command, kind_of};
+pub use options::Options;
 pub use room::Room;
+pub use time::time_of;

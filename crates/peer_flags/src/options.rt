@@ -2,13 +2,13 @@
 ghost use Rattle.std.specs.Prelude.{◌≤◌, ◌^◌, IfOk, IfSome};
 ghost use Rattle.std.specs.Duration.{as_nanos};
 
+use crate::address::{ListenAddress, PageAddress, listen, stats};
+use crate::fault::{BadWord, WordFault};
 use crate::size::{bytes_of, number_of};
+use crate::time::time_of;
 use clap::ArgMatches;
 use clap::parser::ValueSource;
-use std::fmt;
-use std::fmt::{Display, Formatter};
 use std::time::Duration;
-use thiserror::Error;
 
 // The most workers, and the most loops.
 const MAX_THREADS: u64 = 16;
@@ -25,56 +25,26 @@ const MAX_CONNECTIONS: u64 = 65_536;
 // The most keys of a cache.
 const MAX_CACHE_KEYS: u64 = 4_294_967_296;
 
-// The most seconds for a value.
-const MAX_TIMEOUT: u64 = 3600;
+// The shortest and the longest time that is waited for, a millisecond and an hour, in nanoseconds.
+const MIN_TIME: u64 = 1_000_000;
+
+const MAX_TIME: u64 = 3_600_000_000_000;
 
 // The flags that say how services are asked.
-const FOR_SERVICES: [&str; 4] = ["fetchers", "under-way", "timeout", "connection-for-each"];
-
-/// Why a word cannot be used.
-#[derive(Clone, Copy, Debug, PartialEq, Eq, Error)]
-pub enum WordFault {
-    #[error("a number from {0} to {1} is needed")]
-    Number(u64, u64),
-    #[error("a number of bytes is needed, or of KiB, MiB or GiB, such as 64MiB")]
-    Size,
-    #[error("an address and a port are needed, such as 127.0.0.1:8001")]
-    Address,
-    #[error("a port, or an address and a port, is needed, such as 9180 or 127.0.0.1:9180")]
-    Page,
-}
-
-/// A word that cannot be used, and the flag that it was given to, without its dashes.
-#[derive(Clone, Copy, Debug, PartialEq, Eq, Error)]
-#[error("--{flag} {word}: {fault}")]
-pub struct BadWord<'w> {
-    pub flag: &'w str,
-    pub word: &'w str,
-    pub fault: WordFault,
-}
-
-/// Where the page of counters is served.
-#[derive(Clone, Copy, Debug, PartialEq, Eq)]
-pub enum PageAddress<'w> {
-    /// This port of the loopback address.
-    Loopback(u16),
-    /// An address and a port.
-    At(&'w str),
-}
-
-impl<'w> Display for PageAddress<'w> {
-    fn fmt<W: fmt::Write>(&self, f: &mut Formatter<W>) -> fmt::Result {
-        match self {
-            PageAddress::Loopback(port) => write!(f, "127.0.0.1:{port}"),
-            PageAddress::At(address) => write!(f, "{address}"),
-        }
-    }
-}
+const FOR_SERVICES: [&str; 5] = [
+    "fetchers",
+    "under-way",
+    "timeout",
+    "connect-timeout",
+    "connection-for-each",
+];
 
 /// What the program is asked to do.
 #[derive(Clone, Copy, Debug, PartialEq, Eq)]
 pub struct Options<'w> {
-    pub listen: &'w str,
+    pub listen: ListenAddress<'w>,
+    /// Whether it is only said what would be served.
+    pub check: bool,
     pub demo: bool,
     pub table: Option<&'w str>,
     pub fetchers: usize,
@@ -87,6 +57,7 @@ pub struct Options<'w> {
     pub cache_keys: Option<u64>,
     pub memory: usize,
     pub timeout: Duration,
+    pub connect_timeout: Duration,
     pub connection_for_each: bool,
     pub stats: Option<PageAddress<'w>>,
     pub until_eof: bool,
@@ -145,52 +116,17 @@ fn size<'w>(matches: &ArgMatches<'w>, flag: &'w str) -> Result<u64, BadWord<'w>>
     }
 }
 
-// Whether a word is an address and a port. An IPv6 address stands in brackets (RFC 3986, section 3.2.2): without them its last part
-// would be taken for a port.
-fn is_address(word: &str) -> bool {
-    let Some((host, port)) = word.rsplit_once(':') else {
-        return false;
-    };
-    let is_bracketed = host.starts_with('[') && host.ends_with(']');
-    let is_host = !host.is_empty() && (is_bracketed || !host.contains(':'));
-    is_host && number_of(port, 0, 65_535).is_some()
-}
-
-// The address to serve.
-fn listen<'w>(matches: &ArgMatches<'w>) -> Result<&'w str, BadWord<'w>> {
-    let word = matches.get_str("listen").unwrap_or("");
-    if is_address(word) {
-        return Ok(word);
-    }
-    Err(BadWord {
-        flag: "listen",
-        word,
-        fault: WordFault::Address,
-    })
-}
-
-// The address of the page that a word says, if it says one.
-fn page_address<'w>(word: &'w str) -> Option<PageAddress<'w>> {
-    if let Some(port) = number_of(word, 1, 65_535) {
-        Some(PageAddress::Loopback(port as u16))
-    } else if is_address(word) {
-        Some(PageAddress::At(word))
-    } else {
-        None
-    }
-}
-
-// The address of the page, if one is asked for.
-fn stats<'w>(matches: &ArgMatches<'w>) -> Result<Option<PageAddress<'w>>, BadWord<'w>> {
-    let Some(word) = matches.get_str("stats") else {
-        return Ok(None);
-    };
-    match page_address(word) {
-        Some(address) => Ok(Some(address)),
+// The time of a flag.
+fn time<'w>(matches: &ArgMatches<'w>, flag: &'w str) -> Result<Duration, BadWord<'w>>
+    ensures { IfOk result (λ time. (1_000_000 ≤ as_nanos time) × (as_nanos time ≤ 3_600_000_000_000)) }
+{
+    let word = matches.get_str(flag).unwrap_or("");
+    match time_of(word, MIN_TIME, MAX_TIME) {
+        Some(time) => Ok(time),
         None => Err(BadWord {
-            flag: "stats",
+            flag,
             word,
-            fault: WordFault::Page,
+            fault: WordFault::Time,
         }),
     }
 }
@@ -241,19 +177,23 @@ struct Limits {
     cache_keys: Option<u64>,
     memory: usize,
     timeout: Duration,
+    connect_timeout: Duration,
 }
 
 impl Limits {
     // What the words say, or the first that cannot be used.
     fn of<'w>(matches: &ArgMatches<'w>) -> Result<Limits, BadWord<'w>>
         ensures cache_keys { IfOk result (λ l. IfSome l.cache_keys (λ n. (1 ≤ n) × (n ≤ 2 ^ 32))) }
-        ensures timeout { IfOk result (λ l. (1_000_000_000 ≤ as_nanos l.timeout) × (as_nanos l.timeout ≤ 3_600_000_000_000)) }
+        ensures timeout { IfOk result (λ l. (1_000_000 ≤ as_nanos l.timeout) × (as_nanos l.timeout ≤ 3_600_000_000_000)) }
+        ensures connect { IfOk result (λ l. (1_000_000 ≤ as_nanos l.connect_timeout)
+            × (as_nanos l.connect_timeout ≤ 3_600_000_000_000)) }
     {
         Ok(Limits {
             cache_bytes: size(matches, "cache")?,
             cache_keys: number_if_given(matches, "cache-keys", 1, MAX_CACHE_KEYS)?,
             memory: size(matches, "memory")? as usize,
-            timeout: Duration::from_secs(number(matches, "timeout", 1, MAX_TIMEOUT)?),
+            timeout: time(matches, "timeout")?,
+            connect_timeout: time(matches, "connect-timeout")?,
         })
     }
 }
@@ -267,7 +207,9 @@ impl<'w> Options<'w> {
         ensures loops { IfOk result (λ o. (1 ≤ o.loops) × (o.loops ≤ 16)) }
         ensures connections { IfOk result (λ o. (1 ≤ o.connections) × (o.connections ≤ 65536)) }
         ensures cache_keys { IfOk result (λ o. IfSome o.cache_keys (λ n. (1 ≤ n) × (n ≤ 2 ^ 32))) }
-        ensures timeout { IfOk result (λ o. (1_000_000_000 ≤ as_nanos o.timeout) × (as_nanos o.timeout ≤ 3_600_000_000_000)) }
+        ensures timeout { IfOk result (λ o. (1_000_000 ≤ as_nanos o.timeout) × (as_nanos o.timeout ≤ 3_600_000_000_000)) }
+        ensures connect { IfOk result (λ o. (1_000_000 ≤ as_nanos o.connect_timeout)
+            × (as_nanos o.connect_timeout ≤ 3_600_000_000_000)) }
     {
         let listen = listen(matches)?;
         let counts = Counts::of(matches)?;
@@ -275,6 +217,7 @@ impl<'w> Options<'w> {
         let stats = stats(matches)?;
         Ok(Options {
             listen,
+            check: matches.get_flag("check"),
             demo: matches.get_flag("demo"),
             table: matches.get_str("table"),
             fetchers: counts.fetchers,
@@ -286,6 +229,7 @@ impl<'w> Options<'w> {
             cache_keys: limits.cache_keys,
             memory: limits.memory,
             timeout: limits.timeout,
+            connect_timeout: limits.connect_timeout,
             connection_for_each: matches.get_flag("connection-for-each"),
             stats,
             until_eof: matches.get_flag("until-eof"),

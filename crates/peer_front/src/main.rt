@@ -5,9 +5,12 @@
 #![tactic(auto)]
 
 mod caches;
+mod check;
+mod config;
 mod end;
 mod exit;
 mod files;
+mod listen;
 mod names;
 mod page;
 mod running;
@@ -18,11 +21,13 @@ mod table;
 mod troubles;
 mod until_eof;
 
+use crate::config::{ConfigFile, Said, check_entries, config_of, read_file, say_flag};
 use crate::exit::{BAD_WORD, DONE, Exit, OUT_OF_MEMORY, no_output, refuse};
 use crate::files::hold_streams;
-use crate::serve::{check_flags, serve};
+use crate::serve::{check_flags, serve_asked};
 use clap::error::ErrorKind;
 use clap::{ArgMatches, Error};
+use peer_config::Config;
 use peer_flags::{Options, command};
 use std::fs::Files;
 use std::io::Read;
@@ -39,15 +44,68 @@ fn main(rt: HostRuntime) -> ExitCode {
         Ok(words) => words,
         Err(exit) => return exit.code(),
     };
-    let Ok(command) = command(rt.alloc()) else {
-        return out_of_memory(&rt).code();
+    let matches = match matches_of(&rt, words.as_slice()) {
+        Ok(matches) => matches,
+        Err(exit) => return exit.code(),
     };
-    match command.try_get_matches_from(words.as_slice()) {
-        Ok(matches) => {
-            let _streams = hold_streams(&rt);
-            run(&rt, &matches).code()
-        }
-        Err(error) => say_unmatched(&rt, &error).code(),
+    let _streams = hold_streams(&rt);
+    match matches.get_str("config") {
+        Some(path) => run_file(&rt, path, &matches, words.as_slice()).code(),
+        None => run(&rt, &matches, None).code(),
+    }
+}
+
+// What these words are read as, or says why they cannot be used.
+fn matches_of<'w, H: AllocGlobal + Print + Eprint>(
+    rt: &H,
+    words: &'w [String],
+) -> Result<ArgMatches<'w>, Exit> {
+    let Ok(command) = command(rt.alloc()) else {
+        return Err(out_of_memory(rt));
+    };
+    match command.try_get_matches_from(words) {
+        Ok(matches) => Ok(matches),
+        Err(error) => Err(say_unmatched(rt, &error)),
+    }
+}
+
+// Does what a file asks for, and the words of the command line, which win.
+fn run_file<
+    R: Read + Send + Drop + 'static,
+    H: Net<Listener = TcpListener, Stream = TcpStream> + Threads + Wait + Clock + Sync,
+>(rt: &H, path: &str, matches: &ArgMatches<'_>, own: &[String]) -> Exit
+where
+    H: AllocGlobal + Input<Reader = R> + Print + Eprint + Files + RandomSource,
+{
+    let text = match read_file(rt, rt.alloc(), path) {
+        Ok(text) => text,
+        Err(exit) => return exit,
+    };
+    let mut config = match config_of(rt, rt.alloc(), path, text.as_slice()) {
+        Ok(config) => config,
+        Err(exit) => return exit,
+    };
+    if let Err(exit) = check_entries(rt, path, text.as_slice(), &config) {
+        return exit;
+    }
+    config.note_given(matches);
+    let Ok(words) = peer_config::words_of(rt.alloc(), &config, own) else {
+        return out_of_memory(rt);
+    };
+    run_words(rt, path, text.as_slice(), &config, words.as_slice())
+}
+
+// Does what the words of a file and of the command line ask for.
+fn run_words<
+    R: Read + Send + Drop + 'static,
+    H: Net<Listener = TcpListener, Stream = TcpStream> + Threads + Wait + Clock + Sync,
+>(rt: &H, path: &str, text: &[u8], config: &Config, words: &[String]) -> Exit
+where
+    H: AllocGlobal + Input<Reader = R> + Print + Eprint + Files + RandomSource,
+{
+    match matches_of(rt, words) {
+        Ok(matches) => run(rt, &matches, Some(ConfigFile { path, text, config })),
+        Err(exit) => exit,
     }
 }
 
@@ -65,7 +123,7 @@ fn words_of(rt: &HostRuntime) -> Result<Vec<String>, Exit> {
 }
 
 // Says what the words ask to be told, or why they cannot be used.
-fn say_unmatched(rt: &HostRuntime, error: &Error) -> Exit {
+fn say_unmatched<H: AllocGlobal + Print + Eprint>(rt: &H, error: &Error) -> Exit {
     let printed = error.print(rt);
     if error.kind() == ErrorKind::OutOfMemory {
         return OUT_OF_MEMORY;
@@ -81,22 +139,29 @@ fn say_unmatched(rt: &HostRuntime, error: &Error) -> Exit {
 fn run<
     R: Read + Send + Drop + 'static,
     H: Net<Listener = TcpListener, Stream = TcpStream> + Threads + Wait + Clock + Sync,
->(rt: &H, matches: &ArgMatches<'_>) -> Exit
+>(rt: &H, matches: &ArgMatches<'_>, file: Option<ConfigFile<'_>>) -> Exit
 where
     H: AllocGlobal + Input<Reader = R> + Print + Eprint + Files + RandomSource,
 {
     let options = match Options::of(matches) {
         Ok(options) => options,
-        Err(bad) => return refuse(rt, &bad, BAD_WORD),
+        Err(bad) => {
+            let why = Said {
+                word: bad.word,
+                why: &bad.fault,
+            };
+            say_flag(rt, file, bad.flag, &why);
+            return BAD_WORD;
+        }
     };
     let words = matches.get_strs("GROUP=URL").unwrap_or(&[]);
-    match check_flags(rt, &options, !words.is_empty()) {
-        Ok(()) => serve(rt, &options, words),
+    match check_flags(rt, &options, !words.is_empty(), file) {
+        Ok(()) => serve_asked(rt, &options, words, file),
         Err(exit) => exit,
     }
 }
 
 // Says that memory was refused.
-fn out_of_memory(rt: &HostRuntime) -> Exit {
+fn out_of_memory<H: AllocGlobal + Eprint>(rt: &H) -> Exit {
     refuse(rt, &"out of memory", OUT_OF_MEMORY)
 }

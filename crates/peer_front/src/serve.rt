@@ -2,8 +2,11 @@
 ghost use Rattle.std.specs.Prelude.{IfSome};
 ghost use Rattle.peer_fetch.specs.Threads.{Allows};
 
-use crate::exit::{BAD_WORD, CANNOT_BIND, DONE, Exit, NO_SEED, OUT_OF_MEMORY, no_output, refuse};
+use crate::check::say_checked;
+use crate::config::{ConfigFile, say_flag};
+use crate::exit::{BAD_WORD, DONE, Exit, NO_SEED, OUT_OF_MEMORY, no_output, refuse};
 use crate::files::within_files;
+use crate::listen::listen;
 use crate::page::{Page, page_of};
 use crate::running::{Service, serve_watched};
 use crate::said::{FilledBy, say_caches, say_listening, say_prefixes, say_serving, say_totals};
@@ -12,17 +15,22 @@ use crate::until_eof::stop_of;
 use peer_fetch::FetchPlan;
 use peer_fill::{CachePlan, Caching, Report};
 use peer_flags::Options;
-use peer_groups::fetched_of;
+use peer_groups::{FrontSource, fetched_of};
 use peer_loop::{Fillers, ServerFault, Settings, Stop};
 use peer_runtime::{Host, Limits};
 use peer_source::Source;
 use peer_stats::Counters;
 use std::fs::Files;
 use std::hash::RandomState;
-use std::io;
-use std::io::{ErrorKind, Read};
-use std::net::{Net, TcpListener, ToSocketAddrs};
+use std::io::Read;
+use std::net::TcpListener;
 use std::random::RandomSource;
+
+// Why a flag cannot stand beside a service, and why one cannot stand without.
+const NO_WORKERS: &str =
+    "is for a table and --demo alone: where a service is named, --fetchers says how many threads there are";
+
+const FOR_SERVICES: &str = "is for services: name one, such as thumbs=http://10.0.0.7/thumbs/";
 
 // Who fills what is asked for.
 fn who_fills(options: &Options<'_>, has_services: bool) -> FilledBy {
@@ -71,30 +79,6 @@ fn settings_of<'a>(
     }
 }
 
-// A listener at the first of these addresses that can be had. Its backlog is the longest that the system allows, and not the
-// 128 of std's: behind a restart all clients come at once.
-fn listen<H: Net>(rt: &H, addresses: &str) -> io::Result<TcpListener> {
-    let mut refused = io::Error::from(ErrorKind::InvalidInput);
-    for address in addresses.to_socket_addrs(rt)? {
-        match mio::net::TcpListener::bind(rt, address) {
-            Ok(listener) => return Ok(TcpListener::from(listener)),
-            Err(error) => refused = error,
-        }
-    }
-    Err(refused)
-}
-
-// A listener at the address to serve.
-fn bind<H: AllocGlobal + Eprint + Net>(rt: &H, options: &Options<'_>) -> Result<TcpListener, Exit> {
-    match listen(rt, options.listen) {
-        Ok(listener) => Ok(listener),
-        Err(error) => {
-            let _ = eprintln!(rt; "peer_front: cannot serve {}: {error}", options.listen);
-            Err(CANNOT_BIND)
-        }
-    }
-}
-
 // How the program ends behind its server, and says so.
 fn end_of<H: AllocGlobal + Print + Eprint>(rt: &H, served: &Result<Report, ServerFault>) -> Exit {
     match served {
@@ -122,7 +106,7 @@ fn open<H: AllocGlobal + Eprint + RandomSource + Host>(
     let Ok(seed) = RandomState::new(rt) else {
         return Err(refuse(rt, &"no random seed", NO_SEED));
     };
-    let listener = bind(rt, options)?;
+    let listener = listen(rt, options)?;
     let page = page_of(rt, options, seed)?;
     Ok(Opened {
         seed,
@@ -175,37 +159,46 @@ pub fn check_flags<H: AllocGlobal + Eprint>(
     rt: &H,
     options: &Options<'_>,
     has_services: bool,
+    file: Option<ConfigFile<'_>>,
 ) -> Result<(), Exit> {
     if has_services && options.workers > 0 {
-        return Err(refuse(
-            rt,
-            &"--workers is for a table and --demo alone: where a service is named, --fetchers says how many threads there are",
-            BAD_WORD,
-        ));
+        say_flag(rt, file, "workers", &NO_WORKERS);
+        return Err(BAD_WORD);
     }
     match options.for_services {
         Some(flag) if !has_services => {
-            let _ = eprintln!(rt;
-                "peer_front: --{flag} is for services: name one, such as thumbs=http://10.0.0.7/thumbs/"
-            );
+            say_flag(rt, file, flag, &FOR_SERVICES);
             Err(BAD_WORD)
         }
         _ => Ok(()),
     }
 }
 
-/// Serves what is asked for, or says why not.
-pub fn serve<
+/// Serves what is asked for, or says why not. Where it is only to be checked it says what would be served.
+pub fn serve_asked<
     R: Read + Send + Drop + 'static,
     H: AllocGlobal + Input<Reader = R> + Print + Eprint + Files + RandomSource + Host,
->(rt: &H, options: &Options<'_>, words: &[&str]) -> Exit {
-    let has_services = !words.is_empty();
-    let options = &within_files(rt, options, has_services);
-    let counters = Counters::new();
-    let source = match source_of(rt, options, words) {
+>(rt: &H, options: &Options<'_>, words: &[&str], file: Option<ConfigFile<'_>>) -> Exit {
+    let options = &within_files(rt, options, !words.is_empty());
+    let source = match source_of(rt, options, words, file) {
         Ok(source) => source,
         Err(exit) => return exit,
     };
+    if options.check {
+        let exit = say_checked(rt, options, &source, words);
+        drop(source);
+        return exit;
+    }
+    serve(rt, options, source, words)
+}
+
+// Serves this source.
+fn serve<
+    R: Read + Send + Drop + 'static,
+    H: AllocGlobal + Input<Reader = R> + Print + Eprint + RandomSource + Host,
+>(rt: &H, options: &Options<'_>, source: FrontSource, words: &[&str]) -> Exit {
+    let has_services = !words.is_empty();
+    let counters = Counters::new();
     let (Some(fetched), Ok(stop)) = (fetched_of(rt.alloc(), &source), stop_of(rt, options)) else {
         return refuse(rt, &"out of memory, threads or descriptors", OUT_OF_MEMORY);
     };

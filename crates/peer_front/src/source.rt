@@ -1,5 +1,6 @@
 //! The source that the program serves: the groups of a table, of services and of the demonstration.
 
+use crate::config::{ConfigFile, Said, check_tabled, say_flag, say_group};
 use crate::exit::{BAD_WORD, Exit, OUT_OF_MEMORY, refuse};
 use crate::table::read_table;
 use peer_flags::Options;
@@ -17,6 +18,7 @@ use std::fs::Files;
 fn table_of<H: AllocGlobal + Eprint + Files>(
     rt: &H,
     options: &Options<'_>,
+    file: Option<ConfigFile<'_>>,
 ) -> Result<Option<TableSource>, Exit> {
     let Some(path) = options.table else {
         return Ok(None);
@@ -24,7 +26,11 @@ fn table_of<H: AllocGlobal + Eprint + Files>(
     match read_table(rt, rt.alloc(), path) {
         Ok(table) => Ok(Some(table)),
         Err(fault) => {
-            let _ = eprintln!(rt; "peer_front: --table {path}: {fault}");
+            let why = Said {
+                word: path,
+                why: &fault,
+            };
+            say_flag(rt, file, "table", &why);
             Err(fault.exit())
         }
     }
@@ -61,16 +67,19 @@ fn check_twice<H: AllocGlobal + Eprint>(
     options: &Options<'_>,
     table: &Option<TableSource>,
     words: &[&str],
+    file: Option<ConfigFile<'_>>,
 ) -> Result<(), Exit> {
     if let Some(word) = first_twice(options, table, words) {
-        let _ = eprintln!(rt; "peer_front: {word}: a group of this name is served already");
+        say_group(rt, file, word, &GroupFault::Repeated);
         return Err(BAD_WORD);
     }
     match options.table {
         Some(path) if options.demo && has_demo_group(table) => {
-            let _ = eprintln!(rt;
-                "peer_front: --table {path}: has a group of --demo, whose are echo, square and fill"
-            );
+            let why = Said {
+                word: path,
+                why: &"has a group of --demo, whose are echo, square and fill",
+            };
+            say_flag(rt, file, "table", &why);
             Err(BAD_WORD)
         }
         _ => Ok(()),
@@ -93,9 +102,9 @@ fn check_count<H: AllocGlobal + Eprint>(rt: &H, groups: usize) -> Result<(), Exi
 /// How services are asked.
 pub fn fetch_settings(options: &Options<'_>) -> FetchSettings {
     FetchSettings {
+        connect: options.connect_timeout,
         value: options.timeout,
         connection_for_each: options.connection_for_each,
-        ..FetchSettings::usual()
     }
 }
 
@@ -115,14 +124,19 @@ pub fn source_of<H: AllocGlobal + Eprint + Files + Network>(
     rt: &H,
     options: &Options<'_>,
     words: &[&str],
+    file: Option<ConfigFile<'_>>,
 ) -> Result<FrontSource, Exit> {
     let origins = match origins_of(rt, rt.alloc(), words) {
         Ok(origins) => origins,
         Err(bad) if bad.fault.is_memory() => return Err(refuse(rt, &bad, OUT_OF_MEMORY)),
-        Err(bad) => return Err(refuse(rt, &bad, BAD_WORD)),
+        Err(bad) => {
+            say_group(rt, file, bad.word, &bad.fault);
+            return Err(BAD_WORD);
+        }
     };
-    let table = table_of(rt, options)?;
-    check_twice(rt, options, &table, words)?;
+    let table = table_of(rt, options, file)?;
+    check_tabled(rt, file, &table)?;
+    check_twice(rt, options, &table, words, file)?;
     let Some(source) = join(options, table, origins) else {
         return Err(refuse(rt, &"out of memory", OUT_OF_MEMORY));
     };

@@ -17,8 +17,14 @@ pub enum NoTable {
     Read,
     #[error("too many reads")]
     Spent,
-    #[error("bad table at line {0}")]
+    #[error("bad table at line {0}: not three fields or no end of line")]
     Line(usize),
+    #[error("bad table at line {0}: group and key stood before")]
+    Repeated(usize),
+    #[error("bad table at line {0}: the 65th group")]
+    Groups(usize),
+    #[error("bad table at line {0}: the value is over 1 MiB")]
+    Value(usize),
     #[error("table too large")]
     TooLarge,
     #[error("out of memory")]
@@ -30,7 +36,9 @@ impl NoTable {
     pub fn exit(&self) -> Exit {
         match self {
             NoTable::Open(_) => BAD_WORD,
-            NoTable::Line(_) | NoTable::TooLarge => BAD_TABLE,
+            NoTable::Line(_) | NoTable::Repeated(_) | NoTable::Groups(_) | NoTable::Value(_) =>
+                BAD_TABLE,
+            NoTable::TooLarge => BAD_TABLE,
             NoTable::Read => READ_FAILED,
             NoTable::Memory => OUT_OF_MEMORY,
             NoTable::Spent => SPENT,
@@ -44,10 +52,10 @@ fn no_table(fault: &TableFault) -> NoTable {
         TableFault::ReadFault => NoTable::Read,
         TableFault::Spent => NoTable::Spent,
         TableFault::TooLarge => NoTable::TooLarge,
-        TableFault::Line(n)
-        | TableFault::Repeated(n)
-        | TableFault::Groups(n)
-        | TableFault::Value(n) => NoTable::Line(*n),
+        TableFault::Line(n) => NoTable::Line(*n),
+        TableFault::Repeated(n) => NoTable::Repeated(*n),
+        TableFault::Groups(n) => NoTable::Groups(*n),
+        TableFault::Value(n) => NoTable::Value(*n),
         TableFault::Memory => NoTable::Memory,
     }
 }

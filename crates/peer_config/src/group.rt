@@ -1,0 +1,100 @@
+//! A group of a file.
+
+use crate::entry::{Entry, entries_of, word_in};
+use crate::fault::{BadEntry, EntryFault};
+use crate::given::{is_given, is_given_group};
+use crate::place::Place;
+use clap::ArgMatches;
+use std::alloc::{AllocError, Global};
+use toml::{Table, Value};
+
+/// A group, and what stands in its table. It has no entries if it is no table.
+#[derive(Debug, Drop)]
+pub struct Group {
+    pub name: String,
+    pub entries: Vec<Entry>,
+}
+
+impl Group {
+    // The group of a name and its value.
+    fn of(alloc: Global, name: &str, value: &Value) -> Result<Group, AllocError> {
+        let entries = match value {
+            Value::Table(table) => entries_of(alloc, table)?,
+            _ => Vec::new(alloc),
+        };
+        let name = String::from_str(alloc, name)?;
+        Ok(Group { name, entries })
+    }
+
+    /// The URL that stands before its keys, if it has one.
+    pub fn url(&self) -> Option<&str> {
+        word_in(self.entries.as_slice(), "url")
+    }
+
+    /// The file of the table that it stands in, if it stands in one.
+    pub fn table(&self) -> Option<&str> {
+        word_in(self.entries.as_slice(), "table")
+    }
+
+    /// Notes whether a command line names its URL, or a table.
+    pub(crate) fn note_given(&mut self, matches: &ArgMatches<'_>) {
+        let has_url = is_given_group(matches, self.name.as_str());
+        let has_table = is_given(matches, "table");
+        for entry in self.entries.iter_mut() {
+            entry.is_overridden = if entry.key.as_str() == "url" {
+                has_url
+            } else {
+                has_table
+            };
+        }
+    }
+
+    /// Whether it has this key, and the command line says nothing else.
+    pub fn has(&self, key: &str) -> bool {
+        let mut entries = self.entries.iter();
+        entries.any(|entry| entry.key.as_str() == key && !entry.is_overridden)
+    }
+
+    // Why the whole of it cannot be used, if it cannot.
+    fn fault(&self) -> Option<EntryFault> {
+        let name = self.name.as_str();
+        if name.is_empty() || name.contains('=') || name.contains('/') {
+            Some(EntryFault::Name)
+        } else if self.entries.is_empty() {
+            Some(EntryFault::Group)
+        } else if self.url().is_some() == self.table().is_some() {
+            Some(EntryFault::OneSource)
+        } else {
+            None
+        }
+    }
+
+    /// What cannot be used in it, if something cannot.
+    pub(crate) fn bad_entry(&self) -> Option<BadEntry<'_>> {
+        let name = self.name.as_str();
+        for entry in self.entries.iter() {
+            if let Some(fault) = entry.group_fault() {
+                return Some(BadEntry {
+                    place: Place::OfGroup(name, entry.key.as_str()),
+                    fault,
+                });
+            }
+        }
+        match self.fault() {
+            Some(fault) => Some(BadEntry {
+                place: Place::Group(name),
+                fault,
+            }),
+            None => None,
+        }
+    }
+}
+
+/// The groups of a table.
+pub(crate) fn groups_of(alloc: Global, table: &Table) -> Result<Vec<Group>, AllocError> {
+    let mut groups = Vec::new(alloc);
+    for (name, value) in table.iter() {
+        groups.push(Group::of(alloc, name.as_str(), value)?)?;
+    }
+    Ok(groups)
+}
