@@ -5,8 +5,10 @@
     python3 bench/front_serves.py [crates/peer_front/out/peer_front]
 
 The first who asks for a key leads, those who ask while it is looked up join, and those who ask once a cache has it hit;
-connections are counted as they come and go; and each failure of a service is counted as what it is, also where a reply of another
-status than 200 begins and its rest is late, and is told on standard error, none twice. `--loops`, `--workers` and `--fetchers` are as
+connections are counted as they come and go, and by why they ended; each failure of a service is counted as what it is, also where
+a reply of another status than 200 begins and its rest is late, and is told on standard error, none twice. What is counted of each
+group adds up to what is counted of all, also where a name has quotes, newlines or bytes above 7F; each reply is counted by its
+status; limits are those of the flags, and what is told of the process is so; and `/readyz` says how far the server is. `--loops`, `--workers` and `--fetchers` are as
 many threads, and each fetcher has `--under-way` values; who has nothing to do takes no processor. No more connections are open than
 by `--connections`, and where all are taken, silent clients are let go until a sixteenth is free, and those who came last are not the
 next to go; where the system gives no more files, silent clients are let go too, and accepts that failed are counted. `--timeout` is
@@ -20,10 +22,13 @@ import re
 import resource
 import socket
 import struct
+import subprocess
 import sys
 import tempfile
 import threading
 import time
+import urllib.error
+import urllib.parse
 import urllib.request
 from concurrent.futures import ThreadPoolExecutor
 from contextlib import ExitStack
@@ -75,11 +80,18 @@ class Counted(Listening):
     def ask(self, path):
         return ask(self.address, path)
 
+    def get(self, path):
+        """The status and the text of a page."""
+        try:
+            with urllib.request.urlopen(f"http://127.0.0.1:{self.page}{path}", timeout=5) as page:
+                return page.status, page.read().decode()
+        except urllib.error.HTTPError as error:
+            return error.code, error.read().decode()
+
     def counts(self):
         """The numbers of the page by their names."""
-        with urllib.request.urlopen(f"http://127.0.0.1:{self.page}/metrics", timeout=5) as page:
-            lines = page.read().decode().splitlines()
-        pairs = [line.rsplit(" ", 1) for line in lines if not line.startswith("#")]
+        _, text = self.get("/metrics")
+        pairs = [line.rsplit(" ", 1) for line in text.split("\n") if line and not line.startswith("#")]
         return {name.removeprefix("peer_front_"): float(number) for name, number in pairs}
 
     def threads(self):
@@ -112,9 +124,133 @@ def asks_are_told_apart():
         found.set()
         right = [future.result().endswith(b"\x0a\x01v") for future in waiting]
         right += [server.ask("g/" + key).endswith(b"\x0a\x01v") for key in ("k", "k", "k", "k", "k", "other")]
-        return joined and all(right) and server.says(
-            asked_total=10, led_total=2, joined_total=3, hits_total=5, calls_total=2, rehits_total=0, strangers_total=0
+        return (
+            joined
+            and all(right)
+            and server.says(
+                asked_total=10, led_total=2, joined_total=3, hits_total=5, calls_total=2, rehits_total=0, strangers_total=0
+            )
+            and server.says(
+                **{f'group_asks_total{{group="g",found="{found}"}}': number for found, number in (("hit", 5), ("led", 2), ("joined", 3))},
+                **{'group_calls_total{group="g"}': 2, 'group_rehits_total{group="g"}': 0, "jobs_queued": 0},
+            )
         )
+
+
+# Groups whose names have what a label escapes, and bytes above 7F.
+NAMES = ['"\\', "a\nb", "\xe9\u4e00", "plain"]
+
+
+def escaped(name):
+    """A name as the value of a label."""
+    return name.replace("\\", "\\\\").replace('"', '\\"').replace("\n", "\\n")
+
+
+def sums(counts, name):
+    """What is counted of groups under this name, added up."""
+    return sum(number for key, number in counts.items() if key.startswith(name + "{group="))
+
+
+def groups_add_up():
+    good, bad = Service(replies(HEAD + b"1\r\n\r\nv")), Service(replies(b"HTTP/1.1 500 Oh\r\nContent-Length: 0\r\n\r\n"))
+    words = [f"{name}={(bad if name == 'plain' else good).url}" for name in NAMES]
+    with Counted(*words) as server:
+        for number, name in enumerate(NAMES):
+            for key in range(number + 1):
+                for _ in range(2):
+                    server.ask(f"{urllib.parse.quote(name)}/{key}")
+        # Each key twice; those of the last group have no value, and are led again.
+        server.says(asked_total=20, led_total=14, hits_total=6, calls_total=14)
+        counts = server.counts()
+        own = [counts[f'group_asks_total{{group="{escaped(name)}",found="led"}}'] for name in NAMES]
+        pairs = [("asks_total", "asked_total"), ("calls_total", "calls_total"), ("rehits_total", "rehits_total")]
+        equal = all(sums(counts, "group_" + one) == counts[all_] for one, all_ in pairs)
+        status = counts['origin_failures_total{kind="status"}']
+        failed = sums(counts, "group_origin_failures_total") == status == 8
+        return own == [1, 2, 3, 8] and equal and failed and sums(counts, "group_cache_entries") == 6
+
+
+def send(address, head):
+    with socket.create_connection(address, PATIENCE) as stream:
+        stream.sendall(head)
+        return stream.recv(10000)
+
+
+def replies_are_counted_by_their_status():
+    heads = {
+        200: b"GET /_groupcache/echo/k HTTP/1.1\r\nHost: h\r\n\r\n",
+        400: b"GET /_groupcache/echo HTTP/1.1\r\nHost: h\r\n\r\n",
+        404: b"GET /_groupcache/none/k HTTP/1.1\r\nHost: h\r\n\r\n",
+        405: b"PUT /_groupcache/echo/k HTTP/1.1\r\nHost: h\r\n\r\n",
+        413: b"GET /_groupcache/echo/k HTTP/1.1\r\nHost: h\r\nContent-Length: 1\r\n\r\nx",
+        431: b"GET /" + 17000 * b"x",
+        500: b"GET /_groupcache/square/x HTTP/1.1\r\nHost: h\r\n\r\n",
+        501: b"GET /_groupcache/echo/k HTTP/1.1\r\nHost: h\r\nTransfer-Encoding: chunked\r\n\r\n",
+    }
+    with Counted("--demo") as server:
+        right = [send(server.address, head).startswith(f"HTTP/1.1 {code} ".encode()) for code, head in heads.items()]
+        send(server.address, b"GET /elsewhere HTTP/1.1\r\nHost: h\r\n\r\n")
+        counted = {f'replies_total{{code="{code}"}}': 1 + (code == 404) for code in heads}
+        return all(right) and server.says(**counted, unknown_groups_total=1)
+
+
+def ends_are_counted_by_why():
+    closing = b"GET /_groupcache/echo/k HTTP/1.1\r\nHost: h\r\nConnection: close\r\n\r\n"
+    with Counted("--demo", "--connections", "4", "--loops", "1") as server, ExitStack() as streams:
+        server.ask("echo/k")  # one that closes itself, or is closed behind its reply
+        with socket.create_connection(server.address, PATIENCE) as stream:
+            stream.sendall(closing)
+            while stream.recv(10000):
+                pass
+        with socket.create_connection(server.address, PATIENCE):
+            pass
+
+        def closed():
+            counts = server.counts()
+            return {why: counts[f'connections_closed_total{{reason="{why}"}}'] for why in ("client", "reply", "crowded", "end")}
+
+        before = comes_to(lambda: sum(closed().values()) == 3) and closed()
+        for _ in range(4):
+            streams.enter_context(socket.create_connection(server.address))
+        crowded = comes_to(lambda: closed()["crowded"] >= 1)
+        return before and before["client"] >= 1 and before["reply"] >= 1 and before["crowded"] == 0 and crowded
+
+
+def limits_are_those_of_the_flags():
+    group = "g=" + Service(hangs).url
+    words = ("--connections", "77", "--fetchers", "2", "--under-way", "5", "--memory", "3MiB", "--cache", "1MiB", "--cache-keys", "9")
+    with Counted(*words, group) as server:
+        bounds = {'group_cache_limit_bytes{group="g"}': 1 << 20, 'group_cache_limit_entries{group="g"}': 9}
+        limited = server.says(connections_limit=77, under_way_limit=10, untaken_limit_bytes=3 << 20, **bounds)
+    with Counted("--demo") as server:
+        free = server.says(under_way_limit=0, **{'group_cache_limit_entries{group="echo"}': float("inf")})
+    return limited and free
+
+
+def the_process_is_told_as_the_system_has_it():
+    version = subprocess.run([PROGRAM, "--version"], capture_output=True, check=True, text=True).stdout.split()[-1]
+    with Counted("--demo") as server:
+        server.ask("echo/k")
+        counts, own = server.counts(), f"/proc/{server.process.pid}"
+        threads, files = server.threads(), len(os.listdir(own + "/fd"))
+        age = time.time() - counts["process_start_time_seconds"]
+        soft, _ = resource.prlimit(server.process.pid, resource.RLIMIT_NOFILE)
+        return (
+            any(name.startswith(f'build_info{{version="{version}",') for name in counts)
+            and counts["process_threads"] == threads
+            and abs(counts["process_open_fds"] - files) <= 2
+            and counts["process_max_fds"] == soft
+            and -2 < age < 60
+            and 0 <= counts["uptime_seconds"] < 60
+            and 0 <= counts["process_cpu_seconds_total"] < 60
+            and 1 << 20 < counts["process_resident_memory_bytes"] <= counts["process_virtual_memory_bytes"]
+        )
+
+
+def readiness_is_told():
+    with Counted("--demo") as server:
+        ready = comes_to(lambda: server.get("/readyz") == (200, "ready\n"))
+        return ready and server.get("/healthz") == (200, "ok\n") and server.says(ready=1)
 
 
 def connections_come_and_go():
@@ -380,7 +516,13 @@ def who_leaves_holds_nothing():
 run_rows(
     [
         asks_are_told_apart,
+        groups_add_up,
+        replies_are_counted_by_their_status,
         connections_come_and_go,
+        ends_are_counted_by_why,
+        limits_are_those_of_the_flags,
+        the_process_is_told_as_the_system_has_it,
+        readiness_is_told,
         silent_clients_go_in_turn,
         silent_clients_go_where_the_system_gives_no_more_files,
         each_failure_is_of_its_kind,

@@ -150,9 +150,9 @@ ROWS = [
 STARTS = [
     (["--demo"], "3 groups at ADDR, 10000 connections at most, on 2 loops"),
     (["--demo", "--stats", "127.0.0.1:0"],
-     "/metrics and /healthz at ADDR\npeer_front: serves 3 groups at ADDR, 10000 connections at most, on 2 loops"),
+     "/metrics, /readyz and /healthz at ADDR\npeer_front: serves 3 groups at ADDR, 10000 connections at most, on 2 loops"),
     (["--demo", "--stats", str(free_port())],
-     "/metrics and /healthz at ADDR\npeer_front: serves 3 groups at ADDR, 10000 connections at most, on 2 loops"),
+     "/metrics, /readyz and /healthz at ADDR\npeer_front: serves 3 groups at ADDR, 10000 connections at most, on 2 loops"),
     (["--table", GOOD, "--workers", "0"], "1 group at ADDR, 10000 connections at most, on 2 loops"),
     (["--demo", "--workers", "1", "--loops", "1"], "3 groups at ADDR, 10000 connections at most, on 1 loop and 1 worker"),
     (["--table", GOOD, "--workers", "16", "--loops", "16"], "1 group at ADDR, 10000 connections at most, on 16 loops and 16 workers"),

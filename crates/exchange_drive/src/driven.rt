@@ -2,7 +2,7 @@
 ghost use Rattle.std.specs.Prelude.{◌≡◌, All};
 ghost use Rattle.peer_fill.specs.Pools.{source_of, IsConnSeatOf, IsFillSeatOf};
 
-use peer_exchange::{End, Exchange};
+use peer_exchange::{End, Exchange, ReplyCounts};
 use peer_fill::{ConnSeat, FillSeat, NoGate, Pool, Seats, TakenJob, pop_seat};
 use peer_source::DemoSource;
 use std::alloc::{AllocError, Global};
@@ -30,6 +30,7 @@ pub struct Driven<'a, L: Ledger> {
     exchange: Exchange<'a, DemoSource>,
     taken: Vec<TakenJob<DemoSource>>,
     sent: Vec<u8>,
+    replies: ReplyCounts,
     ghost conn_of: { IsConnSeatOf pool.now conn },
     ghost fill_of: { IsFillSeatOf pool.now fill },
     ghost names: { exchange.names ≡ source_of pool.now },
@@ -58,6 +59,7 @@ impl<'a, L: Ledger> Driven<'a, L> {
             exchange: Exchange::new(alloc, pool.names()),
             taken: Vec::new(alloc),
             sent: Vec::new(alloc),
+            replies: ReplyCounts::NONE,
         })
     }
 
@@ -112,7 +114,9 @@ impl<'a, L: Ledger> Driven<'a, L> {
     /// The same, and what can be answered is.
     pub fn serve<H: Wait>(&mut self, rt: &H, alloc: Global) {
         self.ask(rt, alloc);
-        let _ = self.exchange.answer_ready(self.pool, &mut self.conn);
+        let _ = self
+            .exchange
+            .answer_ready(self.pool, &mut self.conn, &mut self.replies);
     }
 
     /// Some of the output goes.
@@ -186,7 +190,9 @@ impl<'a, L: Ledger> Driven<'a, L> {
         self.fill_taken(rt, alloc, dice, filled);
         self.pool.put_left(rt, &mut self.conn);
         if dice.roll(4) > 0 {
-            let _ = self.exchange.answer_ready(self.pool, &mut self.conn);
+            let _ = self
+                .exchange
+                .answer_ready(self.pool, &mut self.conn, &mut self.replies);
         }
         self.take(dice.roll(steps.output.saturating_add(1)))?;
         Ok(rest)

@@ -17,10 +17,11 @@ use crate::skip::skip;
 use mio::event::Event;
 use mio::net::TcpStream;
 use mio::{Interest, Registry, Token};
-use peer_exchange::Exchange;
+use peer_exchange::{End, Exchange};
 use peer_runtime::{Limits, Readiness};
 use peer_site::{Activity, Occupancy, Standing};
 use peer_source::Source;
+use peer_stats::Closing;
 use std::io;
 use std::marker::PhantomData;
 use std::net::Shutdown;
@@ -188,6 +189,33 @@ impl<'a, S: Source, F: Facts<S>> Client<'a, S, F> {
     pub fn let_go(&mut self, occupancy: &Occupancy) {
         occupancy.recount(self.counted, 0);
         self.counted = 0;
+    }
+
+    /// Why it is let go at the end of a turn, where the server ends or does not.
+    pub fn closing(&self, stops: bool) -> Closing {
+        match self.exchange.ended() {
+            Some(End::Memory) => Closing::Memory,
+            _ if self.failed => Closing::Client,
+            _ if stops => Closing::End,
+            _ if self.lingers => Closing::Reply,
+            _ => Closing::Client,
+        }
+    }
+
+    /// Why it is let go where it is overdue. `full` says that no more connections can be had.
+    pub fn overdue_closing(
+        &self,
+        limits: &Limits,
+        full: bool,
+        now: Duration,
+        stops: bool,
+    ) -> Closing {
+        match self.standing() {
+            Standing::Lingers => self.closing(stops),
+            Standing::HasOutput => Closing::Slow,
+            _ if full && !self.is_overdue(limits, false, now) => Closing::Crowded,
+            _ => Closing::Silent,
+        }
     }
 
     /// Reads nothing more of it, as if it had told its end. In its next turns it is answered, and closed.

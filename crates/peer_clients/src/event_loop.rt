@@ -11,12 +11,16 @@ use mio::{Events, Poll};
 use peer_runtime::{Network, WOKEN};
 use peer_site::LoopSite;
 use peer_source::Source;
+use peer_stats::ASLEEP;
 use std::alloc::Global;
 use std::hint::spin_loop;
 use std::sync::Wait;
 use std::sync::ledger::Ledger;
 use std::thread;
 use std::time::{Clock, Duration, Instant};
+
+// The number of its first turn: another than that of sleep.
+const FIRST_TURN: u64 = ASLEEP + 1;
 
 /// What a loop waits by.
 #[derive(Drop)]
@@ -45,6 +49,8 @@ pub struct EventLoop<'a, S: Source, F: Facts<S>> {
     turns: Turns<'a, S, F>,
     // When clients that are overdue were last looked for, as it was when the caches were last published.
     caches_published: Duration,
+    // The number of its turn, which it publishes.
+    turn: u64,
 }
 
 impl<'a, S: Source, F: Facts<S>> EventLoop<'a, S, F> {
@@ -56,20 +62,30 @@ impl<'a, S: Source, F: Facts<S>> EventLoop<'a, S, F> {
         EventLoop {
             turns: Turns::new(alloc, site),
             caches_published: Duration::ZERO,
+            turn: FIRST_TURN,
         }
     }
 
-    // Publishes what the loop has counted.
-    fn publish<L: Ledger>(&self, seat: &LoopSeat<'a, S, L, F>) {
-        let counts = seat.counts(self.turns.clients.each.len());
-        self.turns.site.slot().publish(counts);
+    // Publishes what the loop has counted, and that it is in its next turn.
+    fn publish<L: Ledger>(&mut self, seat: &mut LoopSeat<'a, S, L, F>)
+        ensures pool { seat.new.pool.now ≡ seat.old.pool.now }
+        ensures parts { KeepsParts seat.old.seats seat.new.seats }
+    {
+        let slot = self.turns.site.slot();
+        self.turn = self.turn.wrapping_add(1);
+        slot.publish_turn(self.turn);
+        slot.publish(seat.counts(self.turns.clients.each.len()));
+        seat.publish_asks(slot);
     }
 
-    // Publishes what the caches have and have lost, if a tick is over or the loop has no clients.
+    // Publishes what the caches have and have lost, and what clients hold, if a tick is over or the loop has no clients.
     fn publish_caches<L: Ledger, H: Wait>(&mut self, rt: &H, seat: &LoopSeat<'a, S, L, F>) {
         if self.caches_published != self.turns.swept || self.turns.clients.each.is_empty() {
             self.caches_published = self.turns.swept;
-            seat.publish_caches(rt, self.turns.site.shared.counters);
+            let shared = self.turns.site.shared;
+            let untaken = shared.occupancy.held() as u64;
+            shared.counters.publish_untaken_bytes(untaken);
+            seat.publish_caches(rt, shared.counters);
         }
     }
 
@@ -186,7 +202,13 @@ impl<'a, S: Source, F: Facts<S>> EventLoop<'a, S, F> {
 
     // Waits for events so long, and notes what was reported.
     fn wait<H: Network>(&mut self, rt: &H, time: Option<Duration>, waits: &mut Waits) {
+        if time.is_none() {
+            self.turns.site.slot().publish_turn(ASLEEP);
+        }
         let waited = waits.poll.poll(&mut waits.events, time);
+        if time.is_none() {
+            self.turns.site.slot().publish_turn(self.turn);
+        }
         self.turns.site.mailbox.stay_awake();
         if waited.is_err() {
             thread::sleep(rt, self.turns.site.shared.limits.pause);
@@ -235,6 +257,7 @@ impl<'a, S: Source, F: Facts<S>> EventLoop<'a, S, F> {
         let begun = Instant::now(rt).ok();
         for _ in rt.forever() {
             if self.is_done(seat) {
+                self.turns.site.slot().publish_turn(ASLEEP);
                 return;
             }
             self.serve_once(rt, seat, waits, begun);

@@ -9,6 +9,7 @@ use crate::filling::Filling;
 use crate::loop_seats::LoopSeats;
 use crate::seat::LoopSeat;
 use crate::work::{LoopParts, LoopWork};
+use peer_exchange::ReplyCounts;
 use peer_fill::Pool;
 use peer_runtime::Network;
 use peer_source::Source;
@@ -36,6 +37,7 @@ fn run_known<S: Source, L: Ledger, F: Facts<S>, H: Network>(
         seats,
         buffer,
         filling: Filling::new(site.shared.wakers, site.shared.gate(site.number)),
+        replies: ReplyCounts::NONE,
         of: PhantomData,
     };
     let mut serving = EventLoop::new(alloc, site);

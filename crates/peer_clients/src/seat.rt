@@ -8,10 +8,10 @@ use crate::facts::Facts;
 use crate::filling::{Filling, work};
 use crate::limits::JOBS_OF_TURN;
 use crate::loop_seats::LoopSeats;
-use peer_exchange::{Exchange, Rest};
+use peer_exchange::{Exchange, ReplyCounts, Rest};
 use peer_fill::Pool;
-use peer_source::{GroupId, Source};
-use peer_stats::{CacheCounts, Counters, LoopCounts};
+use peer_source::{GroupId, MAX_GROUPS, Source};
+use peer_stats::{AskCounts, CacheCounts, Counters, LoopCounts, LoopSlot};
 use std::alloc::Global;
 use std::marker::PhantomData;
 use std::sync::Wait;
@@ -28,6 +28,21 @@ fn told(counts: peer_fill::CacheCounts) -> CacheCounts {
     }
 }
 
+// The replies as the page tells them.
+fn told_replies(counts: ReplyCounts) -> peer_stats::ReplyCounts {
+    peer_stats::ReplyCounts {
+        ok: counts.ok,
+        bad_request: counts.bad_request,
+        not_found: counts.not_found,
+        not_allowed: counts.not_allowed,
+        content_too_large: counts.content_too_large,
+        head_too_large: counts.head_too_large,
+        failed: counts.failed,
+        not_implemented: counts.not_implemented,
+        unknown_groups: counts.unknown_groups,
+    }
+}
+
 /// The seats of a loop. All of its connections ask by the one.
 #[derive(Drop)]
 pub struct LoopSeat<'a, S: Source, L: Ledger, F: Facts<S>> {
@@ -38,6 +53,8 @@ pub struct LoopSeat<'a, S: Source, L: Ledger, F: Facts<S>> {
     pub buffer: Vec<u8>,
     /// By whom the jobs are filled that its connections push.
     pub filling: Filling<'a>,
+    /// The replies that its connections have put.
+    pub replies: ReplyCounts,
     pub of: PhantomData<F>,
     ghost of_pool: { AreOf pool.now seats } by { Prim.hlevel props },
     ghost source: { F.source ≡ Some (source_of pool.now) },
@@ -98,7 +115,7 @@ impl<'a, S: Source, L: Ledger, F: Facts<S>> LoopSeat<'a, S, L, F> {
             return Progress::Done;
         };
         if exchange
-            .answer_ready(self.pool, &mut self.seats.conn)
+            .answer_ready(self.pool, &mut self.seats.conn, &mut self.replies)
             .is_err()
         {
             return Progress::Done;
@@ -113,7 +130,7 @@ impl<'a, S: Source, L: Ledger, F: Facts<S>> LoopSeat<'a, S, L, F> {
         ensures pool { self.new.pool.now ≡ self.old.pool.now }
         ensures parts { KeepsParts self.old.seats self.new.seats }
     {
-        let _ = exchange.answer_ready(self.pool, &mut self.seats.conn);
+        let _ = exchange.answer_ready(self.pool, &mut self.seats.conn, &mut self.replies);
         if exchange.rest().output {
             Progress::Unsent
         } else {
@@ -163,6 +180,25 @@ impl<'a, S: Source, L: Ledger, F: Facts<S>> LoopSeat<'a, S, L, F> {
             joined: self.seats.conn.joined(),
             strangers: self.seats.conn.strangers(),
             connections: connections as u64,
+        }
+    }
+
+    /// Publishes what it has counted of the groups that were asked for since it did, and of replies.
+    pub fn publish_asks(&mut self, slot: &LoopSlot)
+        ensures pool { self.new.pool.now ≡ self.old.pool.now }
+        ensures parts { KeepsParts self.old.seats self.new.seats }
+    {
+        slot.publish_replies(told_replies(self.replies));
+        for _ in 0..MAX_GROUPS {
+            let Some(of_group) = self.seats.conn.next_untold() else {
+                return;
+            };
+            let counts = AskCounts {
+                hits: of_group.asks.hits,
+                led: of_group.asks.led,
+                joined: of_group.asks.joined,
+            };
+            slot.publish_group(of_group.group.number, counts);
         }
     }
 

@@ -13,6 +13,7 @@ use mio::Registry;
 use peer_runtime::keys_of;
 use peer_site::{LoopSite, MAX_ARRIVED, SLOTS_OF_WORD, WORDS, slot_of};
 use peer_source::Source;
+use peer_stats::Closing;
 use std::alloc::Global;
 use std::sync::Wait;
 use std::sync::ledger::Ledger;
@@ -72,14 +73,24 @@ impl<'a, S: Source, F: Facts<S>> Turns<'a, S, F> {
         }
     }
 
-    // Lets a client go.
-    fn forget(&mut self, key: usize) {
+    // Lets a client go, for this reason.
+    fn forget(&mut self, key: usize, why: Closing) {
         if let Some(mut client) = self.clients.remove(key) {
+            self.site.slot().count_close(why);
             client.let_go(self.site.shared.occupancy);
             // Before the place is free: the next one needs its file.
             drop(client);
             self.site.shared.occupancy.leave();
         }
+    }
+
+    // Lets a client go whose turn came to that.
+    fn forget_done(&mut self, key: usize) {
+        let Some(client) = self.clients.each.get(key) else {
+            return;
+        };
+        let why = client.closing(self.stopped);
+        self.forget(key, why);
     }
 
     // Lists a client as one that waits for a fill, and looks whether it has come meanwhile.
@@ -161,7 +172,7 @@ impl<'a, S: Source, F: Facts<S>> Turns<'a, S, F> {
                 self.list_awaited(key, awaits);
             }
             ClientState::Busy => self.clients.make_ready(key),
-            ClientState::Gone => self.forget(key),
+            ClientState::Gone => self.forget_done(key),
         }
     }
 
@@ -199,21 +210,19 @@ impl<'a, S: Source, F: Facts<S>> Turns<'a, S, F> {
         }
     }
 
-    // Counts what a client holds, for which values may have come since its turn, and says whether it is to be let go. One that
-    // is to stay and has output has a turn.
-    fn look_at(&mut self, key: usize, full: bool) -> bool {
+    // Counts what a client holds, for which values may have come since its turn, and says why it is to be let go, if it is. One
+    // that is to stay and has output has a turn.
+    fn look_at(&mut self, key: usize, full: bool) -> Option<Closing> {
         let shared = self.site.shared;
-        let Some(client) = self.clients.each.get_mut(key) else {
-            return false;
-        };
+        let client = self.clients.each.get_mut(key)?;
         client.count_held(shared.occupancy);
         if client.is_overdue(shared.limits, full, self.now) {
-            return true;
+            return Some(client.overdue_closing(shared.limits, full, self.now, self.stopped));
         }
         if client.retry_write() {
             self.clients.make_ready(key);
         }
-        false
+        None
     }
 
     // Lets those go that were silent, or took nothing, for too long, and counts what the others hold. Where no more connections
@@ -223,8 +232,8 @@ impl<'a, S: Source, F: Facts<S>> Turns<'a, S, F> {
         let first = self.next_sweep_key;
         for n in 0..keys {
             let key = first.wrapping_add(n) % keys;
-            if self.look_at(key, full) {
-                self.forget(key);
+            if let Some(why) = self.look_at(key, full) {
+                self.forget(key, why);
                 if full && !self.site.shared.occupancy.is_crowded() {
                     full = false;
                     self.next_sweep_key = key.wrapping_add(1);

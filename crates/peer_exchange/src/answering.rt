@@ -8,6 +8,7 @@ ghost use Rattle.std.specs.VecDeque.{deque_len};
 use crate::exchange_state::ExchangeState;
 use crate::intake::GivenUp;
 use crate::outgoing::Answered;
+use crate::reply_counts::ReplyCounts;
 use peer_fill::{ConnSeat, Pool};
 use peer_source::Source;
 use peer_wish::Ticket;
@@ -39,11 +40,12 @@ impl<S: Source> ExchangeState<S> {
     ghost use Rattle.peer_exchange.specs.ExchangeStates.{Keeps};
     ghost use Rattle.peer_exchange.specs.Intakes.{IsGivenUpFor};
 
-    /// Puts the replies of the first tickets, as far as their fills are there and few bytes wait to be sent.
+    /// Puts the replies of the first tickets, as far as their fills are there and few bytes wait to be sent, and counts them.
     pub(crate) fn answer_ready<L: Ledger>(
         &mut self,
         pool: &Pool<S, L>,
         seat: &mut ConnSeat<S, L>,
+        replies: &mut ReplyCounts,
     ) -> Result<(), GivenUp>
         requires { IsConnSeatOf pool.now seat.old }
         ensures seat { KeepsSeat pool.now seat.old seat.new }
@@ -54,7 +56,7 @@ impl<S: Source> ExchangeState<S> {
         ensures given_up { IfErr result (IsGivenUpFor self.new.intake.stage) }
     {
         loop {
-            match self.answer_first(pool, seat) {
+            match self.answer_first(pool, seat, replies) {
                 Ok(Answered::Put { .. }) => {}
                 Ok(Answered::Waits) => return Ok(()),
                 Err(why) => return Err(why),
@@ -62,12 +64,13 @@ impl<S: Source> ExchangeState<S> {
         }
     }
 
-    // Puts the reply of the first ticket, where its fill is there and little output waits, and counts a stranger where it
+    // Puts the reply of the first ticket, where its fill is there and little output waits, counts it, and counts a stranger where it
     // was refilled. `Waits` also where there is no ticket.
     fn answer_first<L: Ledger>(
         &mut self,
         pool: &Pool<S, L>,
         seat: &mut ConnSeat<S, L>,
+        replies: &mut ReplyCounts,
     ) -> Result<Answered, GivenUp>
         requires { IsConnSeatOf pool.now seat.old }
         ensures seat { KeepsSeat pool.now seat.old seat.new }
@@ -84,6 +87,7 @@ impl<S: Source> ExchangeState<S> {
         match self.outgoing.answer(pool, ticket) {
             Ok(Answered::Put { refilled }) => {
                 seat.add_strangers(u64::from(refilled));
+                replies.count(&ticket.body);
                 drop_first(&mut self.waiting);
                 self.window.put(self.outgoing.out.len() - before);
                 Ok(Answered::Put { refilled })

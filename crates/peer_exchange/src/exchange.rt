@@ -9,6 +9,7 @@ ghost use Rattle.peer_exchange.specs.ExchangeStates.{Upholds};
 
 use crate::exchange_state::ExchangeState;
 use crate::intake::GivenUp;
+use crate::reply_counts::ReplyCounts;
 use crate::rest::Rest;
 use peer_fill::{ConnSeat, Pool};
 use peer_source::{FunctionalSource, Names, Source};
@@ -194,12 +195,13 @@ impl<'p, S: Source> Exchange<'p, S> {
         }
     }
 
-    /// Puts the replies of the first tickets, as far as their fills are there and few bytes wait to be sent. Where a fill is of
+    /// Puts the replies of the first tickets, as far as their fills are there and few bytes wait to be sent, and counts them. Where a fill is of
     /// another group or key than was asked for, the source is called here, and may take its time.
     pub fn answer_ready<L: Ledger>(
         &mut self,
         pool: &Pool<S, L>,
         seat: &mut ConnSeat<S, L>,
+        replies: &mut ReplyCounts,
     ) -> Result<(), GivenUp>
         requires { IsConnSeatOf pool.now seat.old }
         ensures seat { KeepsSeat pool.now seat.old seat.new }
@@ -209,7 +211,7 @@ impl<'p, S: Source> Exchange<'p, S> {
         ensures stage { OnOk result (self.new.state.intake.stage ≡ self.old.state.intake.stage) }
         ensures given_up { IfErr result (IsGivenUpFor self.new.state.intake.stage) }
     {
-        self.state.answer_ready(pool, seat)
+        self.state.answer_ready(pool, seat, replies)
     }
 
     /// What would let it go on, once what it holds was judged by `ask_held`. Behind `answer_ready` and `sent`, which make room, more of

@@ -12,10 +12,12 @@ mod exchange_state;
 mod intake;
 mod known;
 mod outgoing;
+mod reply_counts;
 mod rest;
 mod window;
 
 pub use exchange::Exchange;
 pub use intake::GivenUp;
 pub use peer_wish::End;
+pub use reply_counts::ReplyCounts;
 pub use rest::Rest;

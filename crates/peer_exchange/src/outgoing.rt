@@ -38,8 +38,8 @@ pub(crate) enum Answered {
     Put { refilled: bool },
 }
 
-// The fill of a claim, where it is there.
-fn look_once<S: Source>(claim: &Claim<S>) -> Option<&Fill<S>>
+/// The fill of a claim, where it is there.
+pub(crate) fn look_once<S: Source>(claim: &Claim<S>) -> Option<&Fill<S>>
     ensures there { IfSome result (λ fill. Looked claim.now None (Some fill.now) (Some fill.now)) }
     ensures none { IfNone result (is_pending claim.now ≡ true) }
 {

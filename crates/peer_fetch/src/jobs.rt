@@ -69,11 +69,13 @@ fn fill_done<'a, S: Source, L: Ledger, G: Gate, H: Wait>(
     let Some(done) = done else {
         return;
     };
-    if let Some(fault) = done.fault() {
-        jobs.plan.failures.count(fault.kind());
-    }
+    let fault = done.fault();
     let endpoint = done.endpoint();
     let (job, outcome) = done.settle(jobs.alloc);
+    if let Some(fault) = fault {
+        let group = job.group().number;
+        jobs.plan.failures.count(group, fault.kind());
+    }
     fill(rt, jobs, seat, endpoint, job, outcome);
 }
 

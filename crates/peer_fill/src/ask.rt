@@ -37,6 +37,7 @@ impl<S: Source, L: Ledger> ConnSeat<S, L> {
         ensures left { left_of self.new ≡ left_of self.old }
     {
         let fill = kept?;
+        self.groups.note_hit(group);
         self.count(Found::Value);
         Some(Claim::Ready(fill))
     }
@@ -95,10 +96,12 @@ impl<S: Source, L: Ledger> Pool<S, L> {
         match ask {
             Err(fault) => Err(fault),
             Ok(Ask::Joined(flight)) => {
+                seat.groups.note_joined(group);
                 seat.count(Found::Flight);
                 Ok(Claim::Pending(flight))
             }
             Ok(Ask::Led(flight, right)) => {
+                seat.groups.note_led(group);
                 seat.left = self.push(rt, &mut seat.pass, Job { right, key });
                 seat.asks.asked += 1;
                 seat.asks.led += 1;
@@ -125,6 +128,7 @@ impl<S: Source, L: Ledger> Pool<S, L> {
         let Some(flight) = found else {
             return Ok(None);
         };
+        seat.groups.note_joined(group);
         seat.count(Found::Flight);
         Ok(Some(Claim::Pending(flight)))
     }

@@ -82,11 +82,11 @@ impl<S: Source, L: Ledger> Pool<S, L> {
             gate.after_take(rt, group, key.as_slice());
             let Some(fill) = self.cached_fill(rt, group, &key) else {
                 seat.fills.calls += 1;
-                self.tell_counts(&seat.fills, gate);
+                self.tell_counts(group, &seat.fills, gate);
                 return Some(TakenJob { right, key });
             };
             seat.fills.rehits += 1;
-            self.tell_counts(&seat.fills, gate);
+            self.tell_counts(group, &seat.fills, gate);
             self.put_and_land(rt, right, fill, gate);
         }
         None

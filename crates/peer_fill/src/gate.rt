@@ -12,8 +12,9 @@ pub trait Gate {
     /// The flight with this number has its fill, and has not landed yet.
     fn after_put<R: Wait>(&self, rt: &R, number: u64, group: GroupId, key: &[u8]);
 
-    /// The seat has counted so many calls by now, as `FillCounts` has them, and found the value of so many jobs kept.
-    fn after_count(&self, _calls: u64, _rehits: u64) {}
+    /// The seat has counted so many calls by now, as `FillCounts` has them, and found the value of so many jobs kept. The last of them is
+    /// of this group.
+    fn after_count(&self, _group: GroupId, _calls: u64, _rehits: u64) {}
 }
 
 /// Holds nobody back.

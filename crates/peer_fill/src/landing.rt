@@ -8,7 +8,7 @@ use crate::counts::FillCounts;
 use crate::gate::Gate;
 use crate::pool::Pool;
 use peer_flight::{FillRight, Put};
-use peer_source::{Fill, Source};
+use peer_source::{Fill, GroupId, Source};
 use peer_wait::lock;
 use std::sync::Wait;
 use std::sync::ledger::Ledger;
@@ -52,11 +52,11 @@ impl<S: Source, L: Ledger> Pool<S, L> {
         self.land(rt, put);
     }
 
-    /// Tells the gate what a seat has counted; and, each time that so many fills were made, one who waits for room.
-    pub(crate) fn tell_counts<G: Gate>(&self, fills: &FillCounts, gate: &G)
+    /// Tells the gate what a seat has counted, the last of it of this group; and, each time that so many fills were made, one who waits for room.
+    pub(crate) fn tell_counts<G: Gate>(&self, group: GroupId, fills: &FillCounts, gate: &G)
         requires { taken_of fills.now ≤ 2 ^ 56 }
     {
-        gate.after_count(fills.calls, fills.rehits);
+        gate.after_count(group, fills.calls, fills.rehits);
         if fills.tells_of_room() {
             self.signals.room.notify_one();
         }

@@ -5,6 +5,7 @@ ghost use Rattle.peer_fill.specs.Counts.{no_asks, no_fills, taken_of};
 ghost use Rattle.peer_fill.specs.Jobs.{pass_log, left_count, Rises};
 
 use crate::counts::{AskCounts, FillCounts, Found};
+use crate::group_asks::{AsksByGroup, AsksOfGroup};
 use crate::jobs::{Job, PassLog};
 use crossbeam_queue::Pass;
 use peer_source::{Evicted, Source};
@@ -21,6 +22,7 @@ pub struct ConnSeat<S: Source, L: Ledger> {
     pub(crate) share: Share<L>,
     pub(crate) parts: u64,
     pub(crate) asks: AskCounts,
+    pub(crate) groups: AsksByGroup,
     // The job of a flight that it led, until the queue has room for it.
     pub(crate) left: Option<Job<S>>,
     ghost has_parts: { (0 < parts) × (parts ≤ 16) },
@@ -72,6 +74,7 @@ impl<S: Source, L: Ledger> ConnSeat<S, L> {
             share,
             parts,
             asks: AskCounts::none(),
+            groups: AsksByGroup::none(),
             left: None,
         }
     }
@@ -117,6 +120,15 @@ impl<S: Source, L: Ledger> ConnSeat<S, L> {
         ensures { result ≡ (asks_of self.now).strangers }
     {
         self.asks.strangers
+    }
+
+    /// The next group that it asked for since what it asked of that was told, with all that it asked of it.
+    pub fn next_untold(&mut self) -> Option<AsksOfGroup>
+        ensures counts { asks_of self.new ≡ asks_of self.old }
+        ensures seat { IsSameConn self.old self.new }
+        ensures left { left_of self.new ≡ left_of self.old }
+    {
+        self.groups.next_untold()
     }
 
     /// Counts an ask that found this.

@@ -64,6 +64,7 @@ impl<S: Source, L: Ledger> Totals<S, L> {
             parts,
             asks,
             left,
+            ..
         } = seat;
         Totals {
             pass,

@@ -45,7 +45,7 @@ impl<S: Source, L: Ledger> Pool<S, L> {
         let made = self.make(alloc, kept, group, key);
         self.keep_made(rt, &made, &mut seat.evicted);
         seat.fills.count(&made);
-        self.tell_counts(&seat.fills, gate);
+        self.tell_counts(group, &seat.fills, gate);
         self.put_and_land(rt, right, made.into_fill(), gate);
         true
     }

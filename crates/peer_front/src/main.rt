@@ -9,6 +9,7 @@ mod check;
 mod config;
 mod end;
 mod exit;
+mod facts;
 mod files;
 mod listen;
 mod names;

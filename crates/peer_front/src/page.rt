@@ -46,8 +46,8 @@ pub fn page_of<H: AllocGlobal + Eprint + Net<Listener = TcpListener, Stream = Tc
         return Err(refuse(rt, &"out of memory or descriptors", OUT_OF_MEMORY));
     };
     let _ = match at {
-        Ok(at) => eprintln!(rt; "peer_front: serves /metrics and /healthz at {at}"),
-        Err(_) => eprintln!(rt; "peer_front: serves /metrics and /healthz at {address}"),
+        Ok(at) => eprintln!(rt; "peer_front: serves /metrics, /readyz and /healthz at {at}"),
+        Err(_) => eprintln!(rt; "peer_front: serves /metrics, /readyz and /healthz at {address}"),
     };
     Ok(Some(Page { server, end }))
 }

@@ -11,6 +11,8 @@ use peer_fill::Report;
 use peer_loop::{ServerFault, Settings, serve_fetching};
 use peer_runtime::Host;
 use peer_source::Source;
+use peer_stats::ServerFacts;
+use std::fs::Files;
 use std::net::TcpListener;
 use std::sync::Wait;
 use std::thread;
@@ -22,8 +24,8 @@ pub struct Service<'a, S: Source> {
     pub source: S,
     pub listener: TcpListener,
     pub settings: &'a Settings<'a>,
-    /// The names of its groups, in the order of their numbers.
-    pub names: &'a [Vec<u8>],
+    /// What it is, for its page.
+    pub facts: ServerFacts<'a>,
     /// What threads fetch, where they do.
     pub plan: Option<FetchPlan<'a>>,
 }
@@ -76,7 +78,7 @@ fn serve_beside<
 }
 
 // Serves while the page is served, where one is asked for.
-fn serve_paged<S: Source + Send + Sync, H: AllocGlobal + Host>(
+fn serve_paged<S: Source + Send + Sync, H: AllocGlobal + Files + Host>(
     rt: &H,
     service: Service<'_, S>,
     page: Option<Page>,
@@ -87,10 +89,10 @@ fn serve_paged<S: Source + Send + Sync, H: AllocGlobal + Host>(
         return serve_planned(rt, service);
     };
     let end = &end;
-    let (counters, names) = (service.settings.counters, service.names);
+    let (counters, facts) = (service.settings.counters, service.facts);
     serve_beside(
         rt,
-        move || server.run(rt, counters, names, end),
+        move || server.run(rt, counters, facts, end),
         move || end.end(),
         move || -> Result<Report, ServerFault>
             requires { IfSome service.plan (Allows (S.answers service.source)) }
@@ -99,7 +101,7 @@ fn serve_paged<S: Source + Send + Sync, H: AllocGlobal + Host>(
 }
 
 // Serves, and looks names of services up again where there are some.
-fn serve_named<S: Source + Send + Sync, H: AllocGlobal + Host>(
+fn serve_named<S: Source + Send + Sync, H: AllocGlobal + Files + Host>(
     rt: &H,
     service: Service<'_, S>,
     page: Option<Page>,
@@ -124,7 +126,7 @@ fn serve_named<S: Source + Send + Sync, H: AllocGlobal + Host>(
 
 /// Serves while troubles are told and the page is served, where one is asked for, and ends both behind it. Where there is a
 /// plan, threads fetch by it.
-pub fn serve_watched<S: Source + Send + Sync, H: AllocGlobal + Eprint + Host>(
+pub fn serve_watched<S: Source + Send + Sync, H: AllocGlobal + Eprint + Files + Host>(
     rt: &H,
     service: Service<'_, S>,
     page: Option<Page>,

@@ -5,12 +5,13 @@ ghost use Rattle.peer_fetch.specs.Threads.{Allows};
 use crate::check::say_checked;
 use crate::config::{ConfigFile, say_flag};
 use crate::exit::{BAD_WORD, DONE, Exit, NO_SEED, OUT_OF_MEMORY, no_output, refuse};
+use crate::facts::{facts_of, served_groups};
 use crate::files::within_files;
 use crate::listen::listen;
 use crate::page::{Page, page_of};
 use crate::running::{Service, serve_watched};
 use crate::said::{FilledBy, say_caches, say_listening, say_prefixes, say_serving, say_totals};
-use crate::source::{fetch_settings, group_names, source_of};
+use crate::source::{fetch_settings, source_of};
 use crate::until_eof::stop_of;
 use peer_fetch::FetchPlan;
 use peer_fill::{CachePlan, Caching, Report};
@@ -19,7 +20,7 @@ use peer_groups::{FrontSource, fetched_of};
 use peer_loop::{Fillers, ServerFault, Settings, Stop};
 use peer_runtime::{Host, Limits};
 use peer_source::Source;
-use peer_stats::Counters;
+use peer_stats::{Counters, ServerFacts};
 use std::fs::Files;
 use std::hash::RandomState;
 use std::io::Read;
@@ -47,8 +48,7 @@ fn who_fills(options: &Options<'_>, has_services: bool) -> FilledBy {
 #[derive(Clone, Copy)]
 struct Outside<'a> {
     counters: &'a Counters,
-    // The names of the groups, in the order of their numbers.
-    names: &'a [Vec<u8>],
+    facts: ServerFacts<'a>,
     stop: &'a Stop,
 }
 
@@ -116,7 +116,10 @@ fn open<H: AllocGlobal + Eprint + RandomSource + Host>(
 }
 
 // Serves this source, or says why not.
-fn serve_source<S: Source + Send + Sync, H: AllocGlobal + Print + Eprint + RandomSource + Host>(
+fn serve_source<
+    S: Source + Send + Sync,
+    H: AllocGlobal + Print + Eprint + Files + RandomSource + Host,
+>(
     rt: &H,
     options: &Options<'_>,
     source: S,
@@ -147,7 +150,7 @@ fn serve_source<S: Source + Send + Sync, H: AllocGlobal + Print + Eprint + Rando
         source,
         listener,
         settings: &settings,
-        names: outside.names,
+        facts: outside.facts,
         plan,
     };
     let served = serve_watched(rt, service, page);
@@ -202,7 +205,7 @@ fn serve<
     let (Some(fetched), Ok(stop)) = (fetched_of(rt.alloc(), &source), stop_of(rt, options)) else {
         return refuse(rt, &"out of memory, threads or descriptors", OUT_OF_MEMORY);
     };
-    let Some(names) = group_names(rt.alloc(), &source, words) else {
+    let Some(groups) = served_groups(rt.alloc(), &source, words, options) else {
         return refuse(rt, &"out of memory", OUT_OF_MEMORY);
     };
     let plan = if has_services {
@@ -215,7 +218,7 @@ fn serve<
     };
     let outside = Outside {
         counters: &counters,
-        names: names.as_slice(),
+        facts: facts_of(options, has_services, groups.as_slice()),
         stop: &stop,
     };
     serve_source(rt, options, source, plan, outside)

@@ -4,14 +4,11 @@ use crate::config::{ConfigFile, Said, check_tabled, say_flag, say_group};
 use crate::exit::{BAD_WORD, Exit, OUT_OF_MEMORY, refuse};
 use crate::table::read_table;
 use peer_flags::Options;
-use peer_groups::{
-    Beside, DEMO_NAMES, FrontSource, GroupFault, Maybe, first_in, names_of, origins_of,
-};
+use peer_groups::{Beside, DEMO_NAMES, FrontSource, GroupFault, Maybe, first_in, origins_of};
 use peer_origin::{FetchSettings, Origin, OriginSource};
 use peer_runtime::Network;
 use peer_source::{DemoSource, MAX_GROUPS, Source};
 use peer_table::TableSource;
-use std::alloc::Global;
 use std::fs::Files;
 
 // The table that is asked for, if one is.
@@ -147,10 +144,4 @@ pub fn source_of<H: AllocGlobal + Eprint + Files + Network>(
             Err(exit)
         }
     }
-}
-
-/// The names of the groups of the source that these words ask for, in the order of their numbers. None where memory is
-/// refused.
-pub fn group_names(alloc: Global, source: &FrontSource, words: &[&str]) -> Option<Vec<Vec<u8>>> {
-    names_of(alloc, source, &source.first().first().source, words)
 }

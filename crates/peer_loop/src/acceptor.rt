@@ -8,6 +8,7 @@ use crate::stop::Stop;
 use mio::net::TcpStream;
 use peer_runtime::{Network, lacks_files, would_block};
 use peer_site::Site;
+use peer_stats::Stage;
 use std::{io, thread};
 
 /// Where a server gets its clients.
@@ -133,7 +134,9 @@ impl<'a> Acceptor<'a> {
     /// to. Then it lets go of the listener, so that whoever comes later is refused at once, and another server can have the
     /// address while the loops answer what was asked.
     pub fn run<H: Network>(mut self, rt: &H) {
+        self.site.counters.publish_stage(Stage::Serves);
         self.accept_all(rt);
+        self.site.counters.publish_stage(Stage::Ends);
         let Acceptor {
             listening,
             site,

@@ -34,7 +34,8 @@ impl<'a> Gate for FillGate<'a> {
         self.mailboxes.tell(slot_of(number));
     }
 
-    fn after_count(&self, calls: u64, rehits: u64) {
-        self.slot.publish(FillerCounts { calls, rehits });
+    fn after_count(&self, group: GroupId, calls: u64, rehits: u64) {
+        let counts = FillerCounts { calls, rehits };
+        self.slot.publish(group.number, counts);
     }
 }

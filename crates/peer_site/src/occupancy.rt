@@ -91,9 +91,14 @@ impl Occupancy {
         }
     }
 
+    /// How many bytes the clients hold that hold more than each may.
+    pub fn held(&self) -> usize {
+        self.held.load(SeqCst)
+    }
+
     /// Whether the clients together hold too much.
     pub fn holds_too_much(&self) -> bool {
-        self.held.load(SeqCst) > self.most_held
+        self.held() > self.most_held
     }
 
     /// The thread that accepts is about to wait for a place: it is woken once one is left. It looks behind this.

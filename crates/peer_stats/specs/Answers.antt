@@ -10,7 +10,8 @@ is_reading method = bytes_eq method (codes "GET") || bytes_eq method (codes "HEA
 -- the page at a path
 abbrev pub page_at : List ℕ → Answer
 page_at path = cond (bytes_eq path (codes "/metrics")) answer.Metrics
-    (cond (bytes_eq path (codes "/healthz")) answer.Health answer.NotFound)
+    (cond (bytes_eq path (codes "/healthz")) answer.Health
+    (cond (bytes_eq path (codes "/readyz")) answer.Ready answer.NotFound))
 
 -- by its method and its path
 abbrev pub answer_to : List ℕ → List ℕ → Answer

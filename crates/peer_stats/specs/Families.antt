@@ -1,18 +1,33 @@
 -- What the page is made of, in Prometheus' text format 0.0.4.
-use Rattle.std.specs.Prelude.{ℕ, List, ◌++◌, codes, decimal}
+use Rattle.std.specs.Prelude.{ℕ, ◌/◌, ◌%◌, List, [], ◌∷◌, ◌++◌, Option, Some, None, codes, decimal}
+use Rattle.std.specs.Char.{digit_char}
 
 -- what a name is for, and its type
 abbrev pub family_text : List ℕ → List ℕ → List ℕ → List ℕ
 family_text name kind help =
-    codes "# HELP peer_front_" ++ name ++ codes " " ++ help ++ codes "\n# TYPE peer_front_" ++ name ++ codes " " ++ kind ++ codes "\n"
+    codes "# HELP " ++ name ++ codes " " ++ help ++ codes "\n# TYPE " ++ name ++ codes " " ++ kind ++ codes "\n"
 
 -- a number and the end of its line
 abbrev pub number_text : ℕ → List ℕ
 number_text value = decimal value ++ codes "\n"
 
+-- a number that may be without a bound
+abbrev pub bound_text : Option ℕ → List ℕ
+bound_text (Some value) = number_text value
+bound_text None = codes "+Inf\n"
+
+-- so many hundredths
+abbrev pub hundredths_text : ℕ → List ℕ
+hundredths_text value =
+    decimal (value / 100) ++ codes "." ++ (digit_char (value / 10 % 10) ∷ digit_char (value % 10) ∷ []) ++ codes "\n"
+
 -- a number with its name
 abbrev pub sample_text : List ℕ → ℕ → List ℕ
-sample_text name value = codes "peer_front_" ++ name ++ codes " " ++ number_text value
+sample_text name value = name ++ codes " " ++ number_text value
+
+-- a number with its name and a label
+abbrev pub labelled_text : List ℕ → List ℕ → ℕ → List ℕ
+labelled_text name label value = name ++ codes "{" ++ label ++ codes "} " ++ number_text value
 
 -- a number that never falls
 abbrev pub counter_text : List ℕ → ℕ → List ℕ → List ℕ

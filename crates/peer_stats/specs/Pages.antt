@@ -1,58 +1,148 @@
 -- The page of numbers, in Prometheus' text format 0.0.4.
-use Rattle.std.specs.Prelude.{ℕ, List, ◌++◌, codes}
-use Rattle.peer_stats.specs.Families.{counter_text, family_text, gauge_text, number_text}
+use Rattle.std.specs.Prelude.{ℕ, ◌-◌, List, [], ◌++◌, Bool, Option, Some, None, codes, cond}
+use Rattle.peer_stats.specs.Families.{bound_text, counter_text, family_text, gauge_text, hundredths_text, labelled_text}
 use Rattle.peer_stats.specs.Groups.{groups_text}
+use Rattle.peer_stats.specs.Labels.{label_text}
 use Rattle.peer_stats.specs.declared.counts.LoopCounts.{LoopCounts}
 use Rattle.peer_stats.specs.declared.counts.FillerCounts.{FillerCounts}
 use Rattle.peer_stats.specs.declared.counts.AcceptCounts.{AcceptCounts}
+use Rattle.peer_stats.specs.declared.counts.CloseCounts.{CloseCounts}
+use Rattle.peer_stats.specs.declared.counts.ReplyCounts.{ReplyCounts}
 use Rattle.peer_stats.specs.declared.counts.FailureCounts.{FailureCounts}
 use Rattle.peer_stats.specs.declared.counts.Counts.{Counts}
 use Rattle.peer_stats.specs.declared.counts.GroupCounts.{GroupCounts}
+use Rattle.peer_stats.specs.declared.numbers.Build.{Build}
+use Rattle.peer_stats.specs.declared.numbers.Numbers.{Numbers}
+use Rattle.peer_stats.specs.declared.numbers.ProcessCounts.{ProcessCounts}
+use Rattle.peer_stats.specs.declared.numbers.ServerBounds.{ServerBounds}
+
+-- the version of the program, and the logic of its toolchain
+abbrev pub build_text : Build → List ℕ
+build_text b =
+    family_text (codes "peer_front_build_info") (codes "gauge")
+    (codes "Version of the program, and the logic of the toolchain that it is proved with; always 1.")
+    ++ codes "peer_front_build_info{version=\"" ++ label_text b.version.now ++ codes "\",toolchain=\"" ++ label_text b.toolchain.now
+    ++ codes "\"} 1\n"
+
+-- the keys that were led and that nobody has taken yet
+abbrev pub queued : Counts → ℕ
+queued c = c.loops.led - c.fillers.calls - c.fillers.rehits
 
 -- what loops have counted
 abbrev pub loops_text : LoopCounts → List ℕ
 loops_text c =
-    counter_text (codes "asked_total") c.asked (codes "Values asked for.")
-    ++ counter_text (codes "hits_total") c.hits (codes "Asks that a cache answered.")
-    ++ counter_text (codes "led_total") c.led (codes "Asks that began a flight.")
-    ++ counter_text (codes "joined_total") c.joined (codes "Asks that joined a flight under way.")
-    ++ counter_text (codes "strangers_total") c.strangers (codes "Fills of another key than was asked for.")
+    counter_text (codes "peer_front_asked_total") c.asked (codes "Values asked for.")
+    ++ counter_text (codes "peer_front_hits_total") c.hits (codes "Asks that a cache answered.")
+    ++ counter_text (codes "peer_front_led_total") c.led (codes "Asks that began a flight.")
+    ++ counter_text (codes "peer_front_joined_total") c.joined (codes "Asks that joined a flight under way.")
+    ++ counter_text (codes "peer_front_strangers_total") c.strangers (codes "Fills of another key than was asked for.")
 
 -- what fillers have counted
 abbrev pub fillers_text : FillerCounts → List ℕ
 fillers_text c =
-    counter_text (codes "calls_total") c.calls (codes "Flights that were taken for a call of the source.")
-    ++ counter_text (codes "rehits_total") c.rehits (codes "Flights whose value a cache had by then.")
+    counter_text (codes "peer_front_calls_total") c.calls (codes "Flights that were taken for a call of the source.")
+    ++ counter_text (codes "peer_front_rehits_total") c.rehits (codes "Flights whose value a cache had by then.")
 
 -- connections: those that are open, and what the thread that accepts has counted
 abbrev pub connections_text : ℕ → AcceptCounts → List ℕ
 connections_text connected c =
-    gauge_text (codes "connections") connected (codes "Connections that are open.")
-    ++ counter_text (codes "connections_accepted_total") c.accepted (codes "Connections accepted.")
-    ++ counter_text (codes "accept_failures_total") c.failed (codes "Accepts that failed.")
+    gauge_text (codes "peer_front_connections") connected (codes "Connections that are open.")
+    ++ counter_text (codes "peer_front_connections_accepted_total") c.accepted (codes "Connections accepted.")
+    ++ counter_text (codes "peer_front_accept_failures_total") c.failed (codes "Accepts that failed.")
 
--- the failures of one kind
-abbrev pub kind_text : List ℕ → ℕ → List ℕ
-kind_text kind value =
-    codes "peer_front_origin_failures_total{kind=\"" ++ kind ++ codes "\"} " ++ number_text value
+-- the connections that ended, by why
+abbrev pub closes_text : CloseCounts → List ℕ
+closes_text c =
+    family_text (codes "peer_front_connections_closed_total") (codes "counter")
+    (codes "Connections that ended, by why: client, reply, silent, slow, crowded, memory, end.")
+    ++ labelled_text (codes "peer_front_connections_closed_total") (codes "reason=\"client\"") c.client
+    ++ labelled_text (codes "peer_front_connections_closed_total") (codes "reason=\"reply\"") c.reply
+    ++ labelled_text (codes "peer_front_connections_closed_total") (codes "reason=\"silent\"") c.silent
+    ++ labelled_text (codes "peer_front_connections_closed_total") (codes "reason=\"slow\"") c.slow
+    ++ labelled_text (codes "peer_front_connections_closed_total") (codes "reason=\"crowded\"") c.crowded
+    ++ labelled_text (codes "peer_front_connections_closed_total") (codes "reason=\"memory\"") c.memory
+    ++ labelled_text (codes "peer_front_connections_closed_total") (codes "reason=\"end\"") c.end
+
+-- the replies, by their status codes
+abbrev pub replies_text : ReplyCounts → List ℕ
+replies_text c =
+    family_text (codes "peer_front_replies_total") (codes "counter") (codes "Replies by their status code.")
+    ++ labelled_text (codes "peer_front_replies_total") (codes "code=\"200\"") c.ok
+    ++ labelled_text (codes "peer_front_replies_total") (codes "code=\"400\"") c.bad_request
+    ++ labelled_text (codes "peer_front_replies_total") (codes "code=\"404\"") c.not_found
+    ++ labelled_text (codes "peer_front_replies_total") (codes "code=\"405\"") c.not_allowed
+    ++ labelled_text (codes "peer_front_replies_total") (codes "code=\"413\"") c.content_too_large
+    ++ labelled_text (codes "peer_front_replies_total") (codes "code=\"431\"") c.head_too_large
+    ++ labelled_text (codes "peer_front_replies_total") (codes "code=\"500\"") c.failed
+    ++ labelled_text (codes "peer_front_replies_total") (codes "code=\"501\"") c.not_implemented
+    ++ counter_text (codes "peer_front_unknown_groups_total") c.unknown_groups (codes "Requests for a group that is not served here.")
 
 -- the failures of origins
 abbrev pub failures_text : FailureCounts → List ℕ
 failures_text c =
-    family_text (codes "origin_failures_total") (codes "counter") (codes "Calls for which an origin gave no value.")
-    ++ kind_text (codes "no_such_key") c.no_such_key ++ kind_text (codes "status") c.status
-    ++ kind_text (codes "unreached") c.unreached ++ kind_text (codes "late") c.late
-    ++ kind_text (codes "lost") c.lost ++ kind_text (codes "malformed") c.malformed
-    ++ kind_text (codes "too_long") c.too_long ++ kind_text (codes "memory") c.memory
+    family_text (codes "peer_front_origin_failures_total") (codes "counter") (codes "Calls for which an origin gave no value.")
+    ++ labelled_text (codes "peer_front_origin_failures_total") (codes "kind=\"no_such_key\"") c.no_such_key
+    ++ labelled_text (codes "peer_front_origin_failures_total") (codes "kind=\"status\"") c.status
+    ++ labelled_text (codes "peer_front_origin_failures_total") (codes "kind=\"unreached\"") c.unreached
+    ++ labelled_text (codes "peer_front_origin_failures_total") (codes "kind=\"late\"") c.late
+    ++ labelled_text (codes "peer_front_origin_failures_total") (codes "kind=\"lost\"") c.lost
+    ++ labelled_text (codes "peer_front_origin_failures_total") (codes "kind=\"malformed\"") c.malformed
+    ++ labelled_text (codes "peer_front_origin_failures_total") (codes "kind=\"too_long\"") c.too_long
+    ++ labelled_text (codes "peer_front_origin_failures_total") (codes "kind=\"memory\"") c.memory
 
--- the process
-abbrev pub process_text : ℕ → ℕ → List ℕ
-process_text cached seconds =
-    gauge_text (codes "cache_bytes") cached (codes "Bytes in all caches: keys, values and what holds them.")
-    ++ gauge_text (codes "uptime_seconds") seconds (codes "Seconds since the start.")
+-- how much the server may have at one moment
+abbrev pub bounds_text : ServerBounds → List ℕ
+bounds_text b =
+    gauge_text (codes "peer_front_connections_limit") b.connections (codes "Connections that may be open.")
+    ++ gauge_text (codes "peer_front_under_way_limit") b.under_way (codes "Values that may be under way, on all fetchers together.")
+    ++ gauge_text (codes "peer_front_untaken_limit_bytes") b.untaken_bytes (codes "Bytes that clients may have that they have not taken.")
+
+-- how many they are
+abbrev pub queued_text : Counts → List ℕ
+queued_text c = gauge_text (codes "peer_front_jobs_queued") (queued c) (codes "Keys that were led and that nobody has taken yet.")
+
+-- whether clients are served
+abbrev pub ready_text : Bool → List ℕ
+ready_text is_ready = gauge_text (codes "peer_front_ready") (cond is_ready 1 0) (codes "Whether /readyz is answered by 200.")
+
+-- what the server has at the moment
+abbrev pub held_text : Numbers → List ℕ
+held_text n =
+    queued_text n.counts
+    ++ gauge_text (codes "peer_front_untaken_bytes") n.counts.untaken_bytes (codes "Bytes that clients have not taken.")
+    ++ gauge_text (codes "peer_front_cache_bytes") n.counts.cache_bytes (codes "Bytes in all caches: keys, values and what holds them.")
+    ++ ready_text n.is_ready
+    ++ gauge_text (codes "peer_front_uptime_seconds") n.seconds (codes "Seconds since the start.")
+
+-- what the system tells of the process
+abbrev pub process_text : ProcessCounts → List ℕ
+process_text p =
+    family_text (codes "process_cpu_seconds_total") (codes "counter") (codes "Seconds of processors that the process took.")
+    ++ codes "process_cpu_seconds_total "
+    ++ hundredths_text p.cpu_hundredths
+    ++ family_text (codes "process_start_time_seconds") (codes "gauge") (codes "When the process was started, in seconds since 1970.")
+    ++ codes "process_start_time_seconds "
+    ++ hundredths_text p.start_hundredths
+    ++ gauge_text (codes "process_resident_memory_bytes") p.resident_bytes (codes "Bytes of memory that the process has.")
+    ++ gauge_text (codes "process_virtual_memory_bytes") p.virtual_bytes (codes "Bytes of addresses that the process has.")
+    ++ gauge_text (codes "process_threads") p.threads (codes "Threads of the process.")
+    ++ gauge_text (codes "process_open_fds") p.open_files (codes "Files that the process has open.")
+    ++ family_text (codes "process_max_fds") (codes "gauge") (codes "Files that the process may open; +Inf without such a limit.")
+    ++ codes "process_max_fds "
+    ++ bound_text p.most_files
+
+-- the same, if it tells it
+abbrev pub some_process_text : Option ProcessCounts → List ℕ
+some_process_text (Some p) = process_text p
+some_process_text None = []
+
+-- what threads have counted
+abbrev pub counts_text : Counts → List ℕ
+counts_text c =
+    loops_text c.loops ++ fillers_text c.fillers ++ connections_text c.loops.connections c.accepts
+    ++ closes_text c.closes ++ replies_text c.replies ++ failures_text c.failures
 
 -- the whole page
-abbrev pub page_text : Counts → List GroupCounts → ℕ → List ℕ
-page_text c groups seconds =
-    loops_text c.loops ++ fillers_text c.fillers ++ connections_text c.loops.connections c.accepts
-    ++ failures_text c.failures ++ groups_text groups ++ process_text c.cache_bytes seconds
+abbrev pub page_text : Numbers → List GroupCounts → Build → List ℕ
+page_text n groups build =
+    build_text build ++ counts_text n.counts ++ groups_text groups ++ bounds_text n.bounds ++ held_text n ++ some_process_text n.process

@@ -7,8 +7,10 @@ ghost use Rattle.peer_stats.specs.Answers.{answer_to, is_reading, page_at};
 pub enum Answer {
     /// The numbers.
     Metrics,
-    /// That the server lives.
+    /// Whether a loop stands still.
     Health,
+    /// Whether clients are served.
+    Ready,
     /// 404: there is no such page.
     NotFound,
     /// 405: only GET and HEAD are answered.
@@ -31,6 +33,9 @@ fn page_at(path: &[u8]) -> Answer
     }
     if path == b"/healthz".as_slice() {
         return Answer::Health;
+    }
+    if path == b"/readyz".as_slice() {
+        return Answer::Ready;
     }
     Answer::NotFound
 }

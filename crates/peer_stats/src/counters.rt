@@ -1,8 +1,13 @@
 //! What all threads of a server share to count.
 ghost use Rattle.std.specs.Prelude.{◌≡◌, IfOk, map};
 
-use crate::counts::{Counts, FillerCounts, GroupCounts, LoopCounts};
-use crate::slots::{AcceptSlot, CacheSlot, FailureSlots, FillerSlot, LoopSlot};
+use crate::counts::{
+    AskCounts, CloseCounts, Counts, FillerCounts, GroupCounts, LoopCounts, ReplyCounts,
+};
+use crate::facts::ServedGroup;
+use crate::slots::{AcceptSlot, CacheSlot, FailureSlots, FillerSlot, LoopSlot, MAX_GROUPS};
+use crate::state::Stage;
+use crate::still::Looks;
 use crossbeam_utils::CachePadded;
 use std::alloc::{AllocError, Global};
 use std::sync::atomic::AtomicU64;
@@ -11,8 +16,18 @@ use std::sync::atomic::Ordering::SeqCst;
 // How many slots there are of each kind: the most seats of a kind that a pool has.
 const MAX_SLOTS: usize = 16;
 
-// How many slots there are for groups: the most groups that a pool has.
-const MAX_GROUPS: usize = 64;
+// The stages of a server as numbers.
+const STARTS: u64 = 0;
+
+const SERVES: u64 = 1;
+
+const ENDS: u64 = 2;
+
+/// What looks at each loop have found.
+pub(crate) type LoopLooks = [Looks; MAX_SLOTS];
+
+/// There was no look at any loop.
+pub(crate) const NO_LOOKS: LoopLooks = [Looks::NONE; MAX_SLOTS];
 
 /// The slots of a server. No two threads write the same line of memory, but where origins fail and where the bytes of the
 /// caches are published.
@@ -24,6 +39,8 @@ pub struct Counters {
     accepts: CachePadded<AcceptSlot>,
     failures: CachePadded<FailureSlots>,
     cache_bytes: CachePadded<AtomicU64>,
+    untaken_bytes: CachePadded<AtomicU64>,
+    stage: CachePadded<AtomicU64>,
 }
 
 impl Counters {
@@ -36,6 +53,8 @@ impl Counters {
             accepts: Default::default(),
             failures: Default::default(),
             cache_bytes: Default::default(),
+            untaken_bytes: Default::default(),
+            stage: Default::default(),
         }
     }
 
@@ -69,6 +88,40 @@ impl Counters {
         self.cache_bytes.store(bytes, SeqCst);
     }
 
+    /// Clients have so many bytes that they have not taken.
+    pub fn publish_untaken_bytes(&self, bytes: u64) {
+        self.untaken_bytes.store(bytes, SeqCst);
+    }
+
+    /// The server is so far.
+    pub fn publish_stage(&self, stage: Stage) {
+        let number = match stage {
+            Stage::Starts => STARTS,
+            Stage::Serves => SERVES,
+            Stage::Ends => ENDS,
+        };
+        self.stage.store(number, SeqCst);
+    }
+
+    /// How far the server is.
+    pub fn stage(&self) -> Stage {
+        match self.stage.load(SeqCst) {
+            STARTS => Stage::Starts,
+            SERVES => Stage::Serves,
+            _ => Stage::Ends,
+        }
+    }
+
+    /// Looks at each loop once more. Whether one stands still.
+    pub(crate) fn look_at_loops(&self, looks: &mut LoopLooks) -> bool {
+        let mut stands_still = false;
+        for number in 0..MAX_SLOTS {
+            looks[number] = looks[number].and(self.loops[number].read_turn());
+            stands_still |= looks[number].stands_still();
+        }
+        stands_still
+    }
+
     // What all loops have published.
     fn read_loops(&self) -> LoopCounts {
         let mut sum = LoopCounts::NONE;
@@ -87,19 +140,60 @@ impl Counters {
         sum
     }
 
-    /// The groups of these names, which stand in the order of their numbers, with what was published of their caches.
+    // The replies that all loops have published.
+    fn read_replies(&self) -> ReplyCounts {
+        let mut sum = ReplyCounts::NONE;
+        for slot in &self.loops {
+            sum = sum.plus(slot.read_replies());
+        }
+        sum
+    }
+
+    // The connections of all loops that ended.
+    fn read_closes(&self) -> CloseCounts {
+        let mut sum = CloseCounts::NONE;
+        for slot in &self.loops {
+            sum = sum.plus(slot.read_closes());
+        }
+        sum
+    }
+
+    // What all loops have published of the group with this number.
+    fn read_asks(&self, group: usize) -> AskCounts {
+        let mut sum = AskCounts::NONE;
+        for slot in &self.loops {
+            sum = sum.plus(slot.read_group(group));
+        }
+        sum
+    }
+
+    // What all fillers have counted of the group with this number.
+    fn read_fills(&self, group: usize) -> FillerCounts {
+        let mut sum = FillerCounts::NONE;
+        for slot in &self.fillers {
+            sum = sum.plus(slot.read_group(group));
+        }
+        sum
+    }
+
+    /// These groups, which stand in the order of their numbers, with what was published of them.
     pub fn read_groups<'n>(
         &self,
         alloc: Global,
-        names: &'n [Vec<u8>],
+        served: &'n [ServedGroup],
     ) -> Result<Vec<GroupCounts<'n>>, AllocError>
-        ensures names { IfOk result (λ groups. map (λ g. g.name.now) groups.items ≡ map (λ n. n.items) names.now) }
+        ensures names { IfOk result (λ groups. map (λ g. g.name.now) groups.items ≡ map (λ s. s.name.items) served.now) }
+        ensures limits { IfOk result (λ groups. map (λ g. g.limits) groups.items ≡ map (λ s. s.limits) served.now) }
     {
         let mut groups = Vec::new(alloc);
-        for (number, name) in names.iter().enumerate() {
+        for (number, group) in served.iter().enumerate() {
             groups.push(GroupCounts {
-                name: name.as_slice(),
+                name: group.name.as_slice(),
+                asks: self.read_asks(number),
+                fills: self.read_fills(number),
+                failures: self.failures.read_group(number),
                 cache: self.of_group(number).read(),
+                limits: group.limits,
             })?;
         }
         Ok(groups)
@@ -109,10 +203,13 @@ impl Counters {
     pub fn read(&self) -> Counts {
         Counts {
             loops: self.read_loops(),
+            replies: self.read_replies(),
+            closes: self.read_closes(),
             fillers: self.read_fillers(),
             accepts: self.accepts.read(),
             failures: self.failures.read(),
             cache_bytes: self.cache_bytes.load(SeqCst),
+            untaken_bytes: self.untaken_bytes.load(SeqCst),
         }
     }
 }

@@ -1,7 +1,10 @@
 //! What the page is made of: names, what they are for, and numbers.
 ghost use Rattle.std.specs.Prelude.{◌≡◌, ◌++◌, codes, decimal, OnOk};
-ghost use Rattle.peer_stats.specs.Families.{counter_text, family_text, gauge_text, number_text, sample_text};
+ghost use Rattle.std.specs.Char.{digit_char};
+ghost use Rattle.peer_stats.specs.Families.{bound_text, counter_text, family_text, gauge_text, hundredths_text, labelled_text};
+ghost use Rattle.peer_stats.specs.Families.{number_text, sample_text};
 
+use crate::label::decimal_digit;
 use itoa::Buffer;
 use std::alloc::AllocError;
 
@@ -14,11 +17,11 @@ pub(crate) fn put_family(
 ) -> Result<(), AllocError>
     ensures { OnOk result (page.new.items ≡ page.old.items ++ family_text name.now kind.now help.now) }
 {
-    page.extend_from_slice(b"# HELP peer_front_")?;
+    page.extend_from_slice(b"# HELP ")?;
     page.extend_from_slice(name)?;
     page.extend_from_slice(b" ")?;
     page.extend_from_slice(help)?;
-    page.extend_from_slice(b"\n# TYPE peer_front_")?;
+    page.extend_from_slice(b"\n# TYPE ")?;
     page.extend_from_slice(name)?;
     page.extend_from_slice(b" ")?;
     page.extend_from_slice(kind)?;
@@ -35,27 +38,53 @@ pub(crate) fn put_number(page: &mut Vec<u8>, value: u64) -> Result<(), AllocErro
     Ok(())
 }
 
-/// Appends a number behind its name, which stands between these texts.
-pub(crate) fn put_between(
-    page: &mut Vec<u8>,
-    before: &[u8],
-    name: &[u8],
-    behind: &[u8],
-    value: u64,
-) -> Result<(), AllocError>
-    ensures { OnOk result (page.new.items ≡ page.old.items ++ before.now ++ name.now ++ behind.now ++ number_text value) }
+/// Appends a number that may be without a bound, and the end of its line.
+pub(crate) fn put_bound(page: &mut Vec<u8>, value: Option<u64>) -> Result<(), AllocError>
+    ensures { OnOk result (page.new.items ≡ page.old.items ++ bound_text value) }
 {
-    page.extend_from_slice(before)?;
-    page.extend_from_slice(name)?;
-    page.extend_from_slice(behind)?;
-    put_number(page, value)
+    match value {
+        Some(number) => put_number(page, number),
+        None => page.extend_from_slice(b"+Inf\n"),
+    }
+}
+
+/// Appends so many hundredths, and the end of their line.
+pub(crate) fn put_hundredths(page: &mut Vec<u8>, value: u64) -> Result<(), AllocError>
+    ensures { OnOk result (page.new.items ≡ page.old.items ++ hundredths_text value) }
+{
+    page.extend_from_slice(Buffer::new().format(value / 100).as_bytes())?;
+    page.extend_from_slice(b".")?;
+    page.push(decimal_digit((value / 10 % 10) as u8))?;
+    page.push(decimal_digit((value % 10) as u8))?;
+    page.extend_from_slice(b"\n")?;
+    Ok(())
 }
 
 // Appends a number with its name.
 fn put_sample(page: &mut Vec<u8>, name: &[u8], value: u64) -> Result<(), AllocError>
     ensures { OnOk result (page.new.items ≡ page.old.items ++ sample_text name.now value) }
 {
-    put_between(page, b"peer_front_", name, b" ", value)
+    page.extend_from_slice(name)?;
+    page.extend_from_slice(b" ")?;
+    put_number(page, value)?;
+    Ok(())
+}
+
+/// Appends a number with its name and a label.
+pub(crate) fn put_labelled(
+    page: &mut Vec<u8>,
+    name: &[u8],
+    label: &[u8],
+    value: u64,
+) -> Result<(), AllocError>
+    ensures { OnOk result (page.new.items ≡ page.old.items ++ labelled_text name.now label.now value) }
+{
+    page.extend_from_slice(name)?;
+    page.extend_from_slice(b"{")?;
+    page.extend_from_slice(label)?;
+    page.extend_from_slice(b"} ")?;
+    put_number(page, value)?;
+    Ok(())
 }
 
 /// Appends a number that never falls.

@@ -1,132 +1,301 @@
-//! What the page tells of the caches of groups.
+//! What the page tells of groups.
 ghost use Rattle.std.specs.Prelude.{◌≡◌, ◌++◌, codes, flat_map, OnOk};
-ghost use Rattle.peer_stats.specs.Groups.{bytes_text, cache_text, entries_text, evictions_text, groups_text, rejected_text};
+ghost use Rattle.peer_stats.specs.Groups.{asks_text, calls_text, each_text, group_failures_text, group_text, groups_text};
+ghost use Rattle.peer_stats.specs.Groups.{kept_text, limits_text, lost_text};
 
 use crate::counts::GroupCounts;
-use crate::family::{put_family, put_number};
+use crate::family::{put_bound, put_family};
+use crate::group_number::GroupNumber;
 use crate::label::put_label;
 use std::alloc::AllocError;
 
-// Appends a number of the cache of a group, with the family that it belongs to and the labels that follow the group's.
-fn put_cache(
+// Appends a number of a group, with its name and the labels that follow the group's.
+fn put_group(
     page: &mut Vec<u8>,
-    family: &[u8],
-    group: &GroupCounts<'_>,
+    name: &[u8],
     labels: &[u8],
-    value: u64,
+    number: GroupNumber,
+    group: &GroupCounts<'_>,
 ) -> Result<(), AllocError>
-    ensures { OnOk result (page.new.items ≡ page.old.items ++ cache_text family.now group.now labels.now value) }
+    ensures { OnOk result (page.new.items ≡ page.old.items ++ group_text name.now labels.now number group.now) }
 {
-    page.extend_from_slice(b"peer_front_group_cache_")?;
-    page.extend_from_slice(family)?;
+    page.extend_from_slice(name)?;
     page.extend_from_slice(b"{group=\"")?;
     put_label(page, group.name)?;
     page.extend_from_slice(b"\"")?;
     page.extend_from_slice(labels)?;
     page.extend_from_slice(b"} ")?;
-    put_number(page, value)?;
+    put_bound(page, number.of(group))?;
     Ok(())
 }
 
-// Appends the entries of each group.
-fn put_entries(page: &mut Vec<u8>, groups: &[GroupCounts<'_>]) -> Result<(), AllocError>
-    ensures { OnOk result (page.new.items ≡ page.old.items ++ flat_map entries_text groups.now) }
+// Appends that number of each group.
+fn put_each(
+    page: &mut Vec<u8>,
+    name: &[u8],
+    labels: &[u8],
+    number: GroupNumber,
+    groups: &[GroupCounts<'_>],
+) -> Result<(), AllocError>
+    ensures { OnOk result (page.new.items ≡ page.old.items ++ each_text name.now labels.now number groups.now) }
 {
     for group in groups {
-        put_cache(page, b"entries", group, b"", group.cache.entries)?;
+        put_group(page, name, labels, number, group)?;
     }
     Ok(())
 }
 
-// Appends the bytes of each group.
-fn put_bytes(page: &mut Vec<u8>, groups: &[GroupCounts<'_>]) -> Result<(), AllocError>
-    ensures { OnOk result (page.new.items ≡ page.old.items ++ flat_map bytes_text groups.now) }
-{
-    for group in groups {
-        put_cache(page, b"bytes", group, b"", group.cache.bytes)?;
-    }
-    Ok(())
-}
-
-// Appends the entries that left the cache of a group, by why.
-fn put_evicted(page: &mut Vec<u8>, group: &GroupCounts<'_>) -> Result<(), AllocError>
-    ensures { OnOk result (page.new.items ≡ page.old.items ++ evictions_text group.now) }
-{
-    let (by_bytes, by_keys) = (group.cache.evicted_by_bytes, group.cache.evicted_by_keys);
-    put_cache(
-        page,
-        b"evictions_total",
-        group,
-        b",reason=\"bytes\"",
-        by_bytes,
-    )?;
-    put_cache(
-        page,
-        b"evictions_total",
-        group,
-        b",reason=\"keys\"",
-        by_keys,
-    )?;
-    Ok(())
-}
-
-// Appends the entries that left the cache of each group.
-fn put_evictions(page: &mut Vec<u8>, groups: &[GroupCounts<'_>]) -> Result<(), AllocError>
-    ensures { OnOk result (page.new.items ≡ page.old.items ++ flat_map evictions_text groups.now) }
-{
-    for group in groups {
-        put_evicted(page, group)?;
-    }
-    Ok(())
-}
-
-// Appends the values that the cache of each group did not keep.
-fn put_rejected(page: &mut Vec<u8>, groups: &[GroupCounts<'_>]) -> Result<(), AllocError>
-    ensures { OnOk result (page.new.items ≡ page.old.items ++ flat_map rejected_text groups.now) }
-{
-    for group in groups {
-        put_cache(
-            page,
-            b"rejected_total",
-            group,
-            b",reason=\"too_large\"",
-            group.cache.too_large,
-        )?;
-    }
-    Ok(())
-}
-
-/// Appends what the caches of the groups have and have counted, in the order of the groups.
-pub(crate) fn put_groups(page: &mut Vec<u8>, groups: &[GroupCounts<'_>]) -> Result<(), AllocError>
-    ensures { OnOk result (page.new.items ≡ page.old.items ++ groups_text groups.now) }
+// Appends the requests for values of each group, by what was found.
+fn put_asks(page: &mut Vec<u8>, groups: &[GroupCounts<'_>]) -> Result<(), AllocError>
+    ensures { OnOk result (page.new.items ≡ page.old.items ++ asks_text groups.now) }
 {
     put_family(
         page,
-        b"group_cache_entries",
+        b"peer_front_group_asks_total",
+        b"counter",
+        b"Requests for a value of the group, by what was found: hit, a value; led, nothing; joined, that it is fetched.",
+    )?;
+    put_each(
+        page,
+        b"peer_front_group_asks_total",
+        b",found=\"hit\"",
+        GroupNumber::Hits,
+        groups,
+    )?;
+    put_each(
+        page,
+        b"peer_front_group_asks_total",
+        b",found=\"led\"",
+        GroupNumber::Led,
+        groups,
+    )?;
+    put_each(
+        page,
+        b"peer_front_group_asks_total",
+        b",found=\"joined\"",
+        GroupNumber::Joined,
+        groups,
+    )?;
+    Ok(())
+}
+
+// Appends what became of the keys of each group that nobody had.
+fn put_calls(page: &mut Vec<u8>, groups: &[GroupCounts<'_>]) -> Result<(), AllocError>
+    ensures { OnOk result (page.new.items ≡ page.old.items ++ calls_text groups.now) }
+{
+    put_family(
+        page,
+        b"peer_front_group_calls_total",
+        b"counter",
+        b"Keys of the group for which its source was called.",
+    )?;
+    put_each(
+        page,
+        b"peer_front_group_calls_total",
+        b"",
+        GroupNumber::Calls,
+        groups,
+    )?;
+    put_family(
+        page,
+        b"peer_front_group_rehits_total",
+        b"counter",
+        b"Keys of the group whose value its cache had before its source was called.",
+    )?;
+    put_each(
+        page,
+        b"peer_front_group_rehits_total",
+        b"",
+        GroupNumber::Rehits,
+        groups,
+    )?;
+    Ok(())
+}
+
+// Appends the values that the service of each group did not give, by why.
+fn put_failures(page: &mut Vec<u8>, groups: &[GroupCounts<'_>]) -> Result<(), AllocError>
+    ensures { OnOk result (page.new.items ≡ page.old.items ++ group_failures_text groups.now) }
+{
+    put_family(
+        page,
+        b"peer_front_group_origin_failures_total",
+        b"counter",
+        b"Values of the group that its service did not give, by why.",
+    )?;
+    put_each(
+        page,
+        b"peer_front_group_origin_failures_total",
+        b",kind=\"no_such_key\"",
+        GroupNumber::NoSuchKey,
+        groups,
+    )?;
+    put_each(
+        page,
+        b"peer_front_group_origin_failures_total",
+        b",kind=\"status\"",
+        GroupNumber::Status,
+        groups,
+    )?;
+    put_each(
+        page,
+        b"peer_front_group_origin_failures_total",
+        b",kind=\"unreached\"",
+        GroupNumber::Unreached,
+        groups,
+    )?;
+    put_each(
+        page,
+        b"peer_front_group_origin_failures_total",
+        b",kind=\"late\"",
+        GroupNumber::Late,
+        groups,
+    )?;
+    put_each(
+        page,
+        b"peer_front_group_origin_failures_total",
+        b",kind=\"lost\"",
+        GroupNumber::Lost,
+        groups,
+    )?;
+    put_each(
+        page,
+        b"peer_front_group_origin_failures_total",
+        b",kind=\"malformed\"",
+        GroupNumber::Malformed,
+        groups,
+    )?;
+    put_each(
+        page,
+        b"peer_front_group_origin_failures_total",
+        b",kind=\"too_long\"",
+        GroupNumber::TooLong,
+        groups,
+    )?;
+    put_each(
+        page,
+        b"peer_front_group_origin_failures_total",
+        b",kind=\"memory\"",
+        GroupNumber::Memory,
+        groups,
+    )?;
+    Ok(())
+}
+
+// Appends what the cache of each group has.
+fn put_kept(page: &mut Vec<u8>, groups: &[GroupCounts<'_>]) -> Result<(), AllocError>
+    ensures { OnOk result (page.new.items ≡ page.old.items ++ kept_text groups.now) }
+{
+    put_family(
+        page,
+        b"peer_front_group_cache_entries",
         b"gauge",
         b"Keys in the cache of the group.",
     )?;
-    put_entries(page, groups)?;
+    put_each(
+        page,
+        b"peer_front_group_cache_entries",
+        b"",
+        GroupNumber::Entries,
+        groups,
+    )?;
     put_family(
         page,
-        b"group_cache_bytes",
+        b"peer_front_group_cache_bytes",
         b"gauge",
         b"Bytes in the cache of the group: keys, values and what holds them.",
     )?;
-    put_bytes(page, groups)?;
+    put_each(
+        page,
+        b"peer_front_group_cache_bytes",
+        b"",
+        GroupNumber::Bytes,
+        groups,
+    )?;
+    Ok(())
+}
+
+// Appends what the cache of each group may have.
+fn put_limits(page: &mut Vec<u8>, groups: &[GroupCounts<'_>]) -> Result<(), AllocError>
+    ensures { OnOk result (page.new.items ≡ page.old.items ++ limits_text groups.now) }
+{
     put_family(
         page,
-        b"group_cache_evictions_total",
+        b"peer_front_group_cache_limit_entries",
+        b"gauge",
+        b"Keys that the cache of the group may have; +Inf without such a limit.",
+    )?;
+    put_each(
+        page,
+        b"peer_front_group_cache_limit_entries",
+        b"",
+        GroupNumber::LimitEntries,
+        groups,
+    )?;
+    put_family(
+        page,
+        b"peer_front_group_cache_limit_bytes",
+        b"gauge",
+        b"Bytes that the cache of the group may have: keys, values and what holds them.",
+    )?;
+    put_each(
+        page,
+        b"peer_front_group_cache_limit_bytes",
+        b"",
+        GroupNumber::LimitBytes,
+        groups,
+    )?;
+    Ok(())
+}
+
+// Appends what left the cache of each group, and what it did not keep.
+fn put_lost(page: &mut Vec<u8>, groups: &[GroupCounts<'_>]) -> Result<(), AllocError>
+    ensures { OnOk result (page.new.items ≡ page.old.items ++ lost_text groups.now) }
+{
+    put_family(
+        page,
+        b"peer_front_group_cache_evictions_total",
         b"counter",
         b"Entries that left the cache of the group to make room, by the bound that was met: bytes, keys.",
     )?;
-    put_evictions(page, groups)?;
+    put_each(
+        page,
+        b"peer_front_group_cache_evictions_total",
+        b",reason=\"bytes\"",
+        GroupNumber::EvictedByBytes,
+        groups,
+    )?;
+    put_each(
+        page,
+        b"peer_front_group_cache_evictions_total",
+        b",reason=\"keys\"",
+        GroupNumber::EvictedByKeys,
+        groups,
+    )?;
     put_family(
         page,
-        b"group_cache_rejected_total",
+        b"peer_front_group_cache_rejected_total",
         b"counter",
         b"Values that the cache of the group did not keep, by why: too_large.",
     )?;
-    put_rejected(page, groups)?;
+    put_each(
+        page,
+        b"peer_front_group_cache_rejected_total",
+        b",reason=\"too_large\"",
+        GroupNumber::TooLarge,
+        groups,
+    )?;
+    Ok(())
+}
+
+/// Appends what was counted of each group, and what its cache has and may have, in the order of the groups.
+pub(crate) fn put_groups(page: &mut Vec<u8>, groups: &[GroupCounts<'_>]) -> Result<(), AllocError>
+    ensures { OnOk result (page.new.items ≡ page.old.items ++ groups_text groups.now) }
+{
+    put_asks(page, groups)?;
+    put_calls(page, groups)?;
+    put_failures(page, groups)?;
+    put_kept(page, groups)?;
+    put_limits(page, groups)?;
+    put_lost(page, groups)?;
     Ok(())
 }

@@ -19,6 +19,14 @@ fn hex_digit(number: u8) -> u8
     }
 }
 
+/// The decimal digit of a number.
+pub(crate) fn decimal_digit(number: u8) -> u8
+    requires { number < 10 }
+    ensures { result ≡ digit_char number }
+{
+    hex_digit(number)
+}
+
 // Whether a name is UTF-8.
 fn is_text(name: &[u8]) -> bool
     ensures { result ≡ is_utf8 name.now }

@@ -7,24 +7,37 @@
 
 mod answer;
 mod client;
+mod closing;
 mod counters;
 mod counts;
 mod end;
+mod facts;
 mod failure;
 mod family;
+mod group_number;
 mod groups;
 mod label;
+mod numbers;
 mod page;
+mod process;
 mod server;
 mod service;
 mod slots;
+mod state;
+mod still;
 
+pub use closing::Closing;
 pub use counters::Counters;
 pub use counts::{
-    AcceptCounts, CacheCounts, Counts, FailureCounts, FillerCounts, GroupCounts, LoopCounts,
+    AcceptCounts, AskCounts, CacheCounts, CacheLimits, CloseCounts, Counts, FailureCounts,
+    FillerCounts, GroupCounts, LoopCounts, ReplyCounts,
 };
 pub use end::StatsEnd;
+pub use facts::{ServedGroup, ServerFacts};
 pub use failure::OriginFailure;
+pub use numbers::{Build, Numbers, ProcessCounts, ServerBounds};
 pub use page::metrics_page;
 pub use server::{StatsServer, open_stats};
 pub use slots::{AcceptSlot, CacheSlot, FailureSlots, FillerSlot, LoopSlot};
+pub use state::{ServerState, Stage};
+pub use still::{ASLEEP, Looks};

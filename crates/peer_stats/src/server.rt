@@ -3,12 +3,15 @@
 use crate::client::StatsClient;
 use crate::counters::Counters;
 use crate::end::StatsEnd;
+use crate::facts::ServerFacts;
+use crate::process::read_process;
 use crate::service::StatsService;
 use mio::net::{TcpListener, TcpStream};
 use mio::{Events, Interest, Poll, Token};
 use peer_runtime::{Network, keys_of};
 use slab::Slab;
 use std::alloc::Global;
+use std::fs::Files;
 use std::hash::RandomState;
 use std::io::ErrorKind;
 use std::net::Net;
@@ -24,7 +27,7 @@ const MAX_CLIENTS: usize = 64;
 // How many events one wait reports.
 const MAX_EVENTS: usize = 64;
 
-// How often the server looks for clients that are overdue, where it has some.
+// How often the server looks at the loops, and for clients that are overdue.
 const TICK_SECONDS: u64 = 1;
 
 // The pause behind a wait for events that failed.
@@ -54,6 +57,8 @@ struct Running<'a> {
     seed: RandomState,
     clients: Slab<StatsClient>,
     service: StatsService<'a>,
+    // When it last looked at the loops.
+    looked: Duration,
     // An accept failed, or a client was refused: more may wait, of which no event tells.
     failed: bool,
 }
@@ -141,27 +146,47 @@ impl<'a> Running<'a> {
         }
     }
 
-    // How long nothing is to be done unless an event comes.
-    fn time_to_wait(&self) -> Option<Duration> {
-        if self.clients.is_empty() && !self.failed {
-            None
-        } else {
-            Some(Duration::from_secs(TICK_SECONDS))
+    // Looks at the loops, where a tick is over. What the system told of the process is of the last tick then.
+    fn look(&mut self) {
+        let now = self.service.uptime;
+        if now.saturating_sub(self.looked) < Duration::from_secs(TICK_SECONDS) {
+            return;
+        }
+        self.looked = now;
+        let counters = self.service.counters;
+        self.service.stands_still = counters.look_at_loops(&mut self.service.looks);
+        self.service.process = None;
+    }
+
+    // Asks the system for what it tells of the process, where a client may want it and it was not asked in this tick.
+    fn ask_system<H: Files + AllocGlobal>(&mut self, rt: &H, waits: &Waits) {
+        if self.service.process.is_none() && waits.events.iter().next().is_some() {
+            self.service.process = read_process(rt, self.alloc);
         }
     }
 
+    // How long it is until the next tick.
+    fn time_to_tick(&self) -> Duration {
+        let passed = self.service.uptime.saturating_sub(self.looked);
+        Duration::from_secs(TICK_SECONDS).saturating_sub(passed)
+    }
+
     // Waits for events, and serves those whom they concern.
-    fn serve_once<H: Network>(&mut self, rt: &H, waits: &mut Waits, begun: Option<Instant>) {
-        if waits
-            .poll
-            .poll(&mut waits.events, self.time_to_wait())
-            .is_err()
-        {
+    fn serve_once<H: Network + Files + AllocGlobal>(
+        &mut self,
+        rt: &H,
+        waits: &mut Waits,
+        begun: Option<Instant>,
+    ) {
+        let time = Some(self.time_to_tick());
+        if waits.poll.poll(&mut waits.events, time).is_err() {
             thread::sleep(rt, Duration::from_millis(PAUSE_MILLIS));
         }
         if let Some(now) = begun.and_then(|begun| begun.elapsed(rt).ok()) {
             self.service.uptime = now;
         }
+        self.look();
+        self.ask_system(rt, waits);
         for event in waits.events.iter() {
             self.turn(event.token().0);
         }
@@ -171,8 +196,14 @@ impl<'a> Running<'a> {
 }
 
 impl StatsServer {
-    /// Serves what is counted of the groups of these names, which stand in the order of their numbers, until it is ended.
-    pub fn run<H: Network>(self, rt: &H, counters: &Counters, names: &[Vec<u8>], end: &StatsEnd) {
+    /// Serves what is counted of a server with these facts, until it is ended.
+    pub fn run<H: Network + Files + AllocGlobal>(
+        self,
+        rt: &H,
+        counters: &Counters,
+        facts: ServerFacts<'_>,
+        end: &StatsEnd,
+    ) {
         let StatsServer {
             alloc,
             listener,
@@ -184,12 +215,8 @@ impl StatsServer {
             listener,
             seed,
             clients: Slab::new(alloc),
-            service: StatsService {
-                alloc,
-                counters,
-                names,
-                uptime: Duration::ZERO,
-            },
+            service: StatsService::new(alloc, counters, facts),
+            looked: Duration::ZERO,
             failed: false,
         };
         let begun = Instant::now(rt).ok();

@@ -4,11 +4,19 @@
 //! each number that changed. Failures of origins, which several threads count, are added in one step, and so are accepts. What
 //! a loop asks is told last, and read first: a reader never sees more asked than hit, led and joined together. Each loop
 //! publishes what it saw of the caches of groups, so what never falls there is raised to the largest that was seen.
+//! Slots of groups are by the numbers of these, modulo 64.
 
-use crate::counts::{AcceptCounts, CacheCounts, FailureCounts, FillerCounts, LoopCounts};
+use crate::closing::Closing;
+use crate::counts::{
+    AcceptCounts, AskCounts, CacheCounts, CloseCounts, FailureCounts, FillerCounts, LoopCounts,
+    ReplyCounts,
+};
 use crate::failure::OriginFailure;
 use std::sync::atomic::AtomicU64;
 use std::sync::atomic::Ordering::SeqCst;
+
+/// How many slots there are for groups: the most groups that a pool has.
+pub(crate) const MAX_GROUPS: usize = 64;
 
 // Stores a number of the one writer, unless it is there by now.
 fn publish(cell: &AtomicU64, count: u64) {
@@ -24,6 +32,111 @@ fn raise(cell: &AtomicU64, count: u64) {
     }
 }
 
+// Where one loop publishes the requests for a value of one group.
+#[derive(Default, Drop)]
+struct AskSlot {
+    hits: AtomicU64,
+    led: AtomicU64,
+    joined: AtomicU64,
+}
+
+impl AskSlot {
+    fn publish(&self, counts: AskCounts) {
+        publish(&self.hits, counts.hits);
+        publish(&self.led, counts.led);
+        publish(&self.joined, counts.joined);
+    }
+
+    fn read(&self) -> AskCounts {
+        AskCounts {
+            hits: self.hits.load(SeqCst),
+            led: self.led.load(SeqCst),
+            joined: self.joined.load(SeqCst),
+        }
+    }
+}
+
+// Where one loop publishes the replies that were put.
+#[derive(Default, Drop)]
+struct ReplySlot {
+    ok: AtomicU64,
+    bad_request: AtomicU64,
+    not_found: AtomicU64,
+    not_allowed: AtomicU64,
+    content_too_large: AtomicU64,
+    head_too_large: AtomicU64,
+    failed: AtomicU64,
+    not_implemented: AtomicU64,
+    unknown_groups: AtomicU64,
+}
+
+impl ReplySlot {
+    fn publish(&self, counts: ReplyCounts) {
+        publish(&self.ok, counts.ok);
+        publish(&self.bad_request, counts.bad_request);
+        publish(&self.not_found, counts.not_found);
+        publish(&self.not_allowed, counts.not_allowed);
+        publish(&self.content_too_large, counts.content_too_large);
+        publish(&self.head_too_large, counts.head_too_large);
+        publish(&self.failed, counts.failed);
+        publish(&self.not_implemented, counts.not_implemented);
+        publish(&self.unknown_groups, counts.unknown_groups);
+    }
+
+    fn read(&self) -> ReplyCounts {
+        ReplyCounts {
+            ok: self.ok.load(SeqCst),
+            bad_request: self.bad_request.load(SeqCst),
+            not_found: self.not_found.load(SeqCst),
+            not_allowed: self.not_allowed.load(SeqCst),
+            content_too_large: self.content_too_large.load(SeqCst),
+            head_too_large: self.head_too_large.load(SeqCst),
+            failed: self.failed.load(SeqCst),
+            not_implemented: self.not_implemented.load(SeqCst),
+            unknown_groups: self.unknown_groups.load(SeqCst),
+        }
+    }
+}
+
+// Where one loop counts the connections that ended.
+#[derive(Default, Drop)]
+struct CloseSlot {
+    client: AtomicU64,
+    reply: AtomicU64,
+    silent: AtomicU64,
+    slow: AtomicU64,
+    crowded: AtomicU64,
+    memory: AtomicU64,
+    end: AtomicU64,
+}
+
+impl CloseSlot {
+    // Where those are counted that ended so.
+    fn slot(&self, why: Closing) -> &AtomicU64 {
+        match why {
+            Closing::Client => &self.client,
+            Closing::Reply => &self.reply,
+            Closing::Silent => &self.silent,
+            Closing::Slow => &self.slow,
+            Closing::Crowded => &self.crowded,
+            Closing::Memory => &self.memory,
+            Closing::End => &self.end,
+        }
+    }
+
+    fn read(&self) -> CloseCounts {
+        CloseCounts {
+            client: self.client.load(SeqCst),
+            reply: self.reply.load(SeqCst),
+            silent: self.silent.load(SeqCst),
+            slow: self.slow.load(SeqCst),
+            crowded: self.crowded.load(SeqCst),
+            memory: self.memory.load(SeqCst),
+            end: self.end.load(SeqCst),
+        }
+    }
+}
+
 /// Where one loop publishes.
 #[derive(Default, Drop)]
 pub struct LoopSlot {
@@ -33,6 +146,10 @@ pub struct LoopSlot {
     joined: AtomicU64,
     strangers: AtomicU64,
     connections: AtomicU64,
+    groups: [AskSlot; MAX_GROUPS],
+    replies: ReplySlot,
+    closes: CloseSlot,
+    turn: AtomicU64,
 }
 
 impl LoopSlot {
@@ -58,6 +175,53 @@ impl LoopSlot {
             connections: self.connections.load(SeqCst),
         }
     }
+
+    /// The loop has counted so many requests for a value of the group with this number by now.
+    pub fn publish_group(&self, group: usize, counts: AskCounts) {
+        self.groups[group % MAX_GROUPS].publish(counts);
+    }
+
+    /// What the loop published of the group with this number.
+    pub fn read_group(&self, group: usize) -> AskCounts {
+        self.groups[group % MAX_GROUPS].read()
+    }
+
+    /// The loop has counted so many replies by now.
+    pub fn publish_replies(&self, counts: ReplyCounts) {
+        self.replies.publish(counts);
+    }
+
+    /// The replies that the loop published.
+    pub fn read_replies(&self) -> ReplyCounts {
+        self.replies.read()
+    }
+
+    /// A connection of the loop ended so.
+    pub fn count_close(&self, why: Closing) {
+        self.closes.slot(why).fetch_add(1, SeqCst);
+    }
+
+    /// The connections of the loop that ended.
+    pub fn read_closes(&self) -> CloseCounts {
+        self.closes.read()
+    }
+
+    /// The loop is in the turn with this number, or sleeps (`ASLEEP`).
+    pub fn publish_turn(&self, turn: u64) {
+        self.turn.store(turn, SeqCst);
+    }
+
+    /// The number of the turn that the loop published.
+    pub fn read_turn(&self) -> u64 {
+        self.turn.load(SeqCst)
+    }
+}
+
+// Where one thread that fills counts the jobs of one group.
+#[derive(Default, Drop)]
+struct FilledSlot {
+    calls: AtomicU64,
+    rehits: AtomicU64,
 }
 
 /// Where one thread that fills publishes.
@@ -65,11 +229,18 @@ impl LoopSlot {
 pub struct FillerSlot {
     calls: AtomicU64,
     rehits: AtomicU64,
+    groups: [FilledSlot; MAX_GROUPS],
 }
 
 impl FillerSlot {
-    /// The thread has counted so much by now.
-    pub fn publish(&self, counts: FillerCounts) {
+    /// The thread has counted so much by now. What it has counted since it told that last is of the group with this number.
+    pub fn publish(&self, group: usize, counts: FillerCounts) {
+        let before = self.read();
+        let slot = &self.groups[group % MAX_GROUPS];
+        let calls = counts.calls.wrapping_sub(before.calls);
+        let rehits = counts.rehits.wrapping_sub(before.rehits);
+        slot.calls.fetch_add(calls, SeqCst);
+        slot.rehits.fetch_add(rehits, SeqCst);
         publish(&self.calls, counts.calls);
         publish(&self.rehits, counts.rehits);
     }
@@ -79,6 +250,15 @@ impl FillerSlot {
         FillerCounts {
             calls: self.calls.load(SeqCst),
             rehits: self.rehits.load(SeqCst),
+        }
+    }
+
+    /// What the thread counted of the group with this number.
+    pub fn read_group(&self, group: usize) -> FillerCounts {
+        let slot = &self.groups[group % MAX_GROUPS];
+        FillerCounts {
+            calls: slot.calls.load(SeqCst),
+            rehits: slot.rehits.load(SeqCst),
         }
     }
 }
@@ -142,9 +322,9 @@ impl CacheSlot {
     }
 }
 
-/// Where all threads count the failures of origins.
+// Where all threads count the failures of the service of one group.
 #[derive(Default, Drop)]
-pub struct FailureSlots {
+struct FailureSlot {
     no_such_key: AtomicU64,
     status: AtomicU64,
     unreached: AtomicU64,
@@ -155,7 +335,7 @@ pub struct FailureSlots {
     memory: AtomicU64,
 }
 
-impl FailureSlots {
+impl FailureSlot {
     // The slot of a kind.
     fn slot(&self, failure: OriginFailure) -> &AtomicU64 {
         match failure {
@@ -170,13 +350,7 @@ impl FailureSlots {
         }
     }
 
-    /// An origin failed.
-    pub fn count(&self, failure: OriginFailure) {
-        self.slot(failure).fetch_add(1, SeqCst);
-    }
-
-    /// How often origins failed.
-    pub fn read(&self) -> FailureCounts {
+    fn read(&self) -> FailureCounts {
         FailureCounts {
             no_such_key: self.no_such_key.load(SeqCst),
             status: self.status.load(SeqCst),
@@ -187,5 +361,34 @@ impl FailureSlots {
             too_long: self.too_long.load(SeqCst),
             memory: self.memory.load(SeqCst),
         }
+    }
+}
+
+/// Where all threads count the failures of the services of groups.
+#[derive(Default, Drop)]
+pub struct FailureSlots {
+    groups: [FailureSlot; MAX_GROUPS],
+}
+
+impl FailureSlots {
+    /// The service of the group with this number failed.
+    pub fn count(&self, group: usize, failure: OriginFailure) {
+        self.groups[group % MAX_GROUPS]
+            .slot(failure)
+            .fetch_add(1, SeqCst);
+    }
+
+    /// How often the service of the group with this number failed.
+    pub fn read_group(&self, group: usize) -> FailureCounts {
+        self.groups[group % MAX_GROUPS].read()
+    }
+
+    /// How often the services of all groups failed.
+    pub fn read(&self) -> FailureCounts {
+        let mut sum = FailureCounts::NONE;
+        for slot in &self.groups {
+            sum = sum.plus(slot.read());
+        }
+        sum
     }
 }

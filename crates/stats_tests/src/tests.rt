@@ -1,5 +1,7 @@
 //! The page of counters, and its server.
 
 mod groups;
+mod looks;
 mod pages;
 mod served;
+mod worked;

@@ -2,4 +2,4 @@ use Rattle.peer_stats.proofs.JoinLemmas.{joined}
 use Rattle.peer_stats.proofs.groups.put_groups.Goals as goal
 
 pub returns : goal.returns
-returns c = joined c.args.page.now.items _ _ (joined c.args.page.now.items _ _ (joined c.args.page.now.items _ _ (joined c.args.page.now.items _ _ (joined c.args.page.now.items _ _ (joined c.args.page.now.items _ _ (joined c.args.page.now.items _ _ c.in_ok-put_family.ensures c.in_ok-put_entries.ensures) c.in_ok-put_family-2.ensures) c.in_ok-put_bytes.ensures) c.in_ok-put_family-3.ensures) c.in_ok-put_evictions.ensures) c.in_ok-put_family-4.ensures) c.in_ok-put_rejected.ensures
+returns c = joined c.args.page.now.items _ _ (joined c.args.page.now.items _ _ (joined c.args.page.now.items _ _ (joined c.args.page.now.items _ _ (joined c.args.page.now.items _ _ c.in_ok-put_asks.ensures c.in_ok-put_calls.ensures) c.in_ok-put_failures.ensures) c.in_ok-put_kept.ensures) c.in_ok-put_limits.ensures) c.in_ok-put_lost.ensures

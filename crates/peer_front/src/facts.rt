@@ -1,0 +1,52 @@
+//! What the page tells of the server as it was begun.
+
+use peer_flags::Options;
+use peer_groups::{FrontSource, names_of};
+use peer_stats::{Build, CacheLimits, ServedGroup, ServerBounds, ServerFacts};
+use std::alloc::Global;
+
+// The version of the program, as `--version` prints it.
+const VERSION: &[u8] = b"0.2.0";
+
+// The logic of the toolchain that the program is proved with (`rt version`).
+const TOOLCHAIN: &[u8] = b"dac8208d650f15bf";
+
+/// The groups of the source that these words ask for, in the order of their numbers, and what their caches may have. None where
+/// memory is refused.
+pub fn served_groups(
+    alloc: Global,
+    source: &FrontSource,
+    words: &[&str],
+    options: &Options<'_>,
+) -> Option<Vec<ServedGroup>> {
+    let limits = CacheLimits {
+        bytes: options.cache_bytes,
+        entries: options.cache_keys,
+    };
+    let mut groups = Vec::new(alloc);
+    for name in names_of(alloc, source, &source.first().first().source, words)? {
+        groups.push(ServedGroup { name, limits }).ok()?;
+    }
+    Some(groups)
+}
+
+/// What a server of these groups is, as the options say.
+pub fn facts_of<'a>(
+    options: &Options<'_>,
+    has_services: bool,
+    groups: &'a [ServedGroup],
+) -> ServerFacts<'a> {
+    let fetchers = if has_services { options.fetchers } else { 0 };
+    ServerFacts {
+        groups,
+        bounds: ServerBounds {
+            connections: options.connections as u64,
+            under_way: fetchers.saturating_mul(options.under_way) as u64,
+            untaken_bytes: options.memory as u64,
+        },
+        build: Build {
+            version: VERSION,
+            toolchain: TOOLCHAIN,
+        },
+    }
+}
