@@ -2,7 +2,7 @@
 """Tries the wrong bodies that the gate does not: those of bench/wrong/, which the prover has to refuse too.
 
     python3 bench/wrong.py [--jobs N] [CRATE ..]
-    python3 bench/wrong.py --fit                  # only whether each still fits the sources, as the gate does
+    python3 bench/wrong.py --fit                  # only whether each still fits the sources, and each of must-fail/, as the gate does
 
 bench/wrong/CRATE/ has edits in the form of those of crates/CRATE/must-fail/. With no name it goes through all crates that have some.
 They are put into a copy of the tree, in place of all wrong bodies there, and `rt ci` tries them in it. It has N checks beside one
@@ -35,12 +35,14 @@ BEGINS = re.compile(r"^rt: \w+: trying its must-fail edits|^rt: .* NOT PROVED")
 
 
 def misfits(crate):
-    """The edits of a crate that do not fit its sources, and why."""
-    for name in edits_in(os.path.join(WRONG, crate)):
-        try:
-            Edit(os.path.join(WRONG, crate, f"{name}.edit")).put_into(os.path.join(ROOT, "crates", crate))
-        except ValueError as why:
-            yield f"{crate}/{name}: {why}"
+    """The edits of a crate, of both tiers, that do not fit its sources, and why."""
+    sources = os.path.join(ROOT, "crates", crate)
+    for folder in (os.path.join(WRONG, crate), os.path.join(sources, "must-fail")):
+        for name in edits_in(folder) if os.path.isdir(folder) else []:
+            try:
+                Edit(os.path.join(folder, f"{name}.edit")).put_into(sources)
+            except ValueError as why:
+                yield f"{crate}/{name}: {why}"
 
 
 def copy_with(crates, tree):
@@ -104,8 +106,8 @@ def main():
     crates = [crate for crate in there if crate in options.crates or not options.crates]
     count = sum(len(edits_in(os.path.join(WRONG, crate))) for crate in crates)
     if options.fit:
-        found = [why for crate in crates for why in misfits(crate)]
-        print("\n".join([*found, f"wrong bodies {count} that do not fit {len(found)}"]))
+        found = [why for crate in sorted(os.listdir(os.path.join(ROOT, "crates"))) for why in misfits(crate)]
+        print("\n".join([*found, f"wrong bodies of both tiers that do not fit {len(found)}"]))
         sys.exit(1 if found else 0)
     failures = try_all(crates, options.jobs)
     print(f"edits {count} failures {failures}")

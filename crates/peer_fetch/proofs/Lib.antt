@@ -1,2 +1,3 @@
 pub mod AllowLemmas
 mod ThreadLemmas
+mod TransferLemmas

@@ -1,3 +1,4 @@
 pub mod Fetchers
 pub mod Threads
+pub mod Transfers
 pub mod Turns

@@ -11,7 +11,7 @@ use crate::link::{Link, Reusable};
 use crate::opening::Untried;
 use mio::Token;
 use mio::event::Event;
-use peer_runtime::keys_of;
+use peer_runtime::{Wires, keys_of};
 use peer_source::Source;
 use slab::Slab;
 use std::alloc::{AllocError, Global};
@@ -20,8 +20,8 @@ use std::time::Duration;
 
 /// Connections, each under its key.
 #[derive(Drop)]
-pub struct Connections<'a, S: Source> {
-    links: Slab<Link<'a, S>>,
+pub struct Connections<'a, S: Source, H: Wires> {
+    links: Slab<Link<'a, S, H>>,
     // Those that may be used again.
     idle: Idle,
     // Those that are to have a turn.
@@ -41,9 +41,9 @@ pub fn earlier(one: Option<Duration>, other: Option<Duration>) -> Option<Duratio
     }
 }
 
-impl<'a, S: Source> Connections<'a, S> {
+impl<'a, S: Source, H: Wires> Connections<'a, S, H> {
     /// There is none.
-    pub fn new(alloc: Global, idle: Idle) -> Connections<'a, S> {
+    pub fn new(alloc: Global, idle: Idle) -> Connections<'a, S, H> {
         Connections {
             links: Slab::new(alloc),
             idle,
@@ -59,7 +59,7 @@ impl<'a, S: Source> Connections<'a, S> {
     }
 
     /// The connection under a key.
-    pub fn get_mut(&mut self, key: usize) -> Option<&mut Link<'a, S>> {
+    pub fn get_mut(&mut self, key: usize) -> Option<&mut Link<'a, S, H>> {
         self.links.get_mut(key)
     }
 
@@ -78,7 +78,7 @@ impl<'a, S: Source> Connections<'a, S> {
     }
 
     /// Adds a connection, for which there is room: none is lost.
-    pub fn add(&mut self, link: Link<'a, S>)
+    pub fn add(&mut self, link: Link<'a, S, H>)
         requires { HasRoomFor self.old.links 1 }
     {
         self.next_due = earlier(self.next_due, link.due());

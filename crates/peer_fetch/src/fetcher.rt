@@ -2,8 +2,8 @@
 //!
 //! It stands on the connections of the thread (`Connections`), on the value of each (`UnderWay`), and on how many of them a
 //! service may have (`Shares`): those that it may not yet have wait (`Waiting`), so that one whose values hang does not hold up
-//! the others. It promises nothing that contracts see but what `UnderWay` does: a value is given back done, with its job, once at
-//! most. A value is asked for on a kept connection only where that is to its own endpoint, which is looked at once more there
+//! the others. It promises that a value which is given back done was found on a
+//! connection of the network that carried its request, and what `UnderWay` does: it is given back with its job, once at most. A value is asked for on a kept connection only where that is to its own endpoint, which is looked at once more there
 //! (`Link::begin`).
 
 mod connecting;
@@ -16,7 +16,7 @@ use crate::settings::FetchThreadSettings;
 use mio::event::Event;
 use peer_fill::TakenJob;
 use peer_origin::{Failure, FetchFault};
-use peer_runtime::Network;
+use peer_runtime::{Network, Wires};
 use peer_source::Source;
 use peer_value::{Done, Numbered, Shares, UnderWay, Waiting};
 use std::alloc::Global;
@@ -27,22 +27,23 @@ const MAX_WAITING: usize = 4096;
 
 /// The values that are under way, and those that wait.
 #[derive(Drop)]
-pub struct Fetcher<'a, S: Source> {
+pub struct Fetcher<'a, S: Source, H: Wires> {
     alloc: Global,
     settings: FetchThreadSettings,
-    connections: Connections<'a, S>,
+    connections: Connections<'a, S, H>,
     shares: Shares,
     waiting: Waiting<'a, S>,
     buffer: Vec<u8>,
 }
 
-impl<'a, S: Source> Fetcher<'a, S> {
-    ghost use Rattle.std.specs.Prelude.{◌↔◌, IsTrue};
+impl<'a, S: Source, H: Network> Fetcher<'a, S, H> {
+    ghost use Rattle.std.specs.Prelude.{◌↔◌, IfSome, IsTrue};
     ghost use Rattle.peer_fetch.specs.Fetchers.{HasNothing, MayTakeJob};
     ghost use Rattle.peer_value.specs.Endpoints.{IsOfGroup};
+    ghost use Rattle.peer_value.specs.UnderWays.{IsDoneOn};
 
     /// Nothing is under way.
-    pub fn new(alloc: Global, settings: FetchThreadSettings, room: Room) -> Fetcher<'a, S> {
+    pub fn new(alloc: Global, settings: FetchThreadSettings, room: Room) -> Fetcher<'a, S, H> {
         let Room {
             idle,
             shares,
@@ -107,7 +108,7 @@ impl<'a, S: Source> Fetcher<'a, S> {
     }
 
     // How late it is, by the clock. Where that cannot be read it is as late as it was.
-    fn read_clock<H: Network>(&mut self, system: &System<'_, H>) -> Duration {
+    fn read_clock(&mut self, system: &System<'_, H>) -> Duration {
         if let Some(now) = system.now() {
             self.connections.tell_time(now);
         }
@@ -115,23 +116,23 @@ impl<'a, S: Source> Fetcher<'a, S> {
     }
 
     /// Has those have a turn that are to be given up by now.
-    pub fn give_up_late<H: Network>(&mut self, system: &System<'_, H>) {
+    pub fn give_up_late(&mut self, system: &System<'_, H>) {
         self.read_clock(system);
         self.connections.give_up_late();
     }
 
     // Asks for a value on a connection that is kept for its endpoint, or a new one.
-    fn start<H: Network>(
-        &mut self,
-        system: &System<'_, H>,
-        under: UnderWay<'a, S>,
-    ) -> Option<Done<'a, S>> {
+    fn start(&mut self, system: &System<'_, H>, under: UnderWay<'a, S>) -> Option<Done<'a, S>>
+        ensures { IfSome result (IsDoneOn H.carried) }
+    {
         let number = under.number();
         let Some(key) = self.connections.take_idle(number) else {
             return self.connect_first(system, under);
         };
         match self.connections.get_mut(key) {
-            Some(link) if link.number == number && link.is_free() => link.begin(under),
+            Some(link) if link.number == number && link.is_free() && under.is_unused() => {
+                link.begin(system.rt, under)
+            }
             _ => return self.connect_first(system, under),
         }
         self.shares.begin(self.shares.service(number));
@@ -142,7 +143,7 @@ impl<'a, S: Source> Fetcher<'a, S> {
 
     /// Fetches the value of a job from the endpoint of its group, or has it wait. A job whose value cannot be fetched is given
     /// back.
-    pub fn begin<H: Network>(
+    pub fn begin(
         &mut self,
         system: &System<'_, H>,
         at: Numbered<'a>,
@@ -150,6 +151,7 @@ impl<'a, S: Source> Fetcher<'a, S> {
     ) -> Option<Done<'a, S>>
         requires room { MayTakeJob self.old }
         requires own { IsOfGroup at job.place.group }
+        ensures { IfSome result (IsDoneOn H.carried) }
     {
         let due = self
             .read_clock(system)
@@ -182,11 +184,9 @@ impl<'a, S: Source> Fetcher<'a, S> {
 
     /// Fetches a value that waited, for which it has as long as one that did not wait: else, where a service has more to do than
     /// it can, each value would begin too late. One that is to be given up, or cannot be fetched, is given back.
-    pub fn go_on<H: Network>(
-        &mut self,
-        system: &System<'_, H>,
-        under: UnderWay<'a, S>,
-    ) -> Option<Done<'a, S>> {
+    pub fn go_on(&mut self, system: &System<'_, H>, under: UnderWay<'a, S>) -> Option<Done<'a, S>>
+        ensures { IfSome result (IsDoneOn H.carried) }
+    {
         let now = self.read_clock(system);
         if under.due() <= now {
             return Some(under.done(Err(FetchFault::Late)));
@@ -217,11 +217,9 @@ impl<'a, S: Source> Fetcher<'a, S> {
     }
 
     // Makes the request for a value once more, on a new connection.
-    fn ask_again<H: Network>(
-        &mut self,
-        system: &System<'_, H>,
-        under: UnderWay<'a, S>,
-    ) -> Option<Done<'a, S>> {
+    fn ask_again(&mut self, system: &System<'_, H>, under: UnderWay<'a, S>) -> Option<Done<'a, S>>
+        ensures { IfSome result (IsDoneOn H.carried) }
+    {
         match under.again(self.alloc) {
             Ok(under) => self.connect_first(system, under),
             Err(done) => Some(done),
@@ -229,13 +227,15 @@ impl<'a, S: Source> Fetcher<'a, S> {
     }
 
     // A connection ended before the value was there. A request on one that was kept is made once more, on a new one.
-    fn cut<H: Network>(
+    fn cut(
         &mut self,
         system: &System<'_, H>,
         key: usize,
         under: UnderWay<'a, S>,
         failure: Failure,
-    ) -> Option<Done<'a, S>> {
+    ) -> Option<Done<'a, S>>
+        ensures { IfSome result (IsDoneOn H.carried) }
+    {
         let was_kept = self.connections.forget_cut(key);
         match failure {
             Failure::Fetch(fault) => Some(under.done(Err(fault))),
@@ -245,11 +245,13 @@ impl<'a, S: Source> Fetcher<'a, S> {
     }
 
     /// Gives a connection its turn. A value that is done is given back.
-    pub fn turn<H: Network>(&mut self, system: &System<'_, H>, key: usize) -> Option<Done<'a, S>> {
+    pub fn turn(&mut self, system: &System<'_, H>, key: usize) -> Option<Done<'a, S>>
+        ensures { IfSome result (IsDoneOn H.carried) }
+    {
         let now = self.connections.now();
         let link = self.connections.get_mut(key)?;
         let service = self.shares.service(link.number);
-        let turn = link.turn(&mut self.buffer, now);
+        let turn = link.turn(system.rt, &mut self.buffer, now);
         match turn {
             Turn::Waits => None,
             Turn::Busy => {

@@ -1,12 +1,14 @@
 //! The jobs of a thread that fetches: they are taken off the pool's queue, and their flights filled.
 //!
 //! It stands on the pool of `peer_fill` and on the values that are under way (`Fetcher`). It promises that the seat stays one
-//! of the pool with its parts, and that a flight is filled with what was fetched for its own key at the endpoint of its own group.
+//! of the pool with its parts, and that a flight is filled with what was fetched for its own key at the endpoint of its own group, on a
+//! connection that carried the request for it.
 ghost use Rattle.std.specs.Prelude.{IfSome};
 ghost use Rattle.peer_source.specs.Outcomes.{answer_of};
 ghost use Rattle.peer_fill.specs.Pools.{source_of, IsFillSeatOf};
 ghost use Rattle.peer_origin.specs.Endpoints.{request_at};
 ghost use Rattle.peer_origin.specs.Fetched.{IsFetchedAnswer};
+ghost use Rattle.peer_value.specs.UnderWays.{IsDoneOn};
 ghost use Rattle.peer_fetch.specs.Fetchers.{MayTakeJob};
 ghost use Rattle.peer_fetch.specs.Threads.{Allows, IsLaterSeat};
 
@@ -19,7 +21,6 @@ use peer_runtime::Network;
 use peer_source::{Outcome, Source};
 use peer_value::Done;
 use std::alloc::Global;
-use std::sync::Wait;
 use std::sync::ledger::Ledger;
 
 // How many jobs are taken in one turn.
@@ -36,7 +37,7 @@ pub struct Jobs<'p, 'a, S: Source, L: Ledger, G> {
 
 // Fills the flight of a job with this outcome, which was fetched at this endpoint, if that is the one of its group. No other job
 // comes here, and one that did would be filled by a call of the source.
-fn fill<'a, S: Source, L: Ledger, G: Gate, H: Wait>(
+fn fill<'a, S: Source, L: Ledger, G: Gate, H: Network>(
     rt: &H,
     jobs: &Jobs<'_, 'a, S, L, G>,
     seat: &mut FillSeat<S, L>,
@@ -45,8 +46,8 @@ fn fill<'a, S: Source, L: Ledger, G: Gate, H: Wait>(
     outcome: Outcome,
 )
     requires seat { IsFillSeatOf jobs.now.pool.now seat.old }
-    requires answers { Allows (S.answers (source_of jobs.now.pool.now)) jobs.now.plan }
-    requires answer { IfSome (answer_of outcome) (IsFetchedAnswer (request_at endpoint.now job.place.key)) }
+    requires answers { Allows H.carried (S.answers (source_of jobs.now.pool.now)) jobs.now.plan }
+    requires answer { IfSome (answer_of outcome) (IsFetchedAnswer H.carried (request_at endpoint.now job.place.key)) }
     ensures { IsLaterSeat jobs.now.pool.now seat.old seat.new }
 {
     match jobs.plan.endpoints.of(job.group()) {
@@ -56,14 +57,15 @@ fn fill<'a, S: Source, L: Ledger, G: Gate, H: Wait>(
 }
 
 // Fills the flight of a job whose value was fetched, or was not, and counts why it was not.
-fn fill_done<'a, S: Source, L: Ledger, G: Gate, H: Wait>(
+fn fill_done<'a, S: Source, L: Ledger, G: Gate, H: Network>(
     rt: &H,
     jobs: &Jobs<'_, 'a, S, L, G>,
     seat: &mut FillSeat<S, L>,
     done: Option<Done<'a, S>>,
 )
     requires seat { IsFillSeatOf jobs.now.pool.now seat.old }
-    requires answers { Allows (S.answers (source_of jobs.now.pool.now)) jobs.now.plan }
+    requires answers { Allows H.carried (S.answers (source_of jobs.now.pool.now)) jobs.now.plan }
+    requires on { IfSome done (IsDoneOn H.carried) }
     ensures { IsLaterSeat jobs.now.pool.now seat.old seat.new }
 {
     let Some(done) = done else {
@@ -71,7 +73,7 @@ fn fill_done<'a, S: Source, L: Ledger, G: Gate, H: Wait>(
     };
     let fault = done.fault();
     let endpoint = done.endpoint();
-    let (job, outcome) = done.settle(jobs.alloc);
+    let (job, outcome) = done.settle::<H>(jobs.alloc);
     if let Some(fault) = fault {
         let group = job.group().number;
         jobs.plan.failures.count(group, fault.kind());
@@ -84,10 +86,10 @@ fn take_job<'a, S: Source, L: Ledger, G: Gate, H: Network>(
     system: &System<'_, H>,
     jobs: &Jobs<'_, 'a, S, L, G>,
     seat: &mut FillSeat<S, L>,
-    fetcher: &mut Fetcher<'a, S>,
+    fetcher: &mut Fetcher<'a, S, H>,
 ) -> bool
     requires seat { IsFillSeatOf jobs.now.pool.now seat.old }
-    requires answers { Allows (S.answers (source_of jobs.now.pool.now)) jobs.now.plan }
+    requires answers { Allows H.carried (S.answers (source_of jobs.now.pool.now)) jobs.now.plan }
     requires room { MayTakeJob fetcher.old }
     ensures { IsLaterSeat jobs.now.pool.now seat.old seat.new }
 {
@@ -112,10 +114,10 @@ pub fn take_jobs<'a, S: Source, L: Ledger, G: Gate, H: Network>(
     system: &System<'_, H>,
     jobs: &Jobs<'_, 'a, S, L, G>,
     seat: &mut FillSeat<S, L>,
-    fetcher: &mut Fetcher<'a, S>,
+    fetcher: &mut Fetcher<'a, S, H>,
 ) -> bool
     requires seat { IsFillSeatOf jobs.now.pool.now seat.old }
-    requires answers { Allows (S.answers (source_of jobs.now.pool.now)) jobs.now.plan }
+    requires answers { Allows H.carried (S.answers (source_of jobs.now.pool.now)) jobs.now.plan }
     ensures { IsLaterSeat jobs.now.pool.now seat.old seat.new }
 {
     let mut took = false;
@@ -133,10 +135,10 @@ pub fn serve_waiting<'a, S: Source, L: Ledger, G: Gate, H: Network>(
     system: &System<'_, H>,
     jobs: &Jobs<'_, 'a, S, L, G>,
     seat: &mut FillSeat<S, L>,
-    fetcher: &mut Fetcher<'a, S>,
+    fetcher: &mut Fetcher<'a, S, H>,
 )
     requires seat { IsFillSeatOf jobs.now.pool.now seat.old }
-    requires answers { Allows (S.answers (source_of jobs.now.pool.now)) jobs.now.plan }
+    requires answers { Allows H.carried (S.answers (source_of jobs.now.pool.now)) jobs.now.plan }
     ensures { IsLaterSeat jobs.now.pool.now seat.old seat.new }
 {
     for _ in 0..fetcher.waiting_count() {
@@ -153,10 +155,10 @@ pub fn serve_ready<'a, S: Source, L: Ledger, G: Gate, H: Network>(
     system: &System<'_, H>,
     jobs: &Jobs<'_, 'a, S, L, G>,
     seat: &mut FillSeat<S, L>,
-    fetcher: &mut Fetcher<'a, S>,
+    fetcher: &mut Fetcher<'a, S, H>,
 )
     requires seat { IsFillSeatOf jobs.now.pool.now seat.old }
-    requires answers { Allows (S.answers (source_of jobs.now.pool.now)) jobs.now.plan }
+    requires answers { Allows H.carried (S.answers (source_of jobs.now.pool.now)) jobs.now.plan }
     ensures { IsLaterSeat jobs.now.pool.now seat.old seat.new }
 {
     for _ in 0..fetcher.ready_count() {

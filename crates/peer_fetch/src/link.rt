@@ -1,21 +1,26 @@
 //! A connection to an origin, and the value that is under way on it.
 //!
-//! It promises that a turn leaves a value on its connection, or gives it back with its own job, and that only a
-//! value of the endpoint with whose number the connection began is asked for on it, where no other is under way.
+//! It promises that a turn leaves a value on its connection, or gives it back with its own job, that only a value of the endpoint
+//! with whose number the connection began is asked for on it, where no other is under way, and that what a connection carried in
+//! its present use is what was sent and came for that value.
 ghost use Rattle.std.specs.Prelude.{◌≡◌, ◌↔◌, IfSome, IsSome, IsTrue, Some, None};
 ghost use Rattle.std.proofs.Props.{props};
-ghost use Rattle.peer_fetch.specs.Turns.{IsTurnOf};
+ghost use Rattle.peer_runtime.specs.Wires.{Carried};
+ghost use Rattle.peer_fetch.specs.Transfers.{IsOn};
+ghost use Rattle.peer_fetch.specs.Turns.{GivesOn, IsTurnOf, KeepsWire};
 ghost use Rattle.peer_value.specs.UnderWays.{number_of};
+ghost use Rattle.peer_value.specs.Values.{IsUnused};
 
 use crate::opening::Untried;
 use crate::transfer::{Halt, receive, send};
 use mio::event::Event;
 use mio::net::TcpStream;
 use peer_origin::{Failure, FetchFault, is_to_itself};
-use peer_runtime::{Readiness, would_block};
+use peer_runtime::{Readiness, Wire, Wires, would_block};
 use peer_source::Source;
 use peer_value::{Answer, Done, UnderWay};
-use std::io::{ErrorKind, Write};
+use std::io::ErrorKind;
+use std::marker::PhantomData;
 use std::time::Duration;
 
 /// That another request may follow on a connection. Its turn alone says so.
@@ -44,8 +49,8 @@ pub enum Turn<'a, S: Source> {
 
 /// A connection.
 #[derive(Drop)]
-pub struct Link<'a, S: Source> {
-    stream: TcpStream,
+pub struct Link<'a, S: Source, H: Wires> {
+    wire: Wire,
     under: Option<UnderWay<'a, S>>,
     // When the address is given up. None once it is connected.
     connect_due: Option<Duration>,
@@ -58,7 +63,10 @@ pub struct Link<'a, S: Source> {
     pub was_kept: bool,
     /// Whether it is on the list of those that are to have a turn.
     pub is_ready: bool,
+    of: PhantomData<H>,
     ghost own: { IfSome under (λ u. number_of u ≡ number) } by { Prim.hlevel props },
+    ghost carried: { Carried H.carried wire },
+    ghost tied: { IfSome under (λ u. IsOn wire u) } by { Prim.hlevel props },
 }
 
 // How far a stream is that began to connect.
@@ -89,15 +97,18 @@ fn late_fault<S: Source>(under: &UnderWay<'_, S>) -> FetchFault {
 }
 
 // How far a stream is that began to connect.
-fn progress_of(stream: &TcpStream) -> Connecting {
-    let Ok(None) = stream.take_error() else {
+fn progress_of<H: Wires>(rt: &H, wire: &mut Wire) -> Connecting
+    requires { Carried H.carried wire.old }
+    ensures wire { KeepsWire result wire.old wire.new }
+    ensures carried { Carried H.carried wire.new }
+{
+    let Ok(None) = wire.take_error() else {
         return Connecting::Failed;
     };
-    match stream.peer_addr() {
-        Ok(peer) if is_to_itself(stream.local_addr(), peer) => {
+    match wire.peer_addr() {
+        Ok(peer) if is_to_itself(wire.local_addr(), peer) => {
             // So that its close gives the port back at once.
-            let mut stream = stream;
-            let _ = stream.write(b"x");
+            let _ = rt.write(wire, b"x");
             Connecting::Failed
         }
         Ok(_) => Connecting::Connected,
@@ -106,19 +117,21 @@ fn progress_of(stream: &TcpStream) -> Connecting {
     }
 }
 
-impl<'a, S: Source> Link<'a, S> {
+impl<'a, S: Source, H: Wires> Link<'a, S, H> {
     /// A stream that begins to connect to the endpoint of a value, for that value. It is given up at `due`.
     pub fn new(
+        rt: &H,
         stream: TcpStream,
         under: UnderWay<'a, S>,
         untried: Untried,
         due: Duration,
-    ) -> Link<'a, S>
+    ) -> Link<'a, S, H>
+        requires { IsUnused under.fetching }
         ensures { result.under ≡ Some under.entry }
     {
         let number = under.number();
         Link {
-            stream,
+            wire: rt.wire(stream),
             under: Some(under),
             connect_due: Some(due),
             readiness: Readiness::unknown(),
@@ -126,6 +139,7 @@ impl<'a, S: Source> Link<'a, S> {
             untried,
             was_kept: false,
             is_ready: false,
+            of: PhantomData,
         }
     }
 
@@ -143,7 +157,7 @@ impl<'a, S: Source> Link<'a, S> {
             return false;
         }
         let mut byte = [0u8; 1];
-        match self.stream.peek(&mut byte) {
+        match self.wire.peek(&mut byte) {
             Ok(_) => false,
             Err(error) => would_block(&error),
         }
@@ -160,6 +174,7 @@ impl<'a, S: Source> Link<'a, S> {
     fn put(&mut self, under: UnderWay<'a, S>)
         requires number { number_of under ≡ self.old.number }
         requires free { self.old.under ≡ None }
+        requires on { IsOn self.old.wire under }
         ensures under { self.new.under ≡ Some under.entry }
         ensures number { self.new.number ≡ self.old.number }
     {
@@ -167,14 +182,16 @@ impl<'a, S: Source> Link<'a, S> {
     }
 
     /// Asks for another value of its endpoint.
-    pub fn begin(&mut self, under: UnderWay<'a, S>)
+    pub fn begin(&mut self, rt: &H, under: UnderWay<'a, S>)
         requires number { number_of under ≡ self.old.number }
         requires free { self.old.under ≡ None }
+        requires unused { IsUnused under.fetching }
         ensures under { self.new.under ≡ Some under.entry }
         ensures number { self.new.number ≡ self.old.number }
     {
         self.readiness.readable = false;
         self.was_kept = true;
+        rt.begin(&mut self.wire);
         self.put(under);
     }
 
@@ -188,19 +205,28 @@ impl<'a, S: Source> Link<'a, S> {
     }
 
     // Sends and receives for a value. One that is `late` has what has come by now, and nothing is waited for.
-    fn exchange(&mut self, under: UnderWay<'a, S>, buffer: &mut [u8], late: bool) -> Turn<'a, S>
+    fn exchange(
+        &mut self,
+        rt: &H,
+        under: UnderWay<'a, S>,
+        buffer: &mut [u8],
+        late: bool,
+    ) -> Turn<'a, S>
         requires number { number_of under ≡ self.old.number }
         requires free { self.old.under ≡ None }
+        requires on { IsOn self.old.wire under }
         ensures value { IsTurnOf under.entry self.new.under result }
+        ensures on { GivesOn H.carried result }
         ensures number { self.new.number ≡ self.old.number }
     {
         let mut under = under;
         // Of what came while the process stood still no event need have told, nor of the end behind it.
         self.readiness.readable |= late;
         self.readiness.read_closed |= late;
-        let halt = match send(&mut self.stream, &mut under) {
+        let wire = &mut self.wire;
+        let halt = match send(rt, wire, &mut under) {
             Some(halt) => halt,
-            None => match receive(&mut self.stream, &mut under, buffer, &mut self.readiness) {
+            None => match receive(rt, wire, &mut under, buffer, &mut self.readiness) {
                 Ok(answer) => {
                     let Answer { value, keeps } = answer;
                     let reusable = reusable_if(keeps && !self.readiness.read_closed);
@@ -227,18 +253,20 @@ impl<'a, S: Source> Link<'a, S> {
     }
 
     // How far the stream is. An address that is not reached by its time has failed.
-    fn connect(&mut self, now: Duration) -> Connecting
+    fn connect(&mut self, rt: &H, now: Duration) -> Connecting
+        requires { self.old.under ≡ None }
+        ensures wire { KeepsWire result self.old.wire self.new.wire }
         ensures number { self.new.number ≡ self.old.number }
         ensures under { self.new.under ≡ self.old.under }
     {
         let Some(due) = self.connect_due else {
             return Connecting::Connected;
         };
-        let progress = progress_of(&self.stream);
+        let progress = progress_of(rt, &mut self.wire);
         match progress {
             Connecting::Connected => {
                 self.connect_due = None;
-                let _ = self.stream.set_nodelay(true);
+                let _ = self.wire.set_nodelay();
             }
             Connecting::Waits if now >= due => return Connecting::Failed,
             _ => {}
@@ -247,8 +275,9 @@ impl<'a, S: Source> Link<'a, S> {
     }
 
     /// Goes on with the value that is under way.
-    pub fn turn(&mut self, buffer: &mut [u8], now: Duration) -> Turn<'a, S>
+    pub fn turn(&mut self, rt: &H, buffer: &mut [u8], now: Duration) -> Turn<'a, S>
         ensures value { IfSome self.old.under (λ u. IsTurnOf u self.new.under result) }
+        ensures on { GivesOn H.carried result }
         ensures number { self.new.number ≡ self.old.number }
     {
         self.is_ready = false;
@@ -260,8 +289,8 @@ impl<'a, S: Source> Link<'a, S> {
             };
         };
         let late = under.due() <= now;
-        match self.connect(now) {
-            Connecting::Connected => self.exchange(under, buffer, late),
+        match self.connect(rt, now) {
+            Connecting::Connected => self.exchange(rt, under, buffer, late),
             Connecting::Waits | Connecting::Failed if late => {
                 Turn::Done(under.done(Err(FetchFault::Unreached)), None)
             }

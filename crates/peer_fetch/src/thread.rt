@@ -16,13 +16,13 @@ use crate::room::Room;
 use crate::settings::FetchPlan;
 use mio::{Events, Poll};
 use peer_fill::{FillSeat, Gate, Pool};
-use peer_runtime::{Network, OwnWaker, PollWaker, WOKEN};
+use peer_runtime::{Network, OwnWaker, PollWaker, WOKEN, Wires};
 use peer_source::Source;
 use std::alloc::Global;
 use std::net::Net;
 use std::sync::ledger::Ledger;
 use std::thread;
-use std::time::{Clock, Duration, Instant};
+use std::time::{Duration, Instant};
 
 // How many events one wait gives.
 const MAX_EVENTS: usize = 1024;
@@ -45,10 +45,10 @@ pub struct FetchThread<'a> {
 
 // A thread that fetches, while it runs.
 #[derive(Drop)]
-struct Running<'a, S: Source> {
+struct Running<'a, S: Source, H: Wires> {
     poll: Poll,
     events: Events,
-    fetcher: Fetcher<'a, S>,
+    fetcher: Fetcher<'a, S, H>,
     pause: Duration,
     begun: Option<Instant>,
 }
@@ -59,11 +59,11 @@ fn prepare_wait<'a, S: Source, L: Ledger, G: Gate, H: Network>(
     system: &System<'_, H>,
     jobs: &Jobs<'_, 'a, S, L, G>,
     seat: &mut FillSeat<S, L>,
-    fetcher: &mut Fetcher<'a, S>,
+    fetcher: &mut Fetcher<'a, S, H>,
     waker: OwnWaker<'_>,
 ) -> Option<Duration>
     requires seat { IsFillSeatOf jobs.now.pool.now seat.old }
-    requires answers { Allows (S.answers (source_of jobs.now.pool.now)) jobs.now.plan }
+    requires answers { Allows H.carried (S.answers (source_of jobs.now.pool.now)) jobs.now.plan }
     ensures { IsLaterSeat jobs.now.pool.now seat.old seat.new }
 {
     if fetcher.is_ready() {
@@ -88,11 +88,11 @@ fn work_on<'a, S: Source, L: Ledger, G: Gate, H: Network>(
     system: &System<'_, H>,
     jobs: &Jobs<'_, 'a, S, L, G>,
     seat: &mut FillSeat<S, L>,
-    fetcher: &mut Fetcher<'a, S>,
+    fetcher: &mut Fetcher<'a, S, H>,
     waker: OwnWaker<'_>,
 ) -> bool
     requires seat { IsFillSeatOf jobs.now.pool.now seat.old }
-    requires answers { Allows (S.answers (source_of jobs.now.pool.now)) jobs.now.plan }
+    requires answers { Allows H.carried (S.answers (source_of jobs.now.pool.now)) jobs.now.plan }
     ensures seat { IsLaterSeat jobs.now.pool.now seat.old seat.new }
     ensures done { IsTrue result → HasNothing fetcher.new }
 {
@@ -137,7 +137,7 @@ impl<'a> FetchThread<'a> {
         gate: &G,
     ) -> FillSeat<S, L>
         requires seat { IsFillSeatOf pool.now seat }
-        requires answers { Allows (S.answers (source_of pool.now)) self.plan }
+        requires answers { Allows H.carried (S.answers (source_of pool.now)) self.plan }
         ensures { IsLaterSeat pool.now seat result }
     {
         let FetchThread { alloc, parts, plan } = self;
@@ -161,9 +161,9 @@ impl<'a> FetchThread<'a> {
     }
 }
 
-impl<'a, S: Source> Running<'a, S> {
+impl<'a, S: Source, H: Network> Running<'a, S, H> {
     // Waits for events so long, and notes them.
-    fn wait<H: Clock>(&mut self, rt: &H, time: Option<Duration>, waker: OwnWaker<'_>) {
+    fn wait(&mut self, rt: &H, time: Option<Duration>, waker: OwnWaker<'_>) {
         let waited = self.poll.poll(&mut self.events, time);
         let _ = waker.own.stay_awake();
         if waited.is_err() {
@@ -178,7 +178,7 @@ impl<'a, S: Source> Running<'a, S> {
     }
 
     // One turn: gives up what is late, takes jobs, serves those that are ready, and waits. Whether all is done.
-    fn turn<L: Ledger, G: Gate, H: Network>(
+    fn turn<L: Ledger, G: Gate>(
         &mut self,
         rt: &H,
         jobs: &Jobs<'_, 'a, S, L, G>,
@@ -186,7 +186,7 @@ impl<'a, S: Source> Running<'a, S> {
         waker: OwnWaker<'_>,
     ) -> bool
         requires seat { IsFillSeatOf jobs.now.pool.now seat.old }
-        requires answers { Allows (S.answers (source_of jobs.now.pool.now)) jobs.now.plan }
+        requires answers { Allows H.carried (S.answers (source_of jobs.now.pool.now)) jobs.now.plan }
         ensures seat { IsLaterSeat jobs.now.pool.now seat.old seat.new }
         ensures done { IsTrue result → HasNothing self.new.fetcher }
     {
@@ -205,7 +205,7 @@ impl<'a, S: Source> Running<'a, S> {
     }
 
     // Gives itself turns until all is done.
-    fn run<L: Ledger, G: Gate, H: Network>(
+    fn run<L: Ledger, G: Gate>(
         &mut self,
         rt: &H,
         jobs: &Jobs<'_, 'a, S, L, G>,
@@ -213,7 +213,7 @@ impl<'a, S: Source> Running<'a, S> {
         waker: OwnWaker<'_>,
     )
         requires seat { IsFillSeatOf jobs.now.pool.now seat.old }
-        requires answers { Allows (S.answers (source_of jobs.now.pool.now)) jobs.now.plan }
+        requires answers { Allows H.carried (S.answers (source_of jobs.now.pool.now)) jobs.now.plan }
         ensures seat { IsLaterSeat jobs.now.pool.now seat.old seat.new }
         ensures done { HasNothing self.new.fetcher }
     {

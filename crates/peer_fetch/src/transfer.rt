@@ -1,14 +1,17 @@
-//! How the request for a value is sent over a stream that never waits, and its reply received.
-ghost use Rattle.std.specs.Prelude.{◌≤◌, length, IfOk, IfSome};
+//! How the request for a value is sent on a connection that never waits, and its reply received.
+//!
+//! It promises that what the fetch is told was sent and came is what the network's writes and reads say of the connection.
+ghost use Rattle.std.specs.Prelude.{◌≡◌, ◌<◌, ◌++◌, ◌||◌, ◌==◌, length, IfOk, IfSome};
+ghost use Rattle.peer_runtime.specs.Wires.{Carried};
 ghost use Rattle.peer_value.specs.UnderWays.{HasSameJob, IsAnswerTo, IsAsked};
+ghost use Rattle.peer_value.specs.Values.{IsSameTry};
+ghost use Rattle.peer_fetch.specs.Transfers.{HasRead, IsOn};
 
-use mio::net::TcpStream;
 use peer_origin::Failure;
-use peer_runtime::{Readiness, was_interrupted, would_block};
+use peer_runtime::{Readiness, Wire, Wires, was_interrupted, would_block};
 use peer_source::Source;
 use peer_value::{Answer, UnderWay};
 use std::io;
-use std::io::{Read, Write};
 
 // How often is read or written for one value before others have their turn: with a buffer of 64 KiB a value of 1 MiB and its head.
 const ROUNDS: u32 = 17;
@@ -21,17 +24,46 @@ pub enum Halt {
     Failed(Failure),
 }
 
+// Sends bytes off the front of what is to be sent, and says how many.
+fn write<S: Source, H: Wires>(
+    rt: &H,
+    wire: &mut Wire,
+    under: &mut UnderWay<'_, S>,
+) -> io::Result<usize>
+    requires carried { Carried H.carried wire.old }
+    requires on { IsOn wire.old under.old }
+    ensures kept { HasSameJob under.old under.new }
+    ensures carried { Carried H.carried wire.new }
+    ensures on { IsOn wire.new under.new }
+{
+    match rt.write(wire, under.unsent()) {
+        Ok(n) => {
+            under.sent(n);
+            Ok(n)
+        }
+        Err(error) => Err(error),
+    }
+}
+
 /// Sends what is to be sent. None once all is.
-pub fn send<S: Source>(stream: &mut TcpStream, under: &mut UnderWay<'_, S>) -> Option<Halt>
-    ensures { HasSameJob under.old under.new }
+pub fn send<S: Source, H: Wires>(
+    rt: &H,
+    wire: &mut Wire,
+    under: &mut UnderWay<'_, S>,
+) -> Option<Halt>
+    requires carried { Carried H.carried wire.old }
+    requires on { IsOn wire.old under.old }
+    ensures kept { HasSameJob under.old under.new }
+    ensures carried { Carried H.carried wire.new }
+    ensures on { IsOn wire.new under.new }
 {
     for _ in 0..ROUNDS {
         if under.is_sent() {
             return None;
         }
-        match stream.write(under.unsent()) {
+        match write(rt, wire, under) {
             Ok(0) => return Some(Halt::Failed(under.cut())),
-            Ok(n) => under.sent(n),
+            Ok(_) => {}
             Err(error) if would_block(&error) => return Some(Halt::Waits),
             Err(error) if was_interrupted(&error) => {}
             Err(_) => return Some(Halt::Failed(under.cut())),
@@ -41,14 +73,18 @@ pub fn send<S: Source>(stream: &mut TcpStream, under: &mut UnderWay<'_, S>) -> O
 }
 
 // Reads what has come. `Some(0)` is the end of the stream, and none is nothing that has come.
-fn read(
-    stream: &mut TcpStream,
+fn read<H: Wires>(
+    rt: &H,
+    wire: &mut Wire,
     room: &mut [u8],
     readiness: &mut Readiness,
 ) -> io::Result<Option<usize>>
-    ensures { IfOk result (λ came. IfSome came (λ n. n ≤ length room.new)) }
+    requires room { 0 < length room.old }
+    requires carried { Carried H.carried wire.old }
+    ensures read { HasRead result wire.old wire.new room.new }
+    ensures carried { Carried H.carried wire.new }
 {
-    match stream.read(room) {
+    match rt.read(wire, room) {
         Ok(n) => {
             // Less than there was room for is all that has come.
             readiness.readable = n == room.len() || readiness.read_closed;
@@ -67,6 +103,9 @@ fn read(
 fn take_in<S: Source>(under: &mut UnderWay<'_, S>, bytes: &[u8]) -> Result<Option<Answer>, Failure>
     requires { IsAsked under.old }
     ensures kept { HasSameJob under.old under.new }
+    ensures same { IsSameTry under.old.fetching under.new.fetching }
+    ensures came { under.new.fetching.receiving.came.bytes ≡ under.old.fetching.receiving.came.bytes ++ bytes.now }
+    ensures ended { under.new.fetching.ended ≡ (under.old.fetching.ended || length bytes.now == 0) }
     ensures answer { IfOk result (λ came. IfSome came (IsAnswerTo under.new)) }
 {
     if bytes.is_empty() {
@@ -76,27 +115,52 @@ fn take_in<S: Source>(under: &mut UnderWay<'_, S>, bytes: &[u8]) -> Result<Optio
     under.receive(bytes)
 }
 
+// Reads what has come, and takes it in. None if there is no answer yet.
+fn receive_some<S: Source, H: Wires>(
+    rt: &H,
+    wire: &mut Wire,
+    under: &mut UnderWay<'_, S>,
+    buffer: &mut [u8],
+    readiness: &mut Readiness,
+) -> Result<Option<Answer>, Failure>
+    requires room { 0 < length buffer.old }
+    requires asked { IsAsked under.old }
+    requires carried { Carried H.carried wire.old }
+    requires on { IsOn wire.old under.old }
+    ensures kept { HasSameJob under.old under.new }
+    ensures carried { Carried H.carried wire.new }
+    ensures on { IsOn wire.new under.new }
+    ensures answer { IfOk result (λ came. IfSome came (IsAnswerTo under.new)) }
+{
+    let Ok(came) = read(rt, wire, buffer, readiness) else {
+        return Err(under.cut());
+    };
+    match came {
+        Some(n) => take_in(under, &buffer[..n]),
+        None => Ok(None),
+    }
+}
+
 /// Receives what comes, once all is sent.
-pub fn receive<S: Source>(
-    stream: &mut TcpStream,
+pub fn receive<S: Source, H: Wires>(
+    rt: &H,
+    wire: &mut Wire,
     under: &mut UnderWay<'_, S>,
     buffer: &mut [u8],
     readiness: &mut Readiness,
 ) -> Result<Answer, Halt>
+    requires carried { Carried H.carried wire.old }
+    requires on { IsOn wire.old under.old }
     ensures kept { HasSameJob under.old under.new }
+    ensures carried { Carried H.carried wire.new }
+    ensures on { IsOn wire.new under.new }
     ensures answer { IfOk result (IsAnswerTo under.new) }
 {
     for _ in 0..ROUNDS {
-        if !readiness.readable || !under.is_sent() {
+        if !readiness.readable || !under.is_sent() || buffer.is_empty() {
             return Err(Halt::Waits);
         }
-        let Ok(came) = read(stream, buffer, readiness) else {
-            return Err(Halt::Failed(under.cut()));
-        };
-        let Some(n) = came else {
-            continue;
-        };
-        match take_in(under, &buffer[..n]) {
+        match receive_some(rt, wire, under, buffer, readiness) {
             Ok(None) => {}
             Ok(Some(answer)) => return Ok(answer),
             Err(failure) => return Err(Halt::Failed(failure)),

@@ -2,9 +2,11 @@
 
 use crate::caches::CachesSaid;
 use crate::exit::{DONE, Exit, OUT_OF_MEMORY, no_output, refuse};
-use crate::source::group_names;
+use crate::facts::served_groups;
 use peer_flags::Options;
 use peer_groups::FrontSource;
+use peer_runtime::Wires;
+use peer_stats::ServedGroup;
 use std::io;
 use std::io::Write;
 
@@ -12,32 +14,32 @@ use std::io::Write;
 fn say_groups<H: AllocGlobal + Print>(
     rt: &H,
     options: &Options<'_>,
-    names: &[Vec<u8>],
+    groups: &[ServedGroup],
 ) -> io::Result<()> {
     println!(rt;
         "would serve at {}, with {}:",
         options.listen,
-        CachesSaid::of(options, names.len())
+        CachesSaid::of(options, groups.len())
     )?;
     let mut writer = io::writer(rt);
-    for name in names {
-        writer.write_all(name.as_slice())?;
+    for group in groups {
+        writer.write_all(group.name.as_slice())?;
         writer.write_all(b"\n")?;
     }
     writer.flush()
 }
 
 /// Says what would be served of a source, or why that cannot be said.
-pub fn say_checked<H: AllocGlobal + Print + Eprint>(
+pub fn say_checked<H: AllocGlobal + Print + Eprint + Wires + Sync>(
     rt: &H,
     options: &Options<'_>,
-    source: &FrontSource,
+    source: &FrontSource<'_, H>,
     words: &[&str],
 ) -> Exit {
-    let Some(names) = group_names(rt.alloc(), source, words) else {
+    let Some(groups) = served_groups(rt.alloc(), source, words, options) else {
         return refuse(rt, &"out of memory", OUT_OF_MEMORY);
     };
-    match say_groups(rt, options, names.as_slice()) {
+    match say_groups(rt, options, groups.as_slice()) {
         Ok(()) => DONE,
         Err(error) => no_output(rt, &error),
     }

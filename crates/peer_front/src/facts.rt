@@ -2,6 +2,7 @@
 
 use peer_flags::Options;
 use peer_groups::{FrontSource, names_of};
+use peer_runtime::Wires;
 use peer_stats::{Build, CacheLimits, ServedGroup, ServerBounds, ServerFacts};
 use std::alloc::Global;
 
@@ -13,9 +14,9 @@ const TOOLCHAIN: &[u8] = b"dac8208d650f15bf";
 
 /// The groups of the source that these words ask for, in the order of their numbers, and what their caches may have. None where
 /// memory is refused.
-pub fn served_groups(
+pub fn served_groups<H: Wires + Sync>(
     alloc: Global,
-    source: &FrontSource,
+    source: &FrontSource<'_, H>,
     words: &[&str],
     options: &Options<'_>,
 ) -> Option<Vec<ServedGroup>> {

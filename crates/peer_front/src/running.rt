@@ -35,7 +35,7 @@ fn serve_planned<S: Source + Send + Sync, H: AllocGlobal + Host>(
     rt: &H,
     service: Service<'_, S>,
 ) -> Result<Report, ServerFault>
-    requires { IfSome service.plan (Allows (S.answers service.source)) }
+    requires { IfSome service.plan (Allows H.carried (S.answers service.source)) }
 {
     let Service {
         source,
@@ -77,26 +77,54 @@ fn serve_beside<
     )
 }
 
-// Serves while the page is served, where one is asked for.
+// Serves in a thread of its own while this work is done here, which the server ends.
+fn serve_apart<
+    W: FnOnce(),
+    F: FnOnce() -> Result<Report, ServerFault> + Send,
+    H: Threads + Wait + Sync,
+>(rt: &H, work: W, serve: F) -> Result<Report, ServerFault>
+    requires work { W.pre work }
+    requires serve { F.pre serve }
+{
+    thread::scope(
+        thread::scope_env(),
+        rt,
+        move |scope| -> Result<Report, ServerFault>
+            requires work { W.pre work }
+            requires serve { F.pre serve }
+        {
+            let Ok(serving) = scope.spawn(serve) else {
+                return Err(ServerFault::Refused);
+            };
+            work();
+            serving.join(rt)
+        },
+    )
+}
+
+// Serves while the page is served, where one is asked for: here, since files can be read in this thread alone.
 fn serve_paged<S: Source + Send + Sync, H: AllocGlobal + Files + Host>(
     rt: &H,
     service: Service<'_, S>,
     page: Option<Page>,
 ) -> Result<Report, ServerFault>
-    requires { IfSome service.plan (Allows (S.answers service.source)) }
+    requires { IfSome service.plan (Allows H.carried (S.answers service.source)) }
 {
     let Some(Page { server, end }) = page else {
         return serve_planned(rt, service);
     };
     let end = &end;
     let (counters, facts) = (service.settings.counters, service.facts);
-    serve_beside(
+    serve_apart(
         rt,
         move || server.run(rt, counters, facts, end),
-        move || end.end(),
         move || -> Result<Report, ServerFault>
-            requires { IfSome service.plan (Allows (S.answers service.source)) }
-        { serve_planned(rt, service) },
+            requires { IfSome service.plan (Allows H.carried (S.answers service.source)) }
+        {
+            let report = serve_planned(rt, service);
+            end.end();
+            report
+        },
     )
 }
 
@@ -106,7 +134,7 @@ fn serve_named<S: Source + Send + Sync, H: AllocGlobal + Files + Host>(
     service: Service<'_, S>,
     page: Option<Page>,
 ) -> Result<Report, ServerFault>
-    requires { IfSome service.plan (Allows (S.answers service.source)) }
+    requires { IfSome service.plan (Allows H.carried (S.answers service.source)) }
 {
     let endpoints = match &service.plan {
         Some(plan) if has_names(plan.endpoints.each) => plan.endpoints.each,
@@ -119,7 +147,7 @@ fn serve_named<S: Source + Send + Sync, H: AllocGlobal + Files + Host>(
         move || look_up_names(rt, endpoints, end),
         move || end.tell(),
         move || -> Result<Report, ServerFault>
-            requires { IfSome service.plan (Allows (S.answers service.source)) }
+            requires { IfSome service.plan (Allows H.carried (S.answers service.source)) }
         { serve_paged(rt, service, page) },
     )
 }
@@ -131,7 +159,7 @@ pub fn serve_watched<S: Source + Send + Sync, H: AllocGlobal + Eprint + Files + 
     service: Service<'_, S>,
     page: Option<Page>,
 ) -> Result<Report, ServerFault>
-    requires { IfSome service.plan (Allows (S.answers service.source)) }
+    requires { IfSome service.plan (Allows H.carried (S.answers service.source)) }
 {
     let end = End::new();
     let end = &end;
@@ -141,7 +169,7 @@ pub fn serve_watched<S: Source + Send + Sync, H: AllocGlobal + Eprint + Files + 
         move || tell_troubles(rt, counters, end),
         move || end.tell(),
         move || -> Result<Report, ServerFault>
-            requires { IfSome service.plan (Allows (S.answers service.source)) }
+            requires { IfSome service.plan (Allows H.carried (S.answers service.source)) }
         { serve_named(rt, service, page) },
     )
 }

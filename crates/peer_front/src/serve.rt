@@ -126,7 +126,7 @@ fn serve_source<
     plan: Option<FetchPlan<'_>>,
     outside: Outside<'_>,
 ) -> Exit
-    requires { IfSome plan (Allows (S.answers source)) }
+    requires { IfSome plan (Allows H.carried (S.answers source)) }
 {
     let opened = match open(rt, options) {
         Ok(opened) => opened,
@@ -198,8 +198,8 @@ pub fn serve_asked<
 // Serves this source.
 fn serve<
     R: Read + Send + Drop + 'static,
-    H: AllocGlobal + Input<Reader = R> + Print + Eprint + RandomSource + Host,
->(rt: &H, options: &Options<'_>, source: FrontSource, words: &[&str]) -> Exit {
+    H: AllocGlobal + Input<Reader = R> + Print + Eprint + Files + RandomSource + Host,
+>(rt: &H, options: &Options<'_>, source: FrontSource<'_, H>, words: &[&str]) -> Exit {
     let has_services = !words.is_empty();
     let counters = Counters::new();
     let (Some(fetched), Ok(stop)) = (fetched_of(rt.alloc(), &source), stop_of(rt, options)) else {

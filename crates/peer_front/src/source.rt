@@ -6,7 +6,7 @@ use crate::table::read_table;
 use peer_flags::Options;
 use peer_groups::{Beside, DEMO_NAMES, FrontSource, GroupFault, Maybe, first_in, origins_of};
 use peer_origin::{FetchSettings, Origin, OriginSource};
-use peer_runtime::Network;
+use peer_runtime::{Network, Wires};
 use peer_source::{DemoSource, MAX_GROUPS, Source};
 use peer_table::TableSource;
 use std::fs::Files;
@@ -106,23 +106,23 @@ pub fn fetch_settings(options: &Options<'_>) -> FetchSettings {
 }
 
 // The parts as one source.
-fn join(
+fn join<'a, H: Wires + Sync>(
     options: &Options<'_>,
     table: Option<TableSource>,
     origins: Vec<Origin>,
-) -> Option<FrontSource> {
+) -> Option<FrontSource<'a, H>> {
     let behind = Beside::new(Maybe { source: table }, OriginSource::new(origins))?;
     let demo = if options.demo { Some(DemoSource) } else { None };
     Beside::new(behind, Maybe { source: demo })
 }
 
 /// The source that is asked for, or why there is none, which it says.
-pub fn source_of<H: AllocGlobal + Eprint + Files + Network>(
-    rt: &H,
+pub fn source_of<'a, H: AllocGlobal + Eprint + Files + Network + Sync>(
+    rt: &'a H,
     options: &Options<'_>,
     words: &[&str],
     file: Option<ConfigFile<'_>>,
-) -> Result<FrontSource, Exit> {
+) -> Result<FrontSource<'a, H>, Exit> {
     let origins = match origins_of(rt, rt.alloc(), words) {
         Ok(origins) => origins,
         Err(bad) if bad.fault.is_memory() => return Err(refuse(rt, &bad, OUT_OF_MEMORY)),

@@ -1,5 +1,5 @@
 -- Sources beside one another: the groups of the first, and behind them those of the second.
-use Rattle.std.specs.Prelude.{◌≡◌, ℕ, ◌+◌, ◌-◌, ◌<◌, ◌≤◌, ◌⊎◌, List, length, Option, Some, None, option_map}
+use Rattle.std.specs.Prelude.{◌≡◌, ℕ, Bool, ◌+◌, ◌-◌, ◌<◌, ◌≤◌, ◌⊎◌, List, length, Option, Some, None, option_map}
 use Rattle.std.proofs.Common.{inl, inr, arith, refl}
 use Rattle.std.proofs.lemmas.Bool.{cases_lt}
 use Rattle.peer_source.specs.Answers.{Answer, Failed, IsWithinLimit}
@@ -10,10 +10,11 @@ use Rattle.peer_origin.specs.declared.origin.Origin.{Origin}
 abbrev pub AnswersEither : ℕ → (ℕ → List ℕ → Answer → Type 0) → (ℕ → List ℕ → Answer → Type 0) → ℕ → List ℕ → Answer → Type 0
 AnswersEither count first second g k a = (g < count → first g k a) × (count ≤ g → second (g - count) k a)
 
--- what a source answers in which these origins stand between a first that has so many groups and a second
-abbrev pub AnswersOrigins : ℕ → List Origin → (ℕ → List ℕ → Answer → Type 0) → (ℕ → List ℕ → Answer → Type 0) → ℕ → List ℕ → Answer → Type 0
-AnswersOrigins count origins first second =
-    AnswersEither (count + length origins) (AnswersEither count first (AnswersFrom origins)) second
+-- what a source answers in which these origins, asked on connections of a network, stand between a first that has so many groups and
+-- a second
+abbrev pub AnswersOrigins : (List ℕ → List ℕ → Bool → Type 0) → ℕ → List Origin → (ℕ → List ℕ → Answer → Type 0) → (ℕ → List ℕ → Answer → Type 0) → ℕ → List ℕ → Answer → Type 0
+AnswersOrigins carried count origins first second =
+    AnswersEither (count + length origins) (AnswersEither count first (AnswersFrom carried origins)) second
 
 -- what either allows, for some group
 abbrev pub AllowsEither : (ℕ → List ℕ → Answer → Type 0) → (ℕ → List ℕ → Answer → Type 0) → ℕ → List ℕ → Answer → Type 0

@@ -7,6 +7,7 @@ ghost use Rattle.peer_groups.specs.Besides.{AnswersOrigins};
 use crate::beside::Beside;
 use peer_fetch::{FetchPlan, FetchThreadSettings};
 use peer_origin::{Endpoint, FetchSettings, OriginSource};
+use peer_runtime::Wires;
 use peer_source::Source;
 use peer_stats::FailureSlots;
 use peer_value::Endpoints;
@@ -47,16 +48,16 @@ impl Fetched {
 }
 
 /// The groups of services in a source in which they stand behind those of a first. None where memory is refused.
-pub fn fetched_of<A: Source + Send + Sync, B: Source + Send + Sync>(
+pub fn fetched_of<'a, A: Source + Send + Sync, B: Source + Send + Sync, H: Wires + Sync>(
     alloc: Global,
-    source: &Beside<Beside<A, OriginSource>, B>,
+    source: &Beside<Beside<A, OriginSource<'a, H>>, B>,
 ) -> Option<Fetched>
     ensures first { IfSome result (λ fetched. fetched.first ≡ A.count source.now.first.first) }
     ensures each { IfSome result (λ fetched. map reached_at fetched.each.items
         ≡ map (λ o. reached_at o.endpoint) source.now.first.second.origins.items) }
     ensures groups { IfSome result (λ fetched. fetched.groups
         ≡ A.count source.now.first.first + length source.now.first.second.origins.items + B.count source.now.second) }
-    ensures allows { IfSome result (λ fetched. AllowsOrigins (AnswersOrigins (A.count source.now.first.first)
+    ensures allows { IfSome result (λ fetched. AllowsOrigins H.carried (AnswersOrigins H.carried (A.count source.now.first.first)
         source.now.first.second.origins.items (A.answers source.now.first.first) (B.answers source.now.second))
         fetched.first fetched.each.items) }
 {

@@ -9,8 +9,11 @@ use std::alloc::Global;
 use std::net::{Net, TcpListener, TcpStream};
 use thiserror::Error;
 
-/// The groups of a table, then those of origins, and then those for demonstrations.
-pub type FrontSource = Beside<Beside<Maybe<TableSource>, OriginSource>, Maybe<DemoSource>>;
+/// The groups of a table, then those of origins that are asked on connections of a network, and then those for demonstrations.
+pub type FrontSource<'a, H> = Beside<
+    Beside<Maybe<TableSource>, OriginSource<'a, H>>,
+    Maybe<DemoSource>,
+>;
 
 /// Why a word names no group and its origin.
 #[derive(Clone, Copy, Debug, PartialEq, Eq, Error)]

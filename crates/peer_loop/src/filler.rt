@@ -48,7 +48,7 @@ pub fn run_filler<S: Source, L: Ledger, H: Network>(
     gate: &FillGate<'_>,
 ) -> FillSeat<S, L>
     requires seat { IsFillSeatOf pool.now seat }
-    requires allows { IfSome fetcher (λ f. Allows (S.answers (source_of pool.now)) f.thread.plan) }
+    requires allows { IfSome fetcher (λ f. Allows H.carried (S.answers (source_of pool.now)) f.thread.plan) }
     ensures seat { IsFillSeatOf pool.now result }
     ensures parts { fill_parts result ≡ fill_parts seat }
 {

@@ -48,7 +48,7 @@ fn serve_parts<S: Source + Send + Sync, L: Ledger + Send + Sync, H: Host>(
     settings: &Settings<'_>,
 ) -> Option<Seats<S, L>>
     requires of { AreSeatsOf pool.now seats }
-    requires allows { IfSome parts.threads.fillers.plan (Allows (S.answers (source_of pool.now))) }
+    requires allows { IfSome parts.threads.fillers.plan (Allows H.carried (S.answers (source_of pool.now))) }
     ensures { IfSome result (ComeBack pool.now seats) }
 {
     let ServerParts {
@@ -83,7 +83,7 @@ fn serve_seats<S: Source + Send + Sync, L: Ledger + Send + Sync, H: Host>(
     orders: Orders<'_>,
 ) -> Option<Seats<S, L>>
     requires of { AreSeatsOf pool.now seats }
-    requires allows { IfSome orders.plan (Allows (S.answers (source_of pool.now))) }
+    requires allows { IfSome orders.plan (Allows H.carried (S.answers (source_of pool.now))) }
     ensures { IfSome result (ComeBack pool.now seats) }
 {
     let settings = orders.settings;
@@ -103,7 +103,7 @@ fn serve_opened<S: Source + Send + Sync, L: Ledger + Send + Sync, H: Host>(
     requires conns { All (IsConnSeatOf opened.pool) opened.conns.items }
     requires all_fills { HaveAllFills opened.fills.items }
     requires all_conns { HaveAllConns opened.conns.items }
-    requires allows { IfSome orders.plan (Allows (S.answers (source_of opened.pool))) }
+    requires allows { IfSome orders.plan (Allows H.carried (S.answers (source_of opened.pool))) }
     ensures { IfSome result Balances }
 {
     let Opened { pool, fills, conns } = opened;
@@ -123,7 +123,7 @@ fn over_pool<S: Source + Send + Sync, L: Ledger + Send + Sync, H: Host>(
 ) -> Result<Report, ServerFault>
     requires name { blank.name ≡ L.name }
     requires parts { (blank.parts ≡ L.parts) × (blank.parts ≡ 16) }
-    requires allows { IfSome orders.plan (Allows (S.answers source)) }
+    requires allows { IfSome orders.plan (Allows H.carried (S.answers source)) }
     ensures { ServesWith (fill_seats orders.entry.settings.now) orders.entry.settings.now.loops (S.count source) result }
 {
     let settings = orders.settings;
@@ -150,7 +150,7 @@ fn serve_known<S: Source + Send + Sync, W: Relation + Send + Sync, H: Host>(
     orders: Orders<'_>,
 ) -> Result<Report, ServerFault>
     requires named { IsNamed (S.answers source) W.may }
-    requires allows { IfSome orders.plan (Allows (S.answers source)) }
+    requires allows { IfSome orders.plan (Allows H.carried (S.answers source)) }
     ensures { ServesWith (fill_seats orders.entry.settings.now) orders.entry.settings.now.loops (S.count source) result }
 {
     let known = Known::<S, W>::new(source);
@@ -162,7 +162,7 @@ fn serve_known<S: Source + Send + Sync, W: Relation + Send + Sync, H: Host>(
 /// clients that it has. Where there is a plan, threads that fill fetch the values of its groups, each with hundreds under
 /// way. They call the source for all others, and so do loops that fill, for all groups. What its clients get are answers that this
 /// very source may give: it is served under a name of these (`Known`).
-pub fn serve_fetching<S: Source + Send + Sync, H>(
+pub fn serve_fetching<S: Source + Send + Sync, H: Host>(
     rt: &H,
     alloc: Global,
     source: S,
@@ -170,9 +170,7 @@ pub fn serve_fetching<S: Source + Send + Sync, H>(
     settings: &Settings<'_>,
     plan: Option<FetchPlan<'_>>,
 ) -> Result<Report, ServerFault>
-where
-    H: Net<Listener = TcpListener, Stream = TcpStream> + Threads + Wait + Clock + Sync,
-    requires allows { IfSome plan (Allows (S.answers source)) }
+    requires allows { IfSome plan (Allows H.carried (S.answers source)) }
     ensures { ServesWith (fill_seats settings.now) settings.now.loops (S.count source) result }
 {
     let orders = Orders { settings, plan };

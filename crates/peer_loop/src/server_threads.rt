@@ -16,12 +16,12 @@ use crate::starting::{FillHandle, LoopHandle, spawn_filler, spawn_loop};
 use crate::work::{AllWork, FillWork, ThreadParts};
 use peer_clients::LoopWork;
 use peer_fill::{Pool, Seats, join_seats, pop_seat};
-use peer_runtime::Host;
+use peer_runtime::{Host, Wires};
 use peer_site::{LoopSite, Site};
 use peer_source::Source;
 use std::alloc::Global;
 use std::sync::ledger::Ledger;
-use std::thread::{Scope, Threads};
+use std::thread::Scope;
 
 /// The threads of a server that were started, and what the others are to be handed.
 #[derive(Drop)]
@@ -39,14 +39,14 @@ pub struct ServerThreads<'a, S: Source, L: Ledger> {
 
 impl<'a, S: Source + Send + Sync, L: Ledger + Send + Sync> ServerThreads<'a, S, L> {
     /// No thread was started.
-    pub fn new(
+    pub fn new<H: Wires>(
         alloc: Global,
         pool: &'a Pool<S, L>,
         work: AllWork<'a, S, L>,
     ) -> ServerThreads<'a, S, L>
         requires of { AreSeatsOf pool.now work.seats }
-        requires allows { IfSome work.parts.fillers.plan (Allows (S.answers (source_of pool.now))) }
-        ensures new { AreNew result }
+        requires allows { IfSome work.parts.fillers.plan (Allows H.carried (S.answers (source_of pool.now))) }
+        ensures new { AreNew H.carried result }
         ensures pool { result.pool.now ≡ pool.now }
         ensures seats { result.seats ≡ work.entry.seats }
     {
@@ -63,9 +63,9 @@ impl<'a, S: Source + Send + Sync, L: Ledger + Send + Sync> ServerThreads<'a, S, 
     }
 
     // Makes room for all threads, and for the seats that they give back. None where memory was refused.
-    fn reserve(&mut self) -> Option<()>
-        requires { AreNew self.old }
-        ensures { IfSome result (λ _. KeepAll self.old self.new) }
+    fn reserve<H: Wires>(&mut self) -> Option<()>
+        requires { AreNew H.carried self.old }
+        ensures { IfSome result (λ _. KeepAll H.carried self.old self.new) }
     {
         self.working.reserve(self.seats.fills.len()).ok()?;
         self.serving.reserve(self.seats.conns.len()).ok()?;
@@ -82,8 +82,8 @@ impl<'a, S: Source + Send + Sync, L: Ledger + Send + Sync> ServerThreads<'a, S, 
 
     // Starts the thread of a loop. None where there is none for it to be handed, or where memory or a thread was refused.
     fn start_loop<E, H: Host>(&mut self, scope: &Scope<'a, E>, rt: &'a H) -> Option<()>
-        requires { AreStarting self.old }
-        ensures { IfSome result (λ _. KeepAll self.old self.new) }
+        requires { AreStarting H.carried self.old }
+        ensures { IfSome result (λ _. KeepAll H.carried self.old self.new) }
     {
         let parts = self.parts.loops.pop()?;
         let number = self.parts.loops.len();
@@ -101,8 +101,8 @@ impl<'a, S: Source + Send + Sync, L: Ledger + Send + Sync> ServerThreads<'a, S, 
 
     // Starts a thread that fills.
     fn start_filler<E, H: Host>(&mut self, scope: &Scope<'a, E>, rt: &'a H) -> Option<()>
-        requires { AreStarting self.old }
-        ensures { IfSome result (λ _. KeepAll self.old self.new) }
+        requires { AreStarting H.carried self.old }
+        ensures { IfSome result (λ _. KeepAll H.carried self.old self.new) }
     {
         let seat = pop_seat(self.pool, &mut self.seats.fills)?;
         let plan = self.parts.fillers.plan;
@@ -125,8 +125,8 @@ impl<'a, S: Source + Send + Sync, L: Ledger + Send + Sync> ServerThreads<'a, S, 
 
     // Starts the next thread: one that fills, where one is left, and else that of a loop.
     fn start_next<E, H: Host>(&mut self, scope: &Scope<'a, E>, rt: &'a H) -> Option<()>
-        requires { AreStarting self.old }
-        ensures { IfSome result (λ _. KeepAll self.old self.new) }
+        requires { AreStarting H.carried self.old }
+        ensures { IfSome result (λ _. KeepAll H.carried self.old self.new) }
     {
         if self.fillers_left() > 0 {
             self.start_filler(scope, rt)
@@ -137,10 +137,10 @@ impl<'a, S: Source + Send + Sync, L: Ledger + Send + Sync> ServerThreads<'a, S, 
 
     /// Starts the threads that fill, and then the loops. None where memory or a thread was refused.
     pub fn start<E, H: Host>(&mut self, scope: &Scope<'a, E>, rt: &'a H) -> Option<()>
-        requires { AreNew self.old }
-        ensures { IfSome result (λ _. KeepAll self.old self.new) }
+        requires { AreNew H.carried self.old }
+        ensures { IfSome result (λ _. KeepAll H.carried self.old self.new) }
     {
-        self.reserve()?;
+        self.reserve::<H>()?;
         let count = self.fillers_left().saturating_add(self.parts.loops.len());
         for _ in 0..count {
             self.start_next(scope, rt)?;
@@ -149,8 +149,8 @@ impl<'a, S: Source + Send + Sync, L: Ledger + Send + Sync> ServerThreads<'a, S, 
     }
 
     /// Waits for all threads, and gives all seats back. The loops end by themselves, and the others are told to.
-    pub fn join<H: Threads>(self, rt: &H) -> Seats<S, L>
-        requires { AreStarting self }
+    pub fn join<H: Host>(self, rt: &H) -> Seats<S, L>
+        requires { AreStarting H.carried self }
         ensures { HaveParts self.entry.pool.now (all_conns self.entry) (all_fills self.entry) result }
     {
         let ServerThreads {

@@ -52,7 +52,7 @@ pub fn spawn_filler<'s, E, S: Source + Send + Sync, L: Ledger + Send + Sync, H: 
     pool: &'s Pool<S, L>,
     work: FillWork<'s, S, L>,
 ) -> Option<FillHandle<'s, S, L>>
-    requires { IsFillWorkOf pool.now work }
+    requires { IsFillWorkOf H.carried pool.now work }
     ensures pool { IfSome result (λ x. x.promise.pool.now ≡ pool.now) }
     ensures seat { IfSome result (λ x. x.promise.seat.value ≡ work.entry.seat) }
 {
@@ -64,7 +64,7 @@ pub fn spawn_filler<'s, E, S: Source + Send + Sync, L: Ledger + Send + Sync, H: 
     let promise = Keeps::new(pool, &seat);
     let fill = move || -> FillSeat<S, L>
         requires seat { IsFillSeatOf pool.now seat }
-        requires allows { IfSome fetcher (λ f. Allows (S.answers (source_of pool.now)) f.thread.plan) }
+        requires allows { IfSome fetcher (λ f. Allows H.carried (S.answers (source_of pool.now)) f.thread.plan) }
         ensures seat { IsFillSeatOf pool.entry.now result }
         ensures parts { fill_parts result ≡ fill_parts seat }
     { run_filler(rt, alloc, pool, seat, fetcher, &gate) };

@@ -26,10 +26,10 @@ fn serve_scoped<'s, E, S: Source + Send + Sync, L: Ledger + Send + Sync, H: Host
     acceptor: Acceptor<'_>,
 ) -> Option<Seats<S, L>>
     requires of { AreSeatsOf pool.now work.seats }
-    requires allows { IfSome work.parts.fillers.plan (Allows (S.answers (source_of pool.now))) }
+    requires allows { IfSome work.parts.fillers.plan (Allows H.carried (S.answers (source_of pool.now))) }
     ensures { IfSome result (ComeBack pool.now work.entry.seats) }
 {
-    let mut threads = ServerThreads::new(alloc, pool, work);
+    let mut threads = ServerThreads::new::<H>(alloc, pool, work);
     if threads.start(scope, rt).is_none() {
         acceptor.site.close();
         pool.stop();
@@ -48,7 +48,7 @@ fn serve_handed<S: Source + Send + Sync, L: Ledger + Send + Sync, H: Host>(
     acceptor: Acceptor<'_>,
 ) -> Option<Seats<S, L>>
     requires of { AreSeatsOf pool.now work.seats }
-    requires allows { IfSome work.parts.fillers.plan (Allows (S.answers (source_of pool.now))) }
+    requires allows { IfSome work.parts.fillers.plan (Allows H.carried (S.answers (source_of pool.now))) }
     ensures { IfSome result (ComeBack pool.now work.entry.seats) }
 {
     thread::scope(
@@ -56,7 +56,7 @@ fn serve_handed<S: Source + Send + Sync, L: Ledger + Send + Sync, H: Host>(
         rt,
         move |scope| -> Option<Seats<S, L>>
             requires of { AreSeatsOf pool.now work.seats }
-            requires allows { IfSome work.parts.fillers.plan (Allows (S.answers (source_of pool.now))) }
+            requires allows { IfSome work.parts.fillers.plan (Allows H.carried (S.answers (source_of pool.now))) }
             ensures { IfSome result (ComeBack pool.entry.now work.entry.seats) }
         { serve_scoped(scope, rt, alloc, pool, work, acceptor) },
     )
@@ -73,7 +73,7 @@ pub fn use_threads<S: Source + Send + Sync, L: Ledger + Send + Sync, H: Host>(
     acceptor: Acceptor<'_>,
 ) -> Option<Seats<S, L>>
     requires of { AreSeatsOf pool.now seats }
-    requires allows { IfSome parts.fillers.plan (Allows (S.answers (source_of pool.now))) }
+    requires allows { IfSome parts.fillers.plan (Allows H.carried (S.answers (source_of pool.now))) }
     ensures { IfSome result (ComeBack pool.now seats) }
 {
     let work = AllWork {

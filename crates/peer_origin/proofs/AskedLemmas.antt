@@ -1,5 +1,5 @@
 -- Endpoints at which the same is asked.
-use Rattle.std.proofs.Common.{◌≡◌, ◌∙◌, ℕ, List, Option, Some, None, map, ap, sym, subst, refl, slice_get}
+use Rattle.std.proofs.Common.{◌≡◌, ◌∙◌, ℕ, Bool, List, Option, Some, None, map, ap, sym, subst, refl, slice_get}
 use Rattle.std.proofs.lemmas.Option.{none-some, same_Some, slice_get-map}
 use Rattle.std.specs.Option.{option_map}
 use Rattle.peer_source.specs.Answers.{Answer}
@@ -11,13 +11,14 @@ use Rattle.peer_origin.specs.declared.endpoint.Endpoint.{Endpoint}
 use Rattle.peer_origin.specs.declared.origin.Origin.{Origin}
 
 -- an answer to the request for a key at this host, with this before the key
-IsAnswerFor : List ℕ → Answer → List ℕ × List ℕ → Type 0
-IsAnswerFor key a at = IsFetchedAnswer (request_for at.0 (target_of at.1 key)) a
+IsAnswerFor : (List ℕ → List ℕ → Bool → Type 0) → List ℕ → Answer → List ℕ × List ℕ → Type 0
+IsAnswerFor carried key a at = IsFetchedAnswer carried (request_for at.0 (target_of at.1 key)) a
 
 -- the same host and the same before a key: an answer to the request at one is an answer to the request at the other
-pub asked_alike : (e e' : Endpoint) (key : List ℕ) (a : Answer) → asked_at e ≡ asked_at e' → IsFetchedAnswer (request_at e key) a → IsFetchedAnswer (request_at e' key) a
+pub asked_alike : (carried : List ℕ → List ℕ → Bool → Type 0) (e e' : Endpoint) (key : List ℕ) (a : Answer) → asked_at e ≡ asked_at e'
+    → IsFetchedAnswer carried (request_at e key) a → IsFetchedAnswer carried (request_at e' key) a
 unfolding IsAnswerFor
-asked_alike e e' key a same h = subst (IsAnswerFor key a) same h
+asked_alike carried e e' key a same h = subst (IsAnswerFor carried key a) same h
 
 -- among the endpoints of origins, each is that of the origin with its number
 pub origin_there : (each : List Endpoint) (os : List Origin) (n : ℕ) (e : Endpoint) → map reached_at each ≡ map (λ o. reached_at o.endpoint) os → slice_get each n ≡ Some e

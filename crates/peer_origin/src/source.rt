@@ -6,26 +6,32 @@ ghost use Rattle.peer_origin.specs.Origins.{IsOriginAnswer, number_from, origin_
 use crate::endpoint::Endpoint;
 use crate::fault::{FetchFault, get_fault};
 use crate::origin::Origin;
+use peer_runtime::Wires;
 use peer_source::{GetResult, GroupId, Source};
 use peer_view::AllocSink;
 use std::alloc::{AllocError, Global};
+use std::marker::PhantomData;
 
-/// A source of what origins answer, one for each group. It names the groups, and says what their values may be; threads of
-/// their own fetch these (`peer_fetch`).
+/// A source of what origins answer on connections of a network, one for each group. It names the groups, and says what their
+/// values may be; threads of their own fetch these (`peer_fetch`).
 #[derive(Drop)]
-pub struct OriginSource {
+pub struct OriginSource<'a, H> {
     origins: Vec<Origin>,
+    of: PhantomData<&'a H>,
 }
 
-impl OriginSource {
+impl<'a, H> OriginSource<'a, H> {
     ghost use Rattle.std.specs.Prelude.{◌≡◌, IfOk, map};
     ghost use Rattle.peer_origin.specs.Endpoints.{reached_at};
 
     /// A source over these origins, in the order of their groups' numbers.
-    pub fn new(origins: Vec<Origin>) -> OriginSource
+    pub fn new(origins: Vec<Origin>) -> OriginSource<'a, H>
         ensures { result.origins ≡ origins }
     {
-        OriginSource { origins }
+        OriginSource {
+            origins,
+            of: PhantomData,
+        }
     }
 
     /// The endpoints of its origins, in the order of their groups' numbers.
@@ -54,8 +60,8 @@ fn find(origins: &[Origin], name: &[u8]) -> Option<GroupId>
     None
 }
 
-impl Source for OriginSource {
-    ghost answers = { λ s. AnswersFrom s.origins.items };
+impl<'a, H: Wires + Sync> Source for OriginSource<'a, H> {
+    ghost answers = { λ s. AnswersFrom H.carried s.origins.items };
 
     ghost allowed = { λ g k a. IsOriginAnswer a };
 
@@ -78,11 +84,11 @@ impl Source for OriginSource {
         Err(get_fault(alloc, FetchFault::Unreached))
     }
 
-    ghost within = { λ s g k a h. answer_within (slice_get s.origins.items g) k a h };
+    ghost within = { λ s g k a h. answer_within H.carried (slice_get s.origins.items g) k a h };
 
     ghost limited = { λ g k a h. origin_limited a h };
 
-    ghost answered = { λ s g k. answered_at (slice_get s.origins.items g) k };
+    ghost answered = { λ s g k. answered_at H.carried (slice_get s.origins.items g) k };
 
     ghost numbered = { λ s name i e. origin_numbered s.origins.items name i e };
 }

@@ -1,8 +1,8 @@
 -- What is known of a value under way, and of one that is done.
-use Rattle.std.specs.Prelude.{◌≡◌, ℕ, IsSomeAnd}
+use Rattle.std.specs.Prelude.{◌≡◌, ℕ, Bool, List, IfOk, IsSomeAnd}
 use Rattle.std.specs.declared.time.Duration.{Duration}
 use Rattle.peer_source.specs.declared.source.Source as Source
-use Rattle.peer_value.specs.Values.{IsAnswerOf, IsFree, IsSent}
+use Rattle.peer_value.specs.Values.{IsAnswerOf, IsCarried, IsFree, IsSent}
 use Rattle.peer_value.specs.declared.done.Done.{Done}
 use Rattle.peer_value.specs.declared.fetching.Answer.{Answer}
 use Rattle.peer_value.specs.declared.under_way.UnderWay.{UnderWay}
@@ -31,6 +31,10 @@ module _ {S : Type 0} {g : Source.Ghosts S} where
   -- the job is given back with its endpoint
   abbrev pub IsDoneOf : UnderWay S g → Done S g → Type 0
   IsDoneOf u d = (d.endpoint ≡ u.at.endpoint) × (d.job ≡ u.job)
+
+  -- if a value was found, a network says what the connection of its fetch carried
+  abbrev pub IsDoneOn : (List ℕ → List ℕ → Bool → Type 0) → Done S g → Type 0
+  IsDoneOn carried d = IfOk d.got (λ v. IsSomeAnd d.by (IsCarried carried))
 
   -- another request may follow on the connection of its fetch
   abbrev pub LeavesFree : Done S g → Type 0

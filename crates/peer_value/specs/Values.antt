@@ -1,5 +1,5 @@
 -- What a value is that a fetch found, and what answer it is.
-use Rattle.std.specs.Prelude.{◌≡◌, ◌≢◌, ◌⊎◌, ◌≤◌, ℕ, List, [], length, Option, Some, None, Vec, IfErr, IfOk, IsTrue}
+use Rattle.std.specs.Prelude.{◌≡◌, ◌≢◌, ◌⊎◌, ◌≤◌, ℕ, Bool, false, List, [], length, take, Option, Some, None, Vec, IfErr, IfOk, IsTrue}
 use Rattle.std.specs.declared.alloc.Global.{Global}
 use Rattle.peer_origin.specs.Fetches.{Use}
 use Rattle.peer_origin.specs.declared.fault.FetchFault.{FetchFault}
@@ -16,6 +16,14 @@ use Rattle.peer_value.specs.declared.fetching.Fetching.{Fetching}
 -- the whole request was sent
 abbrev pub IsSent : Fetching → Type 0
 IsSent f = length f.request.items ≤ f.sent
+
+-- nothing of the request was sent, nothing came, and no end was told
+abbrev pub IsUnused : Fetching → Type 0
+IsUnused f = (f.sent ≡ 0) × (f.receiving.came.bytes ≡ []) × (f.ended ≡ false)
+
+-- a network says that a connection carried what was sent of the request and nothing else, and what came
+abbrev pub IsCarried : (List ℕ → List ℕ → Bool → Type 0) → Fetching → Type 0
+IsCarried carried f = ∥ carried (take f.sent f.request.items) f.receiving.came.bytes f.ended ∥₁
 
 -- the uses of all connections of a fetch, the last one first
 abbrev pub uses_of : Fetching → List Use

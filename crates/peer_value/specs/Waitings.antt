@@ -1,5 +1,5 @@
 -- The values that wait until another one of their service may be under way.
-use Rattle.std.specs.Prelude.{◌≡◌, ℕ, IfErr, List, [], length, option_map, sum_by, unwrap_or, slice_get}
+use Rattle.std.specs.Prelude.{◌≡◌, ℕ, Err, List, [], length, option_map, sum_by, unwrap_or, slice_get}
 use Rattle.std.specs.VecDeque.{deque_items}
 use Rattle.peer_source.specs.declared.source.Source as Source
 use Rattle.peer_origin.specs.declared.fault.FetchFault.TheVariants as fault
@@ -22,4 +22,4 @@ module _ {S : Type 0} {g : Source.Ghosts S} where
 
   -- the job is given back, since memory was refused
   abbrev pub IsRefused : UnderWay S g → Done S g → Type 0
-  IsRefused u d = (d.job ≡ u.job) × IfErr d.got (λ why. why ≡ fault.Memory)
+  IsRefused u d = (d.job ≡ u.job) × (d.got ≡ Err fault.Memory)

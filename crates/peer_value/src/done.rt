@@ -12,6 +12,7 @@ ghost use Rattle.peer_value.specs.Values.{AnswersBy, IsValueOf};
 use crate::fetching::Fetching;
 use peer_fill::TakenJob;
 use peer_origin::{Endpoint, FetchFault, get_fault};
+use peer_runtime::Wires;
 use peer_source::{GetFault, Outcome, Source, too_long_text};
 use peer_view::ByteView;
 use std::alloc::Global;
@@ -72,6 +73,8 @@ fn outcome_of(alloc: Global, got: Result<Vec<u8>, FetchFault>) -> Outcome
 }
 
 impl<'a, S: Source> Done<'a, S> {
+    ghost use Rattle.peer_value.specs.UnderWays.{IsDoneOn};
+
     /// The endpoint that it was fetched at.
     pub fn endpoint(&self) -> &'a Endpoint
         ensures { result ≡ self.now.endpoint }
@@ -124,12 +127,14 @@ impl<'a, S: Source> Done<'a, S> {
     }
 
     /// The job, and what was fetched for it as the answer of a source over origins: by the request for the job's own key at this
-    /// endpoint.
-    pub fn settle(self, alloc: Global) -> (TakenJob<S>, Outcome)
+    /// endpoint, on a connection of this network.
+    pub fn settle<H: Wires>(self, alloc: Global) -> (TakenJob<S>, Outcome)
+        requires { IsDoneOn H.carried self }
         ensures job { result.0 ≡ self.entry.job }
         ensures found { IfOk self.entry.got (λ v. AnswersBy (Found v.items) (answer_of result.1)) }
         ensures failed { IfErr self.entry.got (λ why. AnswersBy (Failed (text_of why)) (answer_of result.1)) }
-        ensures fetched { IfSome (answer_of result.1) (IsFetchedAnswer (request_at self.entry.endpoint.now self.entry.job.place.key)) }
+        ensures fetched { IfSome (answer_of result.1)
+            (IsFetchedAnswer H.carried (request_at self.entry.endpoint.now self.entry.job.place.key)) }
     {
         let Done { job, got, .. } = self;
         (job, outcome_of(alloc, got))

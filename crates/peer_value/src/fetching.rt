@@ -76,7 +76,7 @@ fn receiving(alloc: Global, client: Client) -> Receiving
 }
 
 impl Fetching {
-    ghost use Rattle.peer_value.specs.Values.{IsAnswerOf, IsFailureOf, IsSameTry, IsSent, MayGoOnAnew, uses_of};
+    ghost use Rattle.peer_value.specs.Values.{IsAnswerOf, IsFailureOf, IsSameTry, IsSent, IsUnused, MayGoOnAnew, uses_of};
 
     /// Nothing of the request was sent.
     pub fn new(alloc: Global, asked: Request) -> Fetching
@@ -121,6 +121,13 @@ impl Fetching {
         ensures { IsTrue result ↔ IsSent self.now }
     {
         self.sent >= self.request.len()
+    }
+
+    /// Whether nothing was sent yet in this try, and nothing came.
+    pub fn is_unused(&self) -> bool
+        ensures { IsTrue result → IsUnused self.now }
+    {
+        self.sent == 0 && self.receiving.is_silent() && !self.ended
     }
 
     /// Bytes come. Gives the answer, once the reply is whole.

@@ -6,7 +6,7 @@ ghost use Rattle.peer_origin.specs.declared.fault.FetchFault.TheVariants as faul
 ghost use Rattle.peer_value.specs.Endpoints.{IsOfGroup};
 ghost use Rattle.peer_origin.specs.Endpoints.{request_at};
 ghost use Rattle.peer_value.specs.Fetchings.{use_by};
-ghost use Rattle.peer_value.specs.Values.{uses_of, IsFailureOf, IsFree, IsRefusedFor, IsSameTry, IsSecondTry, IsValueOf};
+ghost use Rattle.peer_value.specs.Values.{uses_of, IsFailureOf, IsFree, IsRefusedFor, IsSameTry, IsSecondTry, IsUnused, IsValueOf};
 
 use crate::done::Done;
 use crate::endpoints::Numbered;
@@ -149,6 +149,13 @@ impl<'a, S: Source> UnderWay<'a, S> {
         ensures { IsTrue result ↔ IsAsked self.now }
     {
         self.fetching.is_sent()
+    }
+
+    /// Whether nothing was sent yet in this try, and nothing came.
+    pub fn is_unused(&self) -> bool
+        ensures { IsTrue result → IsUnused self.now.fetching }
+    {
+        self.fetching.is_unused()
     }
 
     /// Bytes come. Gives the answer, once the reply is whole.

@@ -106,7 +106,7 @@ fn run_all<S: Source + Send + Sync, L: Ledger + Send + Sync, H: Host>(
 ) -> (FillSeat<S, L>, ConnSeat<S, L>, Answered)
     requires fill { IsFillSeatOf pool.now seats.0 }
     requires conn { IsConnSeatOf pool.now seats.1 }
-    requires answers { Allows (S.answers (source_of pool.now)) running.0.plan }
+    requires answers { Allows H.carried (S.answers (source_of pool.now)) running.0.plan }
     ensures fill { IsFillSeatOf pool.now result.0 }
     ensures conn { IsConnSeatOf pool.now result.1 }
 {
@@ -119,7 +119,7 @@ fn run_all<S: Source + Send + Sync, L: Ledger + Send + Sync, H: Host>(
         rt,
         move || -> FillSeat<S, L>
             requires fill { IsFillSeatOf pool.now fill }
-            requires answers { Allows (S.answers (source_of pool.now)) thread.plan }
+            requires answers { Allows H.carried (S.answers (source_of pool.now)) thread.plan }
             ensures { IsFillSeatOf pool.entry.now result }
         { thread.run(rt, pool, fill, waker, &NoGate) },
         move || -> (ConnSeat<S, L>, Answered)
@@ -141,7 +141,7 @@ fn use_lists<S: Source + Send + Sync, L: Ledger + Send + Sync, H: Host>(
 ) -> Option<Answered>
     requires fills { All (IsFillSeatOf pool.now) lists.old.fills.items }
     requires conns { All (IsConnSeatOf pool.now) lists.old.conns.items }
-    requires answers { Allows (S.answers (source_of pool.now)) running.0.plan }
+    requires answers { Allows H.carried (S.answers (source_of pool.now)) running.0.plan }
     ensures fills { All (IsFillSeatOf pool.now) lists.new.fills.items }
     ensures conns { All (IsConnSeatOf pool.now) lists.new.conns.items }
 {
@@ -163,7 +163,7 @@ fn run_opened<S: Source + Send + Sync, L: Ledger + Send + Sync, H: Host>(
 ) -> (Option<Answered>, Option<Report>)
     requires fills { All (IsFillSeatOf opened.0) opened.1.fills.items }
     requires conns { All (IsConnSeatOf opened.0) opened.1.conns.items }
-    requires answers { Allows (S.answers (source_of opened.0)) running.0.plan }
+    requires answers { Allows H.carried (S.answers (source_of opened.0)) running.0.plan }
 {
     let (pool, mut lists) = opened;
     let answered = use_lists(rt, alloc, &pool, &mut lists, running, beside);
@@ -237,7 +237,7 @@ fn see_at<L: Ledger + Send + Sync, H: Host>(
 {
     let settings = beside.setting.settings;
     let counters = Counters::new();
-    let source = OriginSource::new(origins);
+    let source: OriginSource<'_, H> = OriginSource::new(origins);
     let Ok(endpoints) = source.endpoints(alloc) else {
         return None;
     };
@@ -248,7 +248,7 @@ fn see_at<L: Ledger + Send + Sync, H: Host>(
     )?;
     let plan = plan_of(endpoints.as_slice(), settings, counters.failures());
     let running = (FetchThread::new(alloc, parts, plan), wakers);
-    let opened = open_pool::<OriginSource, L>(alloc, source, 0, 1, 1, blank);
+    let opened = open_pool::<OriginSource<'_, H>, L>(alloc, source, 0, 1, 1, blank);
     let Some(opened) = opened else {
         return None;
     };

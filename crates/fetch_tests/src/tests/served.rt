@@ -76,12 +76,12 @@ fn serve_clients<S: Source + Send + Sync, H: Host + AllocGlobal>(
     plan: FetchPlan<'_>,
     address: SocketAddr,
 ) -> (Option<Report>, Option<bool>)
-    requires { Allows (S.answers source) plan }
+    requires { Allows H.carried (S.answers source) plan }
 {
     thread::join(
         rt,
         move || -> Option<Report>
-            requires { Allows (S.answers source) plan }
+            requires { Allows H.carried (S.answers source) plan }
         { serve_fetching(rt, rt.alloc(), source, listener, settings, Some(plan)).ok() },
         move || -> Option<bool> {
             let asked = ask_all(rt, rt.alloc(), address);
@@ -101,14 +101,14 @@ fn serve_held<S: Source + Send + Sync, H: Host + AllocGlobal>(
     settings: &Settings<'_>,
     plan: FetchPlan<'_>,
 ) -> bool
-    requires { Allows (S.answers source) plan }
+    requires { Allows H.carried (S.answers source) plan }
 {
     let (origin, listener, address) = sockets;
     let ((), (report, asked)) = thread::join(
         rt,
         move || { serve(rt, rt.alloc(), origin, CLIENTS as usize, told) },
         move || -> (Option<Report>, Option<bool>)
-            requires { Allows (S.answers source) plan }
+            requires { Allows H.carried (S.answers source) plan }
         {
             let seen = serve_clients(rt, source, listener, settings, plan, address);
             told.stopping.store(true, SeqCst);
@@ -141,7 +141,7 @@ fn serve_prepared<
     let server = TcpListener::bind(rt, "127.0.0.1:0").ok()?;
     let address = server.local_addr().ok()?;
     let Prepared { listener, origins } = prepare(rt, rt.alloc(), &[(b"echo", LOOPBACK)])?;
-    let source = OriginSource::new(origins);
+    let source: OriginSource<'_, H> = OriginSource::new(origins);
     let Ok(endpoints) = source.endpoints(rt.alloc()) else {
         return None;
     };

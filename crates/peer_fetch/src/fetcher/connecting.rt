@@ -14,7 +14,10 @@ use std::alloc::AllocError;
 use std::cmp::min;
 use std::time::Duration;
 
-impl<'a, S: Source> Fetcher<'a, S> {
+impl<'a, S: Source, H: Network> Fetcher<'a, S, H> {
+    ghost use Rattle.std.specs.Prelude.{IfSome};
+    ghost use Rattle.peer_value.specs.UnderWays.{IsDoneOn};
+
     // When an address is given up that is tried for a value now. Where others are left, they have half of the value's time, or else
     // none of them would be tried in it.
     fn connect_due(&self, now: Duration, under: &UnderWay<'a, S>, untried: &Untried) -> Duration {
@@ -27,12 +30,17 @@ impl<'a, S: Source> Fetcher<'a, S> {
     }
 
     // Begins to connect to one of these addresses for a value. A value that cannot be fetched is given back.
-    fn connect<H: Network>(
+    fn connect(
         &mut self,
         system: &System<'_, H>,
         under: UnderWay<'a, S>,
         untried: Untried,
-    ) -> Option<Done<'a, S>> {
+    ) -> Option<Done<'a, S>>
+        ensures { IfSome result (IsDoneOn H.carried) }
+    {
+        if !under.is_unused() {
+            return Some(under.done(Err(FetchFault::Lost)));
+        }
         let now = self.read_clock(system);
         if self.connections.reserve().is_err() {
             return Some(under.done(Err(FetchFault::Memory)));
@@ -43,16 +51,19 @@ impl<'a, S: Source> Fetcher<'a, S> {
         };
         let due = self.connect_due(now, &under, &untried);
         self.shares.begin(self.shares.service(under.number()));
-        self.connections.add(Link::new(stream, under, untried, due));
+        let link = Link::new(system.rt, stream, under, untried, due);
+        self.connections.add(link);
         None
     }
 
     /// Begins to connect to the endpoint of a value, to the first of its addresses.
-    pub(super) fn connect_first<H: Network>(
+    pub(super) fn connect_first(
         &mut self,
         system: &System<'_, H>,
         under: UnderWay<'a, S>,
-    ) -> Option<Done<'a, S>> {
+    ) -> Option<Done<'a, S>>
+        ensures { IfSome result (IsDoneOn H.carried) }
+    {
         match Untried::of(system.rt, &under.endpoint().addresses) {
             Ok(untried) => self.connect(system, under, untried),
             Err(AllocError) => Some(under.done(Err(FetchFault::Memory))),
@@ -60,12 +71,14 @@ impl<'a, S: Source> Fetcher<'a, S> {
     }
 
     /// Tries the next address of the endpoint of a value.
-    pub(super) fn connect_next<H: Network>(
+    pub(super) fn connect_next(
         &mut self,
         system: &System<'_, H>,
         key: usize,
         under: UnderWay<'a, S>,
-    ) -> Option<Done<'a, S>> {
+    ) -> Option<Done<'a, S>>
+        ensures { IfSome result (IsDoneOn H.carried) }
+    {
         match self.connections.forget_unreached(key) {
             Some(untried) => self.connect(system, under, untried),
             None => Some(under.done(Err(FetchFault::Unreached))),

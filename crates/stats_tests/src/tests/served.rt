@@ -166,21 +166,23 @@ where
     let seed = RandomState::new(rt).ok()?;
     let (server, end) = open_stats(rt, rt.alloc(), listener, seed)?;
     let (counters, end) = (&Counters::new(), &end);
-    let facts = ServerFacts {
-        groups: &[],
-        bounds: NUMBERS.bounds,
-        build: BUILD,
-    };
     thread::scope(thread::scope_env(), rt, move |scope| {
-        let run = move || server.run(rt, counters, facts, end);
-        let Ok(running) = scope.spawn(run) else {
+        let look = move || {
+            let seen = (see(rt, address), see_state(rt, address, counters));
+            end.end();
+            seen
+        };
+        let Ok(looking) = scope.spawn(look) else {
             return None;
         };
-        let seen = see(rt, address);
-        let state = see_state(rt, address, counters);
-        end.end();
-        running.join(rt);
-        Some((seen, state))
+        // Here, since files can be read in this thread alone.
+        let facts = ServerFacts {
+            groups: &[],
+            bounds: NUMBERS.bounds,
+            build: BUILD,
+        };
+        server.run(rt, counters, facts, end);
+        Some(looking.join(rt))
     })
 }
 

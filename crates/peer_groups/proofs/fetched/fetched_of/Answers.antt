@@ -13,5 +13,5 @@ returns-clause-each g c = c.in-Ok.ensures
 pub returns-clause-allows : goal.returns-clause-allows
 returns-clause-allows g c =
     let source = c.args.source.now in
-    allows_origins _ _ source.first.second.origins.items (g.A.Source.answers source.first.first) (g.B.Source.answers source.second) c.in-Ok.each.items
+    allows_origins g.H.Wires.carried _ _ source.first.second.origins.items (g.A.Source.answers source.first.first) (g.B.Source.answers source.second) c.in-Ok.each.items
     (returns-clause-first g c) (returns-clause-each g c)

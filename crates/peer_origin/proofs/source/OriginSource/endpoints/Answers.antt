@@ -3,4 +3,4 @@ use Rattle.std.proofs.Common.{arith}
 use Rattle.peer_origin.proofs.source.OriginSource.endpoints.Goals as goal
 
 pub loop-origin-preserved : goal.loop-origin-preserved
-loop-origin-preserved c = grind (arith, common_steps)
+loop-origin-preserved g c = grind (arith, common_steps)

@@ -2,4 +2,4 @@ use Rattle.std.proofs.Common.{rules}
 use Rattle.peer_origin.proofs.source.OriginSourceSource.group_count.Goals as goal
 
 pub returns : goal.returns
-returns c = search rules
+returns g c = search rules
