@@ -64,8 +64,8 @@ impl<S: Source> ExchangeState<S> {
         }
     }
 
-    // Puts the reply of the first ticket, where its fill is there and little output waits, counts it, and counts a stranger where it
-    // was refilled. `Waits` also where there is no ticket.
+    // Puts the reply of the first ticket, where its fill is there and little output waits, counts it, and counts a stranger
+    // where it was refilled. `Waits` also where there is no ticket.
     fn answer_first<L: Ledger>(
         &mut self,
         pool: &Pool<S, L>,

@@ -195,8 +195,8 @@ impl<'p, S: Source> Exchange<'p, S> {
         }
     }
 
-    /// Puts the replies of the first tickets, as far as their fills are there and few bytes wait to be sent, and counts them. Where a fill is of
-    /// another group or key than was asked for, the source is called here, and may take its time.
+    /// Puts the replies of the first tickets, as far as their fills are there and few bytes wait to be sent, and counts
+    /// them. Where a fill is of another group or key than was asked for, the source is called here, and may take its time.
     pub fn answer_ready<L: Ledger>(
         &mut self,
         pool: &Pool<S, L>,

@@ -2,9 +2,9 @@
 //!
 //! It stands on the connections of the thread (`Connections`), on the value of each (`UnderWay`), and on how many of them a
 //! service may have (`Shares`): those that it may not yet have wait (`Waiting`), so that one whose values hang does not hold up
-//! the others. It promises that a value which is given back done was found on a
-//! connection of the network that carried its request, and what `UnderWay` does: it is given back with its job, once at most. A value is asked for on a kept connection only where that is to its own endpoint, which is looked at once more there
-//! (`Link::begin`).
+//! the others. It promises that a value which is given back done was found on a connection of the network that carried its
+//! request, and what `UnderWay` does: it is given back with its job, once at most. A value is asked for on a kept connection
+//! only if that is to its own endpoint, which is looked at once more there (`Link::begin`).
 
 mod connecting;
 

@@ -52,7 +52,8 @@ impl<S: Source, L: Ledger> Pool<S, L> {
         self.land(rt, put);
     }
 
-    /// Tells the gate what a seat has counted, the last of it of this group; and, each time that so many fills were made, one who waits for room.
+    /// Tells the gate what a seat has counted, the last of it of this group; and, each time that so many fills were made,
+    /// one who waits for room.
     pub(crate) fn tell_counts<G: Gate>(&self, group: GroupId, fills: &FillCounts, gate: &G)
         requires { taken_of fills.now ≤ 2 ^ 56 }
     {

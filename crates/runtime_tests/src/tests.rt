@@ -1,1 +1,3 @@
+//! Networks that are tried.
+
 mod scripted;
