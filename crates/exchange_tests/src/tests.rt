@@ -1,5 +1,6 @@
 //! Exchanges over worked and generated texts, and in another thread.
 
 mod generated;
+mod known;
 mod moved;
 mod worked;

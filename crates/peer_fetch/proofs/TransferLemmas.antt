@@ -1,5 +1,5 @@
 -- What a connection carried is what was sent and came for its value.
-use Rattle.std.proofs.Common.{◌≡◌, ◌∙◌, ℕ, ◌+◌, ◌==◌, ◌||◌, Bool, true, false, List, [], ◌++◌, take, drop, length, Option, Some, None, Result, Ok, Err, IfOk, IsSomeAnd, ap, sym, subst, refl, append-nil}
+use Rattle.std.proofs.Common.{◌≡◌, ◌∙◌, ℕ, ◌+◌, Bool, List, [], ◌++◌, take, drop, Option, Some, Result, Ok, Err, IfOk, IsSomeAnd, ap, sym, subst}
 use Rattle.std.proofs.Math.Seq.{take-add}
 use Rattle.peer_value.specs.Values.{IsCarried}
 use Rattle.peer_value.specs.declared.fetching.Fetching.{Fetching}

@@ -6,7 +6,7 @@ use Rattle.peer_fetch.specs.declared.link.Connecting.{Connecting}
 use Rattle.peer_fetch.specs.declared.link.Connecting.TheVariants as connecting
 use Rattle.peer_fetch.specs.declared.link.Turn.{Turn}
 use Rattle.peer_fetch.specs.declared.link.Turn.TheVariants as turn
-use Rattle.peer_value.specs.UnderWays.{HasSameJob, IsDoneOf, IsDoneOn, LeavesFree}
+use Rattle.peer_value.specs.UnderWays.{HasSameJob, IsCutOn, IsDoneOf, IsDoneOn, LeavesFree}
 use Rattle.peer_value.specs.declared.under_way.UnderWay.{UnderWay}
 
 -- a connection whose address has not failed was not used
@@ -26,11 +26,11 @@ module _ {S : Type 0} {g : Source.Ghosts S} where
   IsTurnOf u left (turn.Unconnected u') = HasSameJob u u'
   IsTurnOf u left (turn.Cut u' failure) = HasSameJob u u'
 
-  -- if a value was found, the network says what its connection carried
+  -- if a value was found, or a status is told, the network says what its connection carried
   abbrev pub GivesOn : (List ℕ → List ℕ → Bool → Type 0) → Turn S g → Type 0
   GivesOn carried turn.Waits = Unit {0}
   GivesOn carried turn.Busy = Unit {0}
   GivesOn carried turn.Gone = Unit {0}
   GivesOn carried (turn.Done d reusable) = IsDoneOn carried d
   GivesOn carried (turn.Unconnected u) = Unit {0}
-  GivesOn carried (turn.Cut u failure) = Unit {0}
+  GivesOn carried (turn.Cut u failure) = IsCutOn carried u failure

@@ -40,7 +40,7 @@ impl<'a, S: Source, H: Network> Fetcher<'a, S, H> {
     ghost use Rattle.std.specs.Prelude.{◌↔◌, IfSome, IsTrue};
     ghost use Rattle.peer_fetch.specs.Fetchers.{HasNothing, MayTakeJob};
     ghost use Rattle.peer_value.specs.Endpoints.{IsOfGroup};
-    ghost use Rattle.peer_value.specs.UnderWays.{IsDoneOn};
+    ghost use Rattle.peer_value.specs.UnderWays.{IsCutOn, IsDoneOn};
 
     /// Nothing is under way.
     pub fn new(alloc: Global, settings: FetchThreadSettings, room: Room) -> Fetcher<'a, S, H> {
@@ -234,6 +234,7 @@ impl<'a, S: Source, H: Network> Fetcher<'a, S, H> {
         under: UnderWay<'a, S>,
         failure: Failure,
     ) -> Option<Done<'a, S>>
+        requires { IsCutOn H.carried under failure }
         ensures { IfSome result (IsDoneOn H.carried) }
     {
         let was_kept = self.connections.forget_cut(key);

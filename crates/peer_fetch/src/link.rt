@@ -9,7 +9,7 @@ ghost use Rattle.peer_runtime.specs.Wires.{Carried};
 ghost use Rattle.peer_fetch.specs.Transfers.{IsOn};
 ghost use Rattle.peer_fetch.specs.Turns.{GivesOn, IsTurnOf, KeepsWire};
 ghost use Rattle.peer_value.specs.UnderWays.{number_of};
-ghost use Rattle.peer_value.specs.Values.{IsUnused};
+ghost use Rattle.peer_value.specs.Values.{IsToldBy, IsUnused};
 
 use crate::opening::Untried;
 use crate::transfer::{Halt, receive, send};
@@ -89,7 +89,9 @@ fn reusable_if(may_follow: bool) -> Option<Reusable>
 }
 
 // Why a value that is late was not had. Where the origin answered another status than 200, it is told by that.
-fn late_fault<S: Source>(under: &UnderWay<'_, S>) -> FetchFault {
+fn late_fault<S: Source>(under: &UnderWay<'_, S>) -> FetchFault
+    ensures { IsToldBy (Some under.now.fetching) result }
+{
     match under.cut() {
         Failure::Fetch(FetchFault::Status(status)) => FetchFault::Status(status),
         _ => FetchFault::Late,

@@ -1,11 +1,12 @@
 //! How the request for a value is sent on a connection that never waits, and its reply received.
 //!
-//! It promises that what the fetch is told was sent and came is what the network's writes and reads say of the connection.
-ghost use Rattle.std.specs.Prelude.{◌≡◌, ◌<◌, ◌++◌, ◌||◌, ◌==◌, length, IfOk, IfSome};
+//! It promises that what the fetch is told was sent and came is what the network's writes and reads say of the connection, and that a
+//! status that is told as a failure is one that came there.
+ghost use Rattle.std.specs.Prelude.{◌≡◌, ◌<◌, ◌++◌, ◌||◌, ◌==◌, length, IfErr, IfOk, IfSome};
 ghost use Rattle.peer_runtime.specs.Wires.{Carried};
 ghost use Rattle.peer_value.specs.UnderWays.{HasSameJob, IsAnswerTo, IsAsked};
-ghost use Rattle.peer_value.specs.Values.{IsSameTry};
-ghost use Rattle.peer_fetch.specs.Transfers.{HasRead, IsOn};
+ghost use Rattle.peer_value.specs.Values.{IsFailureOf, IsSameTry};
+ghost use Rattle.peer_fetch.specs.Transfers.{HasRead, IsHaltOf, IsOn};
 
 use peer_origin::Failure;
 use peer_runtime::{Readiness, Wire, Wires, was_interrupted, would_block};
@@ -56,6 +57,7 @@ pub fn send<S: Source, H: Wires>(
     ensures kept { HasSameJob under.old under.new }
     ensures carried { Carried H.carried wire.new }
     ensures on { IsOn wire.new under.new }
+    ensures halt { IfSome result (IsHaltOf under.new) }
 {
     for _ in 0..ROUNDS {
         if under.is_sent() {
@@ -107,6 +109,7 @@ fn take_in<S: Source>(under: &mut UnderWay<'_, S>, bytes: &[u8]) -> Result<Optio
     ensures came { under.new.fetching.receiving.came.bytes ≡ under.old.fetching.receiving.came.bytes ++ bytes.now }
     ensures ended { under.new.fetching.ended ≡ (under.old.fetching.ended || length bytes.now == 0) }
     ensures answer { IfOk result (λ came. IfSome came (IsAnswerTo under.new)) }
+    ensures failure { IfErr result (IsFailureOf under.new.fetching) }
 {
     if bytes.is_empty() {
         let answer = under.end()?;
@@ -131,6 +134,7 @@ fn receive_some<S: Source, H: Wires>(
     ensures carried { Carried H.carried wire.new }
     ensures on { IsOn wire.new under.new }
     ensures answer { IfOk result (λ came. IfSome came (IsAnswerTo under.new)) }
+    ensures failure { IfErr result (IsFailureOf under.new.fetching) }
 {
     let Ok(came) = read(rt, wire, buffer, readiness) else {
         return Err(under.cut());
@@ -155,6 +159,7 @@ pub fn receive<S: Source, H: Wires>(
     ensures carried { Carried H.carried wire.new }
     ensures on { IsOn wire.new under.new }
     ensures answer { IfOk result (IsAnswerTo under.new) }
+    ensures halt { IfErr result (IsHaltOf under.new) }
 {
     for _ in 0..ROUNDS {
         if !readiness.readable || !under.is_sent() || buffer.is_empty() {

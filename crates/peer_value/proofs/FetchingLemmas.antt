@@ -4,13 +4,14 @@ use mathlib.Core.Logic.{∥∥₁_map}
 use Rattle.std.proofs.lemmas.List.{take-append-drop, take_all}
 use Rattle.std.specs.declared.alloc.Global.{Global}
 use Rattle.peer_view.specs.Sinks.{MAX_VALUE}
-use Rattle.peer_http.specs.Replies.{IsReply}
+use Rattle.peer_http.specs.Replies.{HasHead, IsReply}
 use Rattle.peer_http.specs.Receivings.{IsStanding}
 use Rattle.peer_origin.specs.declared.fault.FetchFault.{FetchFault}
 use Rattle.peer_origin.specs.declared.fault.FetchFault.TheVariants as fault
 use Rattle.peer_origin.specs.Fetches.{IsTry, Tries, once, twice}
 use Rattle.peer_value.specs.Fetchings.{GoesOnAnew, IsFoundIn, use_by, uses_by}
-use Rattle.peer_value.specs.Values.{IsStatusOf}
+use Rattle.peer_value.specs.Values.{IsSent, IsStatusOf, IsToldBy}
+use Rattle.peer_value.specs.declared.fetching.Fetching.{Fetching}
 use Rattle.peer_value.specs.declared.fetching.Silence.{Silence}
 
 tries_by : (request : List ℕ) (sent : ℕ) (came : List ℕ) (ended : Bool) → IsTry (Some []) request (use_by request sent came ended)
@@ -74,6 +75,29 @@ reply_of came status content s = ∥∥₁_map s (λ h. subst (λ t. IsReply t s
 pub status_of : (came : List ℕ) (status : ℕ) (content : List ℕ) (got : Result (Vec ℕ Global) FetchFault) → IfErr got (λ why. (why ≡ fault.Status status) × (status ≢ 200)) → ∥ IsReply came status content ∥₁ → IfErr got (IsStatusOf came)
 status_of came status content (Ok v) h r = tt
 status_of came status content (Err why) (is, other) r = (status, content, is, other, r)
+
+-- a reply has its head
+has_head : (came : List ℕ) (status : ℕ) (content : List ℕ) → IsReply came status content → HasHead came status
+has_head came status content r = record {
+  start = r.start;
+  interims = r.interims;
+  head = r.response.head;
+  framing = r.reads.framing;
+  rest = r.reads.after_head;
+  accepts = r.reads.head;
+  final = r.final;
+  code = r.code;
+}
+
+-- the status of the reply is told
+pub told_of : (f : Fetching) (status : ℕ) (content : List ℕ) (got : Result (Vec ℕ Global) FetchFault) → IsSent f
+    → IfErr got (λ why. (why ≡ fault.Status status) × (status ≢ 200)) → ∥ IsReply f.receiving.came.bytes status content ∥₁ → IfErr got (IsToldBy (Some f))
+told_of f status content (Ok v) whole h r = tt
+told_of f status content (Err why) whole (is, other) r = subst (IsToldBy (Some f)) (sym is) (record {
+  sent = whole;
+  head = ∥∥₁_map r (has_head f.receiving.came.bytes status content);
+  other = other;
+})
 
 -- a fetch that begins anew
 pub anew : (request : List ℕ) (sent : ℕ) (came : List ℕ) (ended : Bool) (first : Option Silence) (came' : List ℕ) → came ≡ [] → first ≡ None → came' ≡ []

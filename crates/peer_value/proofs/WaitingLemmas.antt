@@ -19,6 +19,10 @@ module _ {D X : Type 0} (items : D → List X) where
   other_line (line ∷ lines) (suc n) zero new differ = refl
   other_line (line ∷ lines) (suc n) (suc m) new differ = other_line lines n m new (λ same. differ (ap suc same))
 
+  -- a line with the same values was written in its place
+  pub same_line : (lines : List D) (n : ℕ) (old new : D) → slice_get lines n ≡ Some old → items new ≡ items old → line_in items (slice_set lines n new) n ≡ line_in items lines n
+  same_line lines n old new is same = written_line lines n old new is ∙ same ∙ sym (read_line lines n old is)
+
   -- the first value was taken out of the line
   pub popped_line : (lines : List D) (n : ℕ) (old new : D) (x : X) → slice_get lines n ≡ Some old → items old ≡ x ∷ items new → line_in items lines n ≡ x ∷ line_in items (slice_set lines n new) n
   popped_line lines n old new x is first =

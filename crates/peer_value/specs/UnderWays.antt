@@ -1,8 +1,10 @@
 -- What is known of a value under way, and of one that is done.
-use Rattle.std.specs.Prelude.{◌≡◌, ℕ, Bool, List, IfOk, IsSomeAnd}
+use Rattle.std.specs.Prelude.{◌≡◌, ℕ, Bool, List, IfErr, IfOk, IsSomeAnd}
 use Rattle.std.specs.declared.time.Duration.{Duration}
 use Rattle.peer_source.specs.declared.source.Source as Source
-use Rattle.peer_value.specs.Values.{IsAnswerOf, IsCarried, IsFree, IsSent}
+use Rattle.peer_origin.specs.Fetched.{IfStatus}
+use Rattle.peer_value.specs.Values.{IsAnswerOf, IsCarried, IsFailureOf, IsFree, IsSent}
+use Rattle.peer_origin.specs.declared.failure.Failure.{Failure}
 use Rattle.peer_value.specs.declared.done.Done.{Done}
 use Rattle.peer_value.specs.declared.fetching.Answer.{Answer}
 use Rattle.peer_value.specs.declared.under_way.UnderWay.{UnderWay}
@@ -32,9 +34,13 @@ module _ {S : Type 0} {g : Source.Ghosts S} where
   abbrev pub IsDoneOf : UnderWay S g → Done S g → Type 0
   IsDoneOf u d = (d.endpoint ≡ u.at.endpoint) × (d.job ≡ u.job)
 
-  -- if a value was found, a network says what the connection of its fetch carried
+  -- if a value was found, or a status is told, a network says what the connection of its fetch carried
   abbrev pub IsDoneOn : (List ℕ → List ℕ → Bool → Type 0) → Done S g → Type 0
-  IsDoneOn carried d = IfOk d.got (λ v. IsSomeAnd d.by (IsCarried carried))
+  IsDoneOn carried d = IfOk d.got (λ v. IsSomeAnd d.by (IsCarried carried)) × IfErr d.got (λ why. IfStatus why (λ s. IsSomeAnd d.by (IsCarried carried)))
+
+  -- a network says what the connection of its fetch carried, and a status that this failure tells is one that came there
+  abbrev pub IsCutOn : (List ℕ → List ℕ → Bool → Type 0) → UnderWay S g → Failure → Type 0
+  IsCutOn carried u failure = IsCarried carried u.fetching × IsFailureOf u.fetching failure
 
   -- another request may follow on the connection of its fetch
   abbrev pub LeavesFree : Done S g → Type 0

@@ -1,6 +1,7 @@
 -- What a value is that a fetch found, and what answer it is.
-use Rattle.std.specs.Prelude.{◌≡◌, ◌≢◌, ◌⊎◌, ◌≤◌, ℕ, Bool, false, List, [], length, take, Option, Some, None, Vec, IfErr, IfOk, IsTrue}
+use Rattle.std.specs.Prelude.{◌≡◌, ◌≢◌, ◌⊎◌, ◌≤◌, ℕ, Bool, false, List, [], length, take, Option, Some, None, Vec, IfErr, IfOk, IsSomeAnd, IsTrue}
 use Rattle.std.specs.declared.alloc.Global.{Global}
+use Rattle.peer_origin.specs.Fetched.{IfStatus}
 use Rattle.peer_origin.specs.Fetches.{Use}
 use Rattle.peer_origin.specs.declared.fault.FetchFault.{FetchFault}
 use Rattle.peer_origin.specs.declared.fault.FetchFault.TheVariants as fault
@@ -57,16 +58,20 @@ IsValueOf f value = (length value.items ≤ MAX_VALUE) × ∥ IsFoundIn f.reques
 abbrev pub IsStatusOf : List ℕ → FetchFault → Type 0
 IsStatusOf came why = (status : ℕ) × (content : List ℕ) × (why ≡ fault.Status status) × (status ≢ 200) × ∥ IsReply came status content ∥₁
 
--- where a failure tells a status, the head of a reply of this status came, and it is not 200
-abbrev pub IsFailureOf : List ℕ → Failure → Type 0
-IsFailureOf came fail.Silent = Unit {0}
-IsFailureOf came (fail.Fetch fault.Unreached) = Unit {0}
-IsFailureOf came (fail.Fetch fault.Late) = Unit {0}
-IsFailureOf came (fail.Fetch fault.Lost) = Unit {0}
-IsFailureOf came (fail.Fetch fault.Malformed) = Unit {0}
-IsFailureOf came (fail.Fetch (fault.Status status)) = ∥ HasHead came status ∥₁ × (status ≢ 200)
-IsFailureOf came (fail.Fetch fault.TooLong) = Unit {0}
-IsFailureOf came (fail.Fetch fault.Memory) = Unit {0}
+-- the whole request was sent, and the head of a reply of this status came, which is not 200
+pub record TellsStatus (f : Fetching) (status : ℕ) : Type 0 where
+  pub sent : IsSent f
+  pub head : ∥ HasHead f.receiving.came.bytes status ∥₁
+  pub other : status ≢ 200
+
+-- if a fault tells a status, it is that of this fetch
+abbrev pub IsToldBy : Option Fetching → FetchFault → Type 0
+IsToldBy by why = IfStatus why (λ status. IsSomeAnd by (λ f. TellsStatus f status))
+
+-- if a failure tells a status, it is that of this fetch
+abbrev pub IsFailureOf : Fetching → Failure → Type 0
+IsFailureOf f fail.Silent = Unit {0}
+IsFailureOf f (fail.Fetch why) = IfStatus why (TellsStatus f)
 
 -- the answer of a fetch: its value is one that the fetch found, it has none for the status of the reply alone, and another request
 -- may follow where the answer says so
@@ -74,6 +79,7 @@ pub record IsAnswerOf (f : Fetching) (a : fetched.Answer) : Type 0 where
   pub keeps : IsTrue a.keeps → IsFree f
   pub value : IfOk a.value (IsValueOf f)
   pub status : IfErr a.value (IsStatusOf f.receiving.came.bytes)
+  pub told : IfErr a.value (IsToldBy (Some f))
 
 -- this is the answer, or there is none, where memory was refused
 abbrev pub AnswersBy : Answer → Option Answer → Type 0

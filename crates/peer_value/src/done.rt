@@ -7,7 +7,7 @@ ghost use Rattle.peer_source.specs.Outcomes.{answer_of};
 ghost use Rattle.peer_origin.specs.Endpoints.{request_at};
 ghost use Rattle.peer_origin.specs.Fetched.{IsFetchedAnswer};
 ghost use Rattle.peer_origin.specs.Texts.{text_of};
-ghost use Rattle.peer_value.specs.Values.{AnswersBy, IsValueOf};
+ghost use Rattle.peer_value.specs.Values.{AnswersBy, IsToldBy, IsValueOf};
 
 use crate::fetching::Fetching;
 use peer_fill::TakenJob;
@@ -27,6 +27,7 @@ pub struct Done<'a, S: Source> {
     by: Option<Fetching>,
     ghost asked: { IfSome by (λ f. f.request.items ≡ request_at endpoint.now job.place.key) } by { Prim.hlevel props },
     ghost found: { IfOk got (λ v. IsSomeAnd by (λ f. IsValueOf f v)) } by { Prim.hlevel props },
+    ghost told: { ∥ IfErr got (IsToldBy by) ∥₁ },
 }
 
 // The failure with this text.
@@ -84,6 +85,7 @@ impl<'a, S: Source> Done<'a, S> {
 
     /// A job for which nothing was fetched from this endpoint, since its fetch could not begin, or not begin anew.
     pub(crate) fn failed(endpoint: &'a Endpoint, job: TakenJob<S>, why: FetchFault) -> Done<'a, S>
+        requires { IsToldBy None why }
         ensures kept { (result.endpoint ≡ endpoint.entry) × (result.job ≡ job) }
         ensures fault { result.got ≡ Err why }
     {
@@ -104,6 +106,7 @@ impl<'a, S: Source> Done<'a, S> {
     ) -> Done<'a, S>
         requires asked { by.request.items ≡ request_at endpoint.now job.place.key }
         requires found { IfOk got (IsValueOf by) }
+        requires told { IfErr got (IsToldBy (Some by)) }
         ensures kept { (result.endpoint ≡ endpoint.entry) × (result.job ≡ job) }
         ensures got { (result.got ≡ got) × (result.by ≡ Some by) }
     {

@@ -7,6 +7,7 @@
 //! and that a connection may be asked again only where all that came on it is one reply.
 ghost use Rattle.std.specs.Prelude.{◌≡◌, ◌≢◌, ◌+◌, ◌≤◌, ◌↔◌, ◌++◌, [], drop, false, length, true};
 ghost use Rattle.std.specs.Prelude.{Err, IfErr, IfOk, IfSome, IsFalse, IsTrue, None};
+ghost use Rattle.std.proofs.Props.{props};
 ghost use Rattle.peer_view.specs.Sinks.{MAX_VALUE};
 ghost use Rattle.peer_http.specs.Requests.{Awaits};
 ghost use Rattle.peer_origin.specs.declared.failure.Failure.TheVariants as fail;
@@ -45,6 +46,7 @@ pub struct Fetching {
     first: Option<Silence>,
     ghost sent_within: { sent ≤ length request.items },
     ghost most: { receiving.most ≡ MAX_VALUE },
+    ghost heard: { receiving.came.bytes ≢ [] → length request.items ≤ sent } by { Prim.hlevel props },
 }
 
 // What a reply says.
@@ -138,7 +140,7 @@ impl Fetching {
         ensures ended { self.new.ended ≡ self.old.ended }
         ensures answer { IfOk result (λ given. IfSome given (IsAnswerOf self.new)) }
         ensures silent { result ≢ Err fail.Silent }
-        ensures failure { IfErr result (IsFailureOf self.new.receiving.came.bytes) }
+        ensures failure { IfErr result (IsFailureOf self.new) }
     {
         match self.receiving.receive(bytes) {
             Ok(Some(reply)) => Ok(Some(answer_of(reply))),
@@ -155,7 +157,7 @@ impl Fetching {
         ensures ended { self.new.ended ≡ true }
         ensures answer { IfOk result (IsAnswerOf self.new) }
         ensures silent { result ≡ Err fail.Silent → self.new.receiving.came.bytes ≡ [] }
-        ensures failure { IfErr result (IsFailureOf self.new.receiving.came.bytes) }
+        ensures failure { IfErr result (IsFailureOf self.new) }
     {
         self.ended = true;
         match self.receiving.end() {
@@ -167,7 +169,7 @@ impl Fetching {
     /// Why there is no value, where the connection failed.
     pub fn cut(&self) -> Failure
         ensures silent { result ≡ fail.Silent ↔ (self.now.receiving.came.bytes ≡ []) }
-        ensures failure { IsFailureOf self.now.receiving.came.bytes result }
+        ensures failure { IsFailureOf self.now result }
     {
         failure_of(self.receiving.cut())
     }

@@ -6,7 +6,8 @@ ghost use Rattle.peer_origin.specs.declared.fault.FetchFault.TheVariants as faul
 ghost use Rattle.peer_value.specs.Endpoints.{IsOfGroup};
 ghost use Rattle.peer_origin.specs.Endpoints.{request_at};
 ghost use Rattle.peer_value.specs.Fetchings.{use_by};
-ghost use Rattle.peer_value.specs.Values.{uses_of, IsFailureOf, IsFree, IsRefusedFor, IsSameTry, IsSecondTry, IsUnused, IsValueOf};
+ghost use Rattle.peer_value.specs.Values.{uses_of, IsFailureOf, IsFree, IsRefusedFor, IsSameTry, IsSecondTry, IsToldBy, IsUnused};
+ghost use Rattle.peer_value.specs.Values.{IsValueOf};
 
 use crate::done::Done;
 use crate::endpoints::Numbered;
@@ -167,7 +168,7 @@ impl<'a, S: Source> UnderWay<'a, S> {
         ensures ended { self.new.fetching.ended ≡ self.old.fetching.ended }
         ensures answer { IfOk result (λ given. IfSome given (IsAnswerTo self.new)) }
         ensures silent { result ≢ Err fail.Silent }
-        ensures failure { IfErr result (IsFailureOf self.new.fetching.receiving.came.bytes) }
+        ensures failure { IfErr result (IsFailureOf self.new.fetching) }
     {
         self.fetching.receive(bytes)
     }
@@ -181,7 +182,7 @@ impl<'a, S: Source> UnderWay<'a, S> {
         ensures ended { self.new.fetching.ended ≡ true }
         ensures answer { IfOk result (IsAnswerTo self.new) }
         ensures silent { result ≡ Err fail.Silent → self.new.fetching.receiving.came.bytes ≡ [] }
-        ensures failure { IfErr result (IsFailureOf self.new.fetching.receiving.came.bytes) }
+        ensures failure { IfErr result (IsFailureOf self.new.fetching) }
     {
         self.fetching.end()
     }
@@ -189,14 +190,15 @@ impl<'a, S: Source> UnderWay<'a, S> {
     /// Why there is no value, where the connection failed.
     pub fn cut(&self) -> Failure
         ensures silent { result ≡ fail.Silent ↔ (self.now.fetching.receiving.came.bytes ≡ []) }
-        ensures failure { IsFailureOf self.now.fetching.receiving.came.bytes result }
+        ensures failure { IsFailureOf self.now.fetching result }
     {
         self.fetching.cut()
     }
 
     /// The job, with what was fetched for it.
     pub fn done(self, got: Result<Vec<u8>, FetchFault>) -> Done<'a, S>
-        requires { IfOk got (IsValueOf self.fetching) }
+        requires found { IfOk got (IsValueOf self.fetching) }
+        requires told { IfErr got (IsToldBy (Some self.fetching)) }
         ensures kept { IsDoneOf self.entry result }
         ensures got { (result.got ≡ got) × (result.by ≡ Some self.entry.fetching) }
         ensures free { IsFree self.entry.fetching → LeavesFree result }

@@ -1,4 +1,4 @@
-use Rattle.std.proofs.Common.{rules, ◌≡◌, ◌∙◌, IsTrue}
+use Rattle.std.proofs.Common.{rules, ◌∙◌, IsTrue}
 use Rattle.peer_source.specs.Outcomes.{answer_of}
 use Rattle.peer_fill.specs.Pools.{source_of}
 use Rattle.peer_fetch.proofs.AllowLemmas.{allowed_by}

@@ -1,4 +1,4 @@
-use Rattle.std.proofs.Common.{◌≡◌, IfSome, ap, sym, subst₂}
+use Rattle.std.proofs.Common.{IfSome, ap, sym, subst₂}
 use Rattle.peer_source.specs.Outcomes.{answer_of}
 use Rattle.peer_origin.specs.Endpoints.{request_at}
 use Rattle.peer_origin.specs.Fetched.{IsFetchedAnswer}

@@ -1,7 +1,7 @@
 use Rattle.std.proofs.Common.{◌≤◌, IsTrue, length, subst, sym}
 use Rattle.peer_http.specs.Receivings.{MayAskAgain}
 use Rattle.peer_http.specs.Replies.{IsReply}
-use Rattle.peer_value.proofs.FetchingLemmas.{answers_at_end, status_of}
+use Rattle.peer_value.proofs.FetchingLemmas.{answers_at_end, status_of, told_of}
 use Rattle.peer_value.proofs.fetching.Fetching.end.Goals as goal
 
 pub returns-in-Ok-clause-answer : goal.returns-in-Ok-clause-answer
@@ -15,5 +15,7 @@ returns-in-Ok-clause-answer c =
           c.requires.whole (subst (λ m. length r.value.items ≤ m) f.most c.in-Ok.ensures.within) c.answer_of.result.value c.answer_of.ensures.value
           (subst (λ t. ∥ IsReply t r.status r.value.items ∥₁) (sym c.in-Ok.ensures.came) c.in-Ok.ensures.reply);
       status = status_of new.came.bytes r.status r.value.items c.answer_of.result.value c.answer_of.ensures.status
+          (subst (λ t. ∥ IsReply t r.status r.value.items ∥₁) (sym c.in-Ok.ensures.came) c.in-Ok.ensures.reply);
+      told = told_of _ r.status r.value.items c.answer_of.result.value c.requires.whole c.answer_of.ensures.status
           (subst (λ t. ∥ IsReply t r.status r.value.items ∥₁) (sym c.in-Ok.ensures.came) c.in-Ok.ensures.reply);
     }

@@ -1,6 +1,6 @@
 use Rattle.std.proofs.Common.{◌≤◌, ◌∙◌, IfSome, IsTrue, length, rules, subst}
 use Rattle.peer_http.specs.Receivings.{IsStanding, MayAskAgain}
-use Rattle.peer_value.proofs.FetchingLemmas.{answers_standing, reply_of, status_of}
+use Rattle.peer_value.proofs.FetchingLemmas.{answers_standing, reply_of, status_of, told_of}
 use Rattle.peer_value.proofs.fetching.Fetching.receive.Goals as goal
 
 pub returns-in-Ok-Some-clause-answer : goal.returns-in-Ok-Some-clause-answer
@@ -16,6 +16,8 @@ returns-in-Ok-Some-clause-answer c =
       value = answers_standing f.request.items f.sent new.came.bytes f.first given.reply.status given.reply.value.items
           c.requires.whole (subst (λ m. length given.reply.value.items ≤ m) (given.ensures.most ∙ f.most) within) f.ended c.answer_of.result.value c.answer_of.ensures.value reply;
       status = status_of new.came.bytes given.reply.status given.reply.value.items c.answer_of.result.value c.answer_of.ensures.status
+          (reply_of new.came.bytes given.reply.status given.reply.value.items reply);
+      told = told_of _ given.reply.status given.reply.value.items c.answer_of.result.value c.requires.whole c.answer_of.ensures.status
           (reply_of new.came.bytes given.reply.status given.reply.value.items reply);
     }
 
