@@ -25,10 +25,11 @@ SCRIPTS = {
     "itself": ["peer_front"],
     "upper": ["upper_peer"],
     "check_commands": ["peer_front"],
+    "dashboard": ["peer_front"],
 }
 # The programs of the system without which a script is left out, and how a script is called that is no file of this folder.
 NEEDS = {"package": ["dpkg-deb", "ldd", "readelf"]}
-LIES_AT = {"check_commands": ["docs/check_commands.py", "--run"]}
+LIES_AT = {"check_commands": ["docs/check_commands.py", "--run"], "dashboard": ["examples/grafana/try.py"]}
 
 
 def edits_in(folder):

@@ -8,15 +8,17 @@ The first who asks for a key leads, those who ask while it is looked up join, an
 connections are counted as they come and go, and by why they ended; each failure of a service is counted as what it is, also where
 a reply of another status than 200 begins and its rest is late, and is told on standard error, none twice. What is counted of each
 group adds up to what is counted of all, also where a name has quotes, newlines or bytes above 7F; each reply is counted by its
-status; limits are those of the flags, and what is told of the process is so; and `/readyz` says how far the server is. `--loops`, `--workers` and `--fetchers` are as
-many threads, and each fetcher has `--under-way` values; who has nothing to do takes no processor. No more connections are open than
-by `--connections`, and where all are taken, silent clients are let go until a sixteenth is free, and those who came last are not the
-next to go; where the system gives no more files, silent clients are let go too, and accepts that failed are counted. `--timeout` is
-how long a value may take; a value above `--cache` is not kept, and one below it is; and above `--memory` a client is asked for one
-value at a time, until who holds so much has left.
+status; limits are those of the flags, and what is told of the process is so; and `/readyz` says how far the server is. `--loops`,
+`--workers` and `--fetchers` are as many threads, and each fetcher has `--under-way` values; who has nothing to do takes no
+processor. No more connections are open than by `--connections`, and where all are taken, silent clients are let go until a
+sixteenth is free, and those who came last are not the next to go; where the system gives no more files, silent clients are let go
+too, and accepts that failed are counted. `--timeout` is how long a value may take; a value above `--cache` is not kept, and one
+below it is; which keys share a shard goes by a seed of each server's own; and above `--memory` a client is asked for one value at a
+time, until who holds so much has left.
 
 Its last line is `rows N failures 0`; where a row fails, so does the program.
 """
+import hashlib
 import os
 import re
 import resource
@@ -151,6 +153,11 @@ def sums(counts, name):
     return sum(number for key, number in counts.items() if key.startswith(name + "{group="))
 
 
+def all_are_called(counts, asked):
+    """Whether so many were asked for, and the source was called for each that was led."""
+    return counts["asked_total"] == asked and counts["calls_total"] == counts["led_total"]
+
+
 def groups_add_up():
     good, bad = Service(replies(HEAD + b"1\r\n\r\nv")), Service(replies(b"HTTP/1.1 500 Oh\r\nContent-Length: 0\r\n\r\n"))
     words = [f"{name}={(bad if name == 'plain' else good).url}" for name in NAMES]
@@ -159,15 +166,17 @@ def groups_add_up():
             for key in range(number + 1):
                 for _ in range(2):
                     server.ask(f"{urllib.parse.quote(name)}/{key}")
-        # Each key twice; those of the last group have no value, and are led again.
-        server.says(asked_total=20, led_total=14, hits_total=6, calls_total=14)
+        # Each key twice; those of the last group have no value, and are led again, or joined if the flight before has not landed yet.
+        comes_to(lambda: all_are_called(server.counts(), 20))
         counts = server.counts()
         own = [counts[f'group_asks_total{{group="{escaped(name)}",found="led"}}'] for name in NAMES]
+        joined = counts[f'group_asks_total{{group="{NAMES[-1]}",found="joined"}}']
         pairs = [("asks_total", "asked_total"), ("calls_total", "calls_total"), ("rehits_total", "rehits_total")]
         equal = all(sums(counts, "group_" + one) == counts[all_] for one, all_ in pairs)
         status = counts['origin_failures_total{kind="status"}']
-        failed = sums(counts, "group_origin_failures_total") == status == 8
-        return own == [1, 2, 3, 8] and equal and failed and sums(counts, "group_cache_entries") == 6
+        failed = sums(counts, "group_origin_failures_total") == status == own[-1]
+        right = own[:-1] == [1, 2, 3] and own[-1] + joined == 8 and counts["hits_total"] == 6
+        return right and equal and failed and sums(counts, "group_cache_entries") == 6
 
 
 def send(address, head):
@@ -465,6 +474,25 @@ def values_within_the_cache_are_kept():
     return [hits_of(), *(hits_of("--cache", cache) for cache in caches)] == [1, 1, 0, 0]
 
 
+def asked_again():
+    """Which of 60 values of 1,000,000 bytes a service is asked for once more, of 20 in the middle, the last one first, after all were
+    asked for. Two shards keep 16 of them each, those that came last."""
+    asked = []
+
+    def serve(stream):
+        asked.append(stream.recv(10000).split()[1])
+        stream.sendall(HEAD + b"1000000\r\n\r\n" + 1000000 * b"v")
+
+    with Counted("--cache", "32MiB", "g=" + Service(serve).url) as server:
+        for number in [*range(60), *reversed(range(20, 40))]:
+            server.ask("g/" + hashlib.sha256(bytes([number])).hexdigest())
+    return tuple(asked[60:])
+
+
+def each_server_deals_keys_out_by_a_seed_of_its_own():
+    return len({asked_again() for _ in range(4)}) > 1
+
+
 def leave_at_once(stream):
     """Ends a connection by a reset, so that nobody answers what was asked on it."""
     stream.setsockopt(socket.SOL_SOCKET, socket.SO_LINGER, struct.pack("ii", 1, 0))
@@ -533,6 +561,7 @@ run_rows(
         no_more_connections_than_by_the_flag,
         a_value_is_late_by_the_flag,
         values_within_the_cache_are_kept,
+        each_server_deals_keys_out_by_a_seed_of_its_own,
         above_the_memory_one_value_is_asked_for,
         who_leaves_holds_nothing,
     ]

@@ -5,15 +5,17 @@
     (cd crates/exchange_rate && rt run < stdin)             # builds the program of one exchange
     ./build
     apt-get install valgrind
-    python3 bench/instructions.py [--parts] [--only ROWS] [crates/peer_serve/out/peer_serve]
+    python3 bench/instructions.py [--parts] [--only ROWS] [--keys 99000] [crates/peer_serve/out/peer_serve]
 
 Serial: so many requests on standard input, one thread, no cache. Over a connection: the server with one worker, a client that
-has 16 requests in flight. A loop: peer_front with one loop and the same client; its counters are published in each turn. An exchange: a connection as a state over memory, as the loops of peer_front have one for each client,
-in one thread that fills the jobs too; a thousand bytes come in each turn. Each row runs 1,000 requests and 9,000; what the 9,000
-took more, over 8,000, is the number for one. Over a connection the threads wait for one another, so the median of three runs is
-given with the least and the largest. A loop's last row is of 99,000 keys that are kept. --only serial, connection, loop or exchange prints those rows alone. With --parts it prints in
-place of that what share of a run's instructions which part of the program takes, by the names of functions; what a compiler wrote
-into another function counts as that one's.
+has 16 requests in flight. A loop: peer_front with one loop and the same client; its counters are published in each turn. An
+exchange: a connection as a state over memory, as the loops of peer_front have one for each client, in one thread that fills the jobs
+too; a thousand bytes come in each turn. Each row runs 1,000 requests and 9,000; what the 9,000 took more, over 8,000, is the number
+for one. Over a connection the threads wait for one another, so the median of three runs is given with the least and the largest. A
+loop's last row is of so many keys that are kept, by --keys; 1,000,000 take twelve minutes. --only serial, connection, loop or
+exchange prints those rows alone, and scattered that last one. With --parts it prints in place of that what share of a run's
+instructions which part of the program takes, by the names of functions; what a compiler wrote into another function counts as that
+one's.
 """
 import argparse
 import collections
@@ -51,9 +53,6 @@ CONNECTED = [
     ("a hit: echo/k, the head of Go's client", same("echo/k", GO)),
     ("a key asked for once: echo", lambda i: request(f"echo/{i:09}")),
 ]
-# So many keys are each asked for once, and then in no order.
-KEYS = 99_000
-SCATTERED = "a hit of 99,000 keys in no order: echo, the head of Go's client"
 EXCHANGE = [
     ("a hit: echo/k, 45 bytes", same("echo/k")),
     ("a hit: echo/k, the head of Go's client", same("echo/k", GO)),
@@ -64,7 +63,13 @@ EXCHANGE = [
 
 def scattered(i):
     """Each key once, and then one after the other that have nothing to do with one another."""
-    return request(f"echo/{i if i < KEYS else i * 7919 % KEYS:09}", GO)
+    return request(f"echo/{i if i < options.keys else i * 7919 % options.keys:09}", GO)
+
+
+def print_scattered():
+    keys = options.keys
+    name = f"a hit of {keys:,} keys in no order: echo, the head of Go's client"
+    print(f"| a loop, {name} | {each(looped, scattered, keys + MANY, 2 * keys):,.0f} |")
 
 
 def counted(words, program=None, **how):
@@ -111,7 +116,7 @@ def replies(client, number):
 
 def looped(made, number):
     port = free_port()
-    words = ["--listen", f"127.0.0.1:{port}", "--demo", "--loops", "1", "--until-eof"]
+    words = ["--listen", f"127.0.0.1:{port}", "--demo", "--loops", "1", "--cache", "256MiB", "--until-eof"]
     server = counted(words, options.front, stdin=subprocess.PIPE, stdout=subprocess.PIPE)
     ask_all(server, port, made, number)
     return total(server)
@@ -179,8 +184,8 @@ def print_counts():
     for name, made in CONNECTED if options.only in (None, "loop") else []:
         counts = [each(looped, made) for _ in range(3)]
         print(f"| a loop, {name} | {statistics.median(counts):,.0f} ({min(counts):,.0f} to {max(counts):,.0f}) |")
-    if options.only in (None, "loop"):
-        print(f"| a loop, {SCATTERED} | {each(looped, scattered, KEYS + MANY, 2 * KEYS):,.0f} |")
+    if options.only in (None, "loop", "scattered"):
+        print_scattered()
     for name, made in EXCHANGE if options.only in (None, "exchange") else []:
         print(f"| an exchange, {name} | {each(exchange, made):,.0f} |")
 
@@ -189,12 +194,14 @@ parser = argparse.ArgumentParser()
 parser.add_argument("program", nargs="?", default="crates/peer_serve/out/peer_serve")
 parser.add_argument("--exchange", default="crates/exchange_rate/out/exchange_rate")
 parser.add_argument("--front", default="crates/peer_front/out/peer_front")
-parser.add_argument("--only", choices=["serial", "connection", "loop", "exchange"])
+parser.add_argument("--only", choices=["serial", "connection", "loop", "scattered", "exchange"])
+parser.add_argument("--keys", type=int, default=99_000)
 parser.add_argument("--parts", action="store_true")
 options = parser.parse_args()
 options.out = "/dev/null"
-programs = {"serial": options.program, "connection": options.program, "loop": options.front, "exchange": options.exchange}
-needed = [programs[options.only]] if options.only else [options.program] if options.parts else list(programs.values())
+programs = {"serial": options.program, "connection": options.program, "exchange": options.exchange}
+programs |= {"loop": options.front, "scattered": options.front}
+needed = [programs[options.only]] if options.only else [options.program] if options.parts else sorted(set(programs.values()))
 for program in needed:
     if not os.path.exists(program):
         sys.exit(f"instructions.py: no program {program}: run `rt run < stdin` in its crate first")

@@ -8,7 +8,8 @@
 For each cache, in MiB, and each length of values a server of its own is asked for keys that are each asked for once, until what its
 cache holds grows no more. What it grew by is its resident memory then, less what it was after a load of one key, which gives each
 connection its buffers. A cell has that over the flag, and how many entries the cache has, if the page tells it. With `--beside` one
-client asks for one key that is kept meanwhile, and a cell has the time of its slowest reply.
+client asks meanwhile for 1,000 keys that are kept, which lie in all shards, and a cell has the time of its slowest reply, and of how
+many. What else takes processors makes that longer.
 """
 import argparse
 import concurrent.futures
@@ -32,9 +33,9 @@ def resident(process):
 
 
 def slowest(told):
-    """The milliseconds of the slowest reply, as wrk tells them."""
+    """The milliseconds of the slowest reply, and how many there were, as wrk tells them."""
     number, unit = re.search(r"Latency\s+\S+\s+\S+\s+([\d.]+)(us|ms|s)", told).groups()
-    return float(number) * {"us": 0.001, "ms": 1, "s": 1000}[unit]
+    return float(number) * {"us": 0.001, "ms": 1, "s": 1000}[unit], int(re.search(r"(\d+) requests in", told)[1])
 
 
 class Filled:
@@ -46,6 +47,7 @@ class Filled:
         words = ["--cache", f"{cache}MiB", "--stats", page, f"values=http://{service}/"]
         self.page = f"http://{page}/metrics"
         self.address, self.process = started([path, "--listen", "{addr}", *words])
+        self.one = f"http://{self.address}/_groupcache/values/one"
 
     def told(self, name):
         """A number of the page, or none."""
@@ -53,28 +55,34 @@ class Filled:
             found = re.search(f"^peer_front_{name} (\\d+)$", page.read().decode(), re.M)
         return int(found[1]) if found else None
 
-        self.one = f"http://{self.address}/_groupcache/values/one"
-
     def load(self, *words):
         told = subprocess.run(["wrk", *words], capture_output=True, text=True, check=True).stdout
         if "Non-2xx" in told or not re.search(r"[1-9]\d* requests in", told):
             sys.exit("memory.py: the server answered another status, or nothing")
         return told
 
+    def run(self, script, clients, seconds, *words):
+        """Asks for the keys of a script of wrk."""
+        path = os.path.join(HERE, "net", f"{script}.lua")
+        return self.load(*clients, f"-d{seconds}s", "-s", path, f"http://{self.address}/", "--", *words)
+
     def fill(self, seconds, has_client):
-        """Asks for new keys until the cache grows no more. The slowest reply of a client beside that, if there is one."""
-        script, before, longest = os.path.join(HERE, "net", "unique.lua"), 0, 0
+        """Asks for new keys until the cache grows no more. The slowest reply of a client beside that, and of how many, if there is
+        one."""
+        before, seen = 0, []
+        if has_client:
+            self.run("kept", ["-t1", "-c1"], 2)
         for turn in range(10_000):
             with concurrent.futures.ThreadPoolExecutor(1) as pool:
-                client = pool.submit(self.load, "-t1", "-c1", f"-d{seconds}s", self.one) if has_client else None
-                self.load("-t2", "-c64", f"-d{seconds}s", "-s", script, f"http://{self.address}/", "--", str(turn))
-            longest = max(longest, slowest(client.result())) if client else None
+                client = pool.submit(self.run, "kept", ["-t1", "-c1"], seconds) if has_client else None
+                self.run("unique", ["-t2", "-c64"], seconds, str(turn))
+            seen += [slowest(client.result())] if client else []
             time.sleep(1.5)  # the page tells the bytes once a second
             held = self.told("cache_bytes")
             if held <= before * (1 + FULL):
                 break
             before = held
-        return longest
+        return (max(time for time, _ in seen), sum(count for _, count in seen)) if seen else None
 
     def end(self):
         for process in (self.process, self.service):
@@ -96,7 +104,9 @@ def grown(path, cache, size, given):
 
 
 def shown(ratio, entries, longest):
-    more = [f"{entries:,} entries"] * (entries is not None) + [f"{longest:.1f} ms"] * (longest is not None)
+    more = [f"{entries:,} entries"] * (entries is not None)
+    if longest is not None:
+        more.append(f"{longest[0]:.1f} ms of {longest[1]:,} replies")
     return f"{ratio:.2f}" + (f" ({', '.join(more)})" if more else "")
 
 
@@ -118,4 +128,5 @@ def main():
         print("| " + " | ".join([f"{cache} MiB", *cells]) + " |", flush=True)
 
 
-main()
+if __name__ == "__main__":
+    main()

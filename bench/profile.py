@@ -3,10 +3,11 @@
 
     ./build
     apt-get install gcc linux-perf
-    python3 bench/profile.py [--seconds 3] [SERVER]
+    python3 bench/profile.py [--seconds 3] [--words "--loops 4"] [--load uniform:100000,64,1] [SERVER]
 
 For each load `perf record` samples the server, and the samples are summed by what their function is for; then `perf stat` counts
-system calls and task switches of a second run. c is the number of connections, d how many requests each has in flight.
+system calls and task switches of a second run. c is the number of connections, d how many requests each has in flight. With --words
+the server has these too, and with --load there is that load alone: the keys as bench/net/load.c knows them, c and d.
 """
 import os
 import re
@@ -64,18 +65,20 @@ def counted(load, address, process, cell, seconds):
 
 
 def main():
-    given = given_words("server", "?", "crates/peer_front/out/peer_front", seconds=3.0)
+    given = given_words("server", "?", "crates/peer_front/out/peer_front", seconds=3.0, words="", load="")
     server = program(given.server)
+    key, conns, depth = given.load.split(",") if given.load else ("", 0, 0)
+    loads = [("echo", key, int(conns), int(depth))] if given.load else LOADS
     os.makedirs(OUT, exist_ok=True)
     load = built("load", ["gcc", "-O2", "-o", "{out}/load", "load.c", "-lpthread"], ".")
-    address, process = started([server, *WORDS[os.path.basename(server)]])
+    address, process = started([server, *WORDS[os.path.basename(server)], *given.words.split()])
     names = [*(name for name, _ in GROUPS), "the rest"]
     print(f"| load | us for one | {' | '.join(names)} | task switches, futex, send, receive for one |\n{'|---' * (len(names) + 3)}|")
     try:
-        for cell in LOADS:
+        for cell in loads:
             shares = sampled(load, address, process, cell, given.seconds)
             events, found = counted(load, address, process, cell, given.seconds)
-            kind = "hot" if cell[1] == "hot:k" else "unique"
+            kind = "hot" if cell[1] == "hot:k" else cell[1]
             parts = " | ".join(f"{shares.get(name, 0):.0f}%" if shares else "-" for name in names)
             print(f"| {kind} c{cell[2]} d{cell[3]} | {found[4]:.2f} | {parts} | {', '.join(f'{n:.2f}' for n in events)} |")
     finally:

@@ -44,12 +44,14 @@ def filled(name, folder, **words):
     return path
 
 
-def nginx(folder, service, address):
+def nginx(folder, service, address, group="echo", size="1g"):
+    """nginx before a service, with so much for its cache, whose clients ask for keys of this group."""
     for name in ("cache", "temporary"):
         os.makedirs(os.path.join(folder, name))
     os.chmod(folder, 0o777)
     os.chmod(os.path.join(folder, "temporary"), 0o777)
-    return ["nginx", "-c", filled("nginx.conf", folder, FOLDER=folder, SERVICE=service, LISTEN=address), "-e", "/dev/null"]
+    config = filled("nginx.conf", folder, FOLDER=folder, SERVICE=service, LISTEN=address, GROUP=group, SIZE=size)
+    return ["nginx", "-c", config, "-e", "/dev/null"]
 
 
 def varnish(folder, service, address):

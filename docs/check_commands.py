@@ -6,7 +6,7 @@
 
 README has fewer than 1,800 words, all that stands between spaces counted. No sentence of it, and of the pages for who writes Go or
 runs the program, has more than 25. A sentence ends with its paragraph, item or cell too, and in a cell with a semicolon. Code and
-quotes are no sentences.
+quotes are no sentences. No cell of a table of any page has more than 60.
 
 A block that begins with ```sh is run as it stands, in a fresh clone with the built program in it: the blocks of a page one after the
 other, in one shell that ends at the first command that fails. A ```text block after one is what it prints. A block that calls
@@ -33,7 +33,7 @@ from common import may_have_its_own  # noqa: E402
 README, PAGES = "README.md", ("README.md", "docs/GO.md")
 READ = (*PAGES, "docs/OPERATING.md", "docs/STYLE.md", "docs/GLOSSARY.md")
 PROGRAM = "crates/peer_front/out/peer_front"
-MOST_WORDS, LONGEST = 1800, 25
+MOST_WORDS, LONGEST, LARGEST_CELL = 1800, 25, 60
 PATIENCE = 180
 BLOCK = re.compile(r"^```(\w*)\n(.*?)^```$", re.MULTILINE | re.DOTALL)
 OF_SHELL = {"cd", "exec", "echo", "printf", "set", "exit"}
@@ -71,8 +71,19 @@ def words_of(text):
     return [word for word in text.split() if re.search(r"\w", word)]
 
 
+def cells():
+    """The cells of all pages, each with its page."""
+    for page in (README, *(f"docs/{name}" for name in sorted(os.listdir(os.path.join(ROOT, "docs"))) if name.endswith(".md"))):
+        for line in read(page).split("\n"):
+            if line.startswith("|"):
+                yield from ((page, cell) for cell in line.strip("| ").split(" | "))
+
+
 def too_long():
     """What has too many words."""
+    for page, cell in cells():
+        if len(cell.split()) > LARGEST_CELL:
+            yield f"{page}: a cell of {len(cell.split())} words: {cell}"
     count = len(read(README).split())
     if count >= MOST_WORDS:
         yield f"{README}: {count} words, and fewer than {MOST_WORDS} are to be there"
