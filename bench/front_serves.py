@@ -6,7 +6,9 @@
 
 The first who asks for a key leads, those who ask while it is looked up join, and those who ask once a cache has it hit;
 connections are counted as they come and go, and by why they ended; each failure of a service is counted as what it is, also where
-a reply of another status than 200 begins and its rest is late, and is told on standard error, none twice. What is counted of each
+a reply of another status than 200 begins and its rest is late, and is told on standard error, none twice: with its time, group,
+service and last key, as text or as JSON. So is a service that is well again, a group that is not there, that all connections are
+taken, and what an end waits for; and where there are too many lines, how many were left out. What is counted of each
 group adds up to what is counted of all, also where a name has quotes, newlines or bytes above 7F; each reply is counted by its
 status; limits are those of the flags, and what is told of the process is so; and `/readyz` says how far the server is. `--loops`,
 `--workers` and `--fetchers` are as many threads, and each fetcher has `--under-way` values; who has nothing to do takes no
@@ -18,7 +20,9 @@ time, until who holds so much has left.
 
 Its last line is `rows N failures 0`; where a row fails, so does the program.
 """
+import calendar
 import hashlib
+import json
 import os
 import re
 import resource
@@ -66,18 +70,38 @@ def get(*paths):
     return b"".join(f"GET /_groupcache/{path} HTTP/1.1\r\nHost: h\r\n\r\n".encode() for path in paths)
 
 
+# A line that is told while it serves: its time, how bad it is, what happened, and its fields.
+LINE = re.compile(r"^\d{4}-\d\d-\d\dT\d\d:\d\d:\d\d\.\d{3}Z (info|warn) ([^:\n]+)(?:: (.*))?$", re.MULTILINE)
+
+
+def lines_in(said):
+    """What was told while it served: how bad, what, and the fields by their names."""
+    return [(level, what, dict(field.split("=", 1) for field in fields.split())) for level, what, fields in LINE.findall(said)]
+
+
 class Counted(Listening):
     """A server with a page of counters."""
 
     def __init__(self, *words):
-        self.lines = tempfile.TemporaryFile()
-        super().__init__(PROGRAM, "--stats", "127.0.0.1:0", *words, said=self.lines)
+        self.file = tempfile.TemporaryFile()
+        super().__init__(PROGRAM, "--stats", "127.0.0.1:0", *words, said=self.file)
         self.page = int(re.findall(r"healthz at 127\.0\.0\.1:(\d+)", self.said())[-1])
 
     def said(self):
         """What it has written on standard error."""
         # A read of its own place: the program writes at the one that it shares with this script.
-        return os.pread(self.lines.fileno(), 100000, 0).decode()
+        return os.pread(self.file.fileno(), 100000, 0).decode()
+
+    def lines(self, what):
+        """The fields of its lines on this, with how bad it is."""
+        return [{**fields, "level": level} for level, told, fields in lines_in(self.said()) if told == what]
+
+    def tells(self, what, **fields):
+        """Whether it comes to tell a line on this with these fields."""
+        if comes_to(lambda: any(fields.items() <= line.items() for line in self.lines(what))):
+            return True
+        print(self.said(), "has no", what, fields)
+        return False
 
     def ask(self, path):
         return ask(self.address, path)
@@ -318,6 +342,7 @@ def silent_clients_go_where_the_system_gives_no_more_files():
         _, most = resource.prlimit(server.process.pid, resource.RLIMIT_NOFILE)
         resource.prlimit(server.process.pid, resource.RLIMIT_NOFILE, (files, most))
         right = server.ask("echo/k").endswith(b"k") and 18 <= sum(map(is_open, silent)) < 20
+        right = right and server.tells("accepts failed", level="warn")
         resource.prlimit(server.process.pid, resource.RLIMIT_NOFILE, (most, most))
         return right and server.counts()["accept_failures_total"] > 0
 
@@ -334,15 +359,15 @@ KINDS = [
 ]
 
 
-# What is said of them, and of how many. A key that is missing is no trouble.
-TROUBLES = {
-    "origins with another status than 200 and 404": 2,
-    "origins not reached": 3,
-    "origins too late": 4,
-    "origins that closed the connection": 5,
-    "origins with bad replies": 6,
-    "origins with values over the limit": 7,
-}
+# What is said of them, from the second kind on. A key that is missing is no trouble.
+TROUBLES = [
+    "origin answered 500",
+    "origin not reached",
+    "origin too late",
+    "origin closed the connection",
+    "origin sent a bad reply",
+    "origin sent a value over the limit",
+]
 
 
 def each_failure_is_of_its_kind():
@@ -353,18 +378,139 @@ def each_failure_is_of_its_kind():
     words = [f"g{number}={url}" for number, url in enumerate(urls)]
     with Counted("--timeout", "1", *words) as server, ThreadPoolExecutor(8) as threads:
         # Of the first kind one, of the next two, and so on.
-        paths = [f"g{number}/{key}" for number in range(len(KINDS)) for key in range(number + 1)]
+        paths = [f"g{number}/{number}/{key}" for number in range(len(KINDS)) for key in range(number + 1)]
         list(threads.map(server.ask, paths))
         counted = server.says(**{f'origin_failures_total{{kind="{kind}"}}': number + 1 for number, (_, kind) in enumerate(KINDS)})
 
+        def is_told(number, what):
+            told, service = server.lines(what), urls[number].split("/")[2]
+            keys = {f"{number}%2F{key}" for key in range(number + 1)}
+            which = all((line["level"], line["group"], line["service"]) == ("warn", f"g{number}", service) for line in told)
+            return (
+                which
+                and all(line["last_key"] in keys for line in told)
+                and sum(int(line["more"]) for line in told) == number + 1
+                and int(told[-1]["total"]) == number + 1
+            )
+
         def are_told():
-            said = server.said()
-            return all(sum(map(int, re.findall(f"peer_front: {what}: (\\d+) more", said))) == more for what, more in TROUBLES.items())
+            told = [what for level, what, _ in lines_in(server.said()) if level == "warn"]
+            return set(told) == set(TROUBLES) and all(is_told(number, what) for number, what in enumerate(TROUBLES, 1))
 
         # The program looks once a second what there was more of: each is told, and none again.
         told = comes_to(are_told)
         time.sleep(2)
         return counted and told and are_told()
+
+
+def names_stay_in_their_line():
+    bad = Service(replies(b"HTTP/1.1 503 Oh\r\nContent-Length: 0\r\n\r\n"))
+    with Counted(*(f"{name}={bad.url}" for name in NAMES)) as server:
+        for name in NAMES:
+            server.ask(f"{urllib.parse.quote(name)}/{70 * 'k'}")
+        key = 64 * "k"  # a key is cut
+        told = [server.tells("origin answered 503", group=name, last_key=key) for name in ("%22%5C", "a%0Ab", "%C3%A9%E4%B8%80", "plain")]
+        return all(told)
+
+
+def json_has_what_text_has():
+    bad = Service(replies(b"HTTP/1.1 503 Oh\r\nContent-Length: 0\r\n\r\n"))
+    with Counted("--log", "json", f"{NAMES[0]}={bad.url}") as server:
+        server.ask(urllib.parse.quote(NAMES[0]) + "/red/7")
+        server.ask("none/k")
+
+        def objects():
+            return [json.loads(line) for line in server.said().split("\n") if line.startswith("{")]
+
+        if not comes_to(lambda: len(objects()) >= 2):
+            return False
+        told = {line["what"]: line for line in objects()}
+        failed = told["origin answered 503"]
+        time_of = failed.pop("time")
+        fields = {"group": "%22%5C", "service": bad.url.split("/")[2], "more": 1, "total": 1, "last_key": "red%2F7"}
+        unknown = told["requests for groups that are not served here"]
+        return (
+            re.fullmatch(r"\d{4}-\d\d-\d\dT\d\d:\d\d:\d\d\.\d{3}Z", time_of) is not None
+            and failed == {"level": "warn", "what": "origin answered 503", **fields}
+            and (unknown["more"], unknown["total"]) == (1, 1)
+        )
+
+
+def times_are_those_of_the_clock():
+    with Counted("--demo") as server:
+        before = time.time()
+        server.ask("none/k")
+        server.tells("requests for groups that are not served here", more="1", total="1", level="warn")
+        told = re.search(r"^(\S+)Z warn requests", server.said(), re.MULTILINE)[1]
+        seconds = calendar.timegm(time.strptime(told.split(".")[0], "%Y-%m-%dT%H:%M:%S")) + float("0." + told.split(".")[1])
+        return before - 0.01 <= seconds <= time.time() + 0.01
+
+
+def a_service_is_well_again():
+    is_well = threading.Event()
+
+    def serve(stream):
+        replies(HEAD + b"1\r\n\r\nv" if is_well.is_set() else b"HTTP/1.1 503 Oh\r\nContent-Length: 0\r\n\r\n")(stream)
+
+    service = Service(serve)
+    with Counted("g=" + service.url) as server:
+        for key in range(3):
+            server.ask(f"g/{key}")
+        failed = server.tells("origin answered 503", group="g", total="3")
+        is_well.set()
+        server.ask("g/last")
+        well = server.tells("origin well again", level="info", group="g", service=service.url.split("/")[2], failures="3")
+        return failed and well and len(server.lines("origin well again")) == 1
+
+
+def lines_are_few():
+    nobody = socket.socket()
+    nobody.bind(("127.0.0.1", 0))
+    url = f"http://127.0.0.1:{nobody.getsockname()[1]}/"
+    with Counted(*(f"g{number}={url}" for number in range(60))) as server:
+
+        def are_left_out():
+            for number in range(60):
+                server.ask(f"g{number}/k")
+            return server.lines("lines left out")
+
+        return comes_to(are_left_out) and int(server.lines("lines left out")[0]["more"]) >= 1
+
+
+def what_is_taken_is_told():
+    with Counted("--demo", "--connections", "3", "--loops", "1") as server, ExitStack() as streams:
+
+        def one_more(*whats):
+            """Connects once more, since silent clients are let go to make room. Whether all of this is told by now."""
+            streams.enter_context(socket.create_connection(server.address))
+            time.sleep(0.2)
+            return all(server.lines(what) for what in whats)
+
+        told = comes_to(lambda: one_more("all connections are taken", "clients closed for want of connections"))
+        streams.close()
+        taken = server.lines("all connections are taken")[0] == {"level": "warn", "open": "3", "limit": "3"}
+        return told and taken and server.tells("connections are free again", level="info", limit="3")
+
+
+def an_end_tells_what_it_waits_for():
+    with tempfile.TemporaryFile() as said:
+        words = [PROGRAM, "--listen", "127.0.0.1:0", "--until-eof", "--timeout", "4", "g=" + Service(hangs).url]
+        process = subprocess.Popen(words, stdin=subprocess.PIPE, stdout=subprocess.PIPE, stderr=said)
+        process.stdout.readline()
+
+        def told():
+            return os.pread(said.fileno(), 100000, 0).decode()
+
+        address = ("127.0.0.1", int(re.search(r"at 127\.0\.0\.1:(\d+),", told())[1]))
+        with socket.create_connection(address) as client:
+            client.sendall(get("g/k"))
+            time.sleep(0.5)  # so that it has come
+            process.stdin.close()
+            client.recv(10000)
+        process.wait(PATIENCE)
+        process.stdout.close()
+        whats = ("info", "ending, once clients have their replies")
+        return [fields["open"] for level, what, fields in lines_in(told()) if (level, what) == whats] == ["1"]
 
 
 def a_status_is_told_where_its_rest_is_late():
@@ -554,6 +700,13 @@ run_rows(
         silent_clients_go_in_turn,
         silent_clients_go_where_the_system_gives_no_more_files,
         each_failure_is_of_its_kind,
+        names_stay_in_their_line,
+        json_has_what_text_has,
+        times_are_those_of_the_clock,
+        a_service_is_well_again,
+        lines_are_few,
+        what_is_taken_is_told,
+        an_end_tells_what_it_waits_for,
         a_status_is_told_where_its_rest_is_late,
         each_thread_is_asked_for,
         each_fetcher_has_its_values_under_way,

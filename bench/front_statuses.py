@@ -121,6 +121,7 @@ ROWS = [
     (HERE + ["--demo", "--stats", TAKEN], 2, f"peer_front: cannot serve --stats {TAKEN}: "),
     (HERE + ["--demo", "--stats", TAKEN.split(":")[1]], 2, f"peer_front: cannot serve --stats {TAKEN}: "),
     (HERE + ["--demo", "--stats"], 1, "--stats"),
+    (HERE + ["--demo", "--log", "xml"], 1, "peer_front: --log xml: text or json is needed\n"),
     (HERE + ["--demo", "--until-eof=x"], 1, "--until-eof"),
     (HERE + ["--demo", "--until-eof"], 0, "peer_front: serves 3 groups at 127.0.0.1:"),
     (HERE + ["--demo", "--timeout", "3601"], 1, f"peer_front: --timeout 3601: {TIME}\n"),
@@ -206,6 +207,7 @@ BAD_FILES = [
     (LINES + "cache-keys = 0\n", "line 2: cache-keys 0: a number from 1 to 4294967296 is needed"),
     ('demo = true\nlisten = "127.0.0.1"\n', f"line 2: listen 127.0.0.1: {ADDRESS}"),
     (LINES + "stats = 0\n", f"line 2: stats 0: {PAGE}"),
+    (LINES + 'log = "xml"\n', "line 2: log xml: text or json is needed"),
     (LINES + "demo = true\nfetchers = 2\n", f"line 3: fetchers {FOR_SERVICES}"),
     (f"workers = 1\n{GROUP}" + f'url = "{URL}"\n', "line 1: workers " + NO_WORKERS.removeprefix("--workers ")),
     (LINES + "groups = 3\n", "line 2: groups: groups are tables, such as [groups.colors]"),
@@ -296,6 +298,8 @@ TAKEN_WORDS = [
     ["--config", table(b'listen = "127.0.0.1:0"\ndemo = true\nloops = 1\n')],
     ["--table", GOOD, "--demo", "a=" + URL],
     ["--demo", "--stats", "127.0.0.1:0"],
+    ["--demo", "--log", "text"],
+    ["--demo", "--log", "json"],
 ]
 
 # a word to bench/statuses.c, which stands in for calls of the C library; the words, the status and what standard error holds
@@ -320,7 +324,8 @@ def ended_at_once(words, files=20000, output=subprocess.PIPE):
 
     done = subprocess.run([PROGRAM] + words, stdin=subprocess.DEVNULL, stdout=output, stderr=subprocess.PIPE,
                           timeout=60, check=False, preexec_fn=allow)
-    return done.returncode, done.stderr.decode()
+    # On a busy machine the end may last longer than a second, and is told.
+    return done.returncode, re.sub(r"^\S+Z info ending, .*\n", "", done.stderr.decode(), flags=re.MULTILINE)
 
 
 def checked(words):

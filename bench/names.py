@@ -6,7 +6,7 @@
 
 The program runs in a mount namespace of its own, in which /etc/hosts is a file that this script writes; that takes root.
 The name stands first for a service that answers `one`, then for one that answers `two`, then for none, and each key is
-asked once. Two groups are at the name, which is looked up once for both. The server of names is this script: it knows no name, and
+asked once. That its addresses changed is told on standard error, with these, and so is a look-up that failed. Two groups are at the name, which is looked up once for both. The server of names is this script: it knows no name, and
 then answers no more, so that a look-up does not end; keys are answered meanwhile. In the end the name has two addresses, of which
 the first answers nobody, and a value may take 2 seconds: the second one is asked within them. Its last line is
 `checks N failures 0`; if one fails, so does the program. Without the right to all that it says so, and checks nothing.
@@ -14,6 +14,7 @@ the first answers nobody, and a value may take 2 seconds: the second one is aske
 import http.client
 import http.server
 import os
+import re
 import socket
 import subprocess
 import sys
@@ -92,7 +93,8 @@ class Front:
         script = f"mount --bind {hosts} /etc/hosts && mount --bind {names} /etc/resolv.conf && exec {PROGRAM} --listen 127.0.0.1:{SERVED} {' '.join(words)}"
         # One at an address beside them: the others are looked up all the same.
         script += f" here=http://127.0.0.2:{PORT}/ first=http://{NAME}:{PORT}/ second=http://{NAME}:{PORT}/"
-        self.process = subprocess.Popen(["unshare", "--mount", "sh", "-c", script], stdout=subprocess.PIPE, text=True)
+        self.file = tempfile.TemporaryFile()
+        self.process = subprocess.Popen(["unshare", "--mount", "sh", "-c", script], stdout=subprocess.PIPE, stderr=self.file, text=True)
         if self.process.stdout.readline() != "listening\n":
             sys.exit("names.py: the program does not serve")
         self.asked = 0
@@ -106,6 +108,16 @@ class Front:
             return connection.getresponse().read()
         except OSError:
             return b""
+
+    def tells_soon(self, line):
+        """Whether it tells this on standard error before long, after a time."""
+        until = time.monotonic() + PATIENCE
+        while time.monotonic() < until:
+            # A read of its own place: the program writes at the one that it shares with this script.
+            if re.search(rf"^\S+Z {re.escape(line)}$", os.pread(self.file.fileno(), 100000, 0).decode(), re.MULTILINE):
+                return True
+            time.sleep(0.2)
+        return False
 
     def gives_soon(self, text):
         """Whether a new key has this value before long."""
@@ -143,8 +155,11 @@ def main():
             checks.append(("the second address", front.gives_soon(b"two")))
             checks.append(("the first no more", not front.ask().endswith(b"one")))
             checks.append(("the second address for both groups", front.ask("second").endswith(b"two")))
+            told = f"info addresses changed: service={NAME}:{PORT} addresses=127.0.0.3:{PORT}"
+            checks.append(("that the addresses changed is told", front.tells_soon(told)))
             stands_for()
-            time.sleep(PATIENCE / 2)
+            told = f"warn look-up failed, the addresses stay: service={NAME}:{PORT} addresses=127.0.0.3:{PORT}"
+            checks.append(("that nothing is found is told", front.tells_soon(told)))
             checks.append(("the last address, where nothing is found", front.ask().endswith(b"two")))
             checks.append(("a look-up that does not end", name_server.is_silent()))
             checks.append(("the last address while the name is looked up", front.ask().endswith(b"two")))

@@ -7,13 +7,16 @@
 One takes so little at a time that the system reports room for more only after longer than a client may take nothing. Others
 take all that there is while the server itself is stopped for longer than that. Of those who ask while it is stopped for longer than a
 client may be silent none is let go, nor one whose request comes whole only then; and a value that comes meanwhile is given, whose time
-is over by then.
+is over by then. Those who take nothing, or send no whole request, are closed, and that is told on standard error.
 
 Its last line is `rows N failures 0`; where a row fails, so does the program.
 """
+import os
+import re
 import signal
 import socket
 import sys
+import tempfile
 import threading
 import time
 from contextlib import ExitStack
@@ -157,8 +160,25 @@ def a_value_whose_end_came_while_the_server_stood_still():
         return all(pool.map(is_given_behind_a_stop, [b"HTTP/1.1 200 OK\r\n\r\nvalue"] * SERVERS))
 
 
+def those_who_are_closed_are_told():
+    lines = [r"warn clients closed as slow: more=1 total=1", r"info clients closed as silent: more=1 total=1"]
+    with tempfile.TemporaryFile() as said, Listening(PROGRAM, "--demo", said=said) as server, ExitStack() as stack:
+        slow, silent = (stack.enter_context(socket.create_connection(server.address, 10)) for _ in range(2))
+        slow.sendall(REQUEST * REQUESTS)
+        silent.sendall(request("echo/k")[:10])
+        # A client may be silent for 60 s.
+        until = time.monotonic() + 120
+        while time.monotonic() < until:
+            told = os.pread(said.fileno(), 100000, 0).decode()
+            if all(re.search(rf"^\S+Z {line}$", told, re.MULTILINE) for line in lines):
+                return True
+            time.sleep(0.2)
+        return False
+
+
 run_rows(
     [
+        those_who_are_closed_are_told,
         one_that_takes_little_at_a_time,
         those_whose_server_stood_still,
         those_who_asked_while_their_server_stood_still,

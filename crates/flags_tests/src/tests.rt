@@ -4,6 +4,7 @@ mod config;
 
 use clap::ArgMatches;
 use peer_flags::{ListenAddress, Options, Room, command, time_of};
+use peer_log::LogForm;
 use std::alloc::Global;
 use std::test::Fail;
 use std::time::Duration;
@@ -62,6 +63,7 @@ fn each_flag_has_its_default(rt: HostRuntime) -> Result<(), Fail> {
         connect_timeout: Duration::from_secs(2),
         connection_for_each: false,
         stats: None,
+        log: LogForm::Text,
         until_eof: false,
         for_services: None,
     };
@@ -95,6 +97,31 @@ fn numbers_are_within_their_bounds(rt: HostRuntime) -> Result<(), Fail> {
         right &= is_bounded(rt.alloc(), flag, value, bounds)?;
     }
     assert!(rt; right);
+    Ok(())
+}
+
+// The form of lines that these words ask for.
+fn form_of(alloc: Global, words: &[&str]) -> Result<Option<LogForm>, Fail> {
+    let matches = matches_of(alloc, words)?;
+    let form = match Options::of(&matches) {
+        Ok(options) => Some(options.log),
+        Err(_) => None,
+    };
+    drop(matches);
+    Ok(form)
+}
+
+#[test]
+fn lines_are_text_or_json(rt: HostRuntime) -> Result<(), Fail> {
+    let needed = "--log JSON: text or json is needed";
+    let is_told = tells(rt.alloc(), "--log", "JSON", needed)?;
+    let words = ["peer_front", "--listen", "127.0.0.1:1", "--log", "json"];
+    let json = form_of(rt.alloc(), &words)?;
+    let words = ["peer_front", "--listen", "127.0.0.1:1", "--log", "text"];
+    let text = form_of(rt.alloc(), &words)?;
+    assert!(rt; is_told);
+    assert!(rt; json == Some(LogForm::Json));
+    assert!(rt; text == Some(LogForm::Text));
     Ok(())
 }
 

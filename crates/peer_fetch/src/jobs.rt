@@ -13,6 +13,7 @@ ghost use Rattle.peer_fetch.specs.Fetchers.{MayTakeJob};
 ghost use Rattle.peer_fetch.specs.Threads.{Allows, IsLaterSeat};
 
 use crate::fetcher::Fetcher;
+use crate::noted::note_done;
 use crate::opening::System;
 use crate::settings::FetchPlan;
 use peer_fill::{FillSeat, Gate, Pool, TakenJob};
@@ -56,7 +57,7 @@ fn fill<'a, S: Source, L: Ledger, G: Gate, H: Network>(
     }
 }
 
-// Fills the flight of a job whose value was fetched, or was not, and counts why it was not.
+// Fills the flight of a job whose value was fetched, or was not, and notes which.
 fn fill_done<'a, S: Source, L: Ledger, G: Gate, H: Network>(
     rt: &H,
     jobs: &Jobs<'_, 'a, S, L, G>,
@@ -74,10 +75,7 @@ fn fill_done<'a, S: Source, L: Ledger, G: Gate, H: Network>(
     let fault = done.fault();
     let endpoint = done.endpoint();
     let (job, outcome) = done.settle::<H>(jobs.alloc);
-    if let Some(fault) = fault {
-        let group = job.group().number;
-        jobs.plan.failures.count(group, fault.kind());
-    }
+    note_done(rt, jobs.plan.failures, &job, fault);
     fill(rt, jobs, seat, endpoint, job, outcome);
 }
 

@@ -12,6 +12,7 @@ mod fetcher;
 mod idle;
 mod jobs;
 mod link;
+mod noted;
 mod opening;
 mod room;
 mod settings;

@@ -37,6 +37,6 @@ pub struct FetchPlan<'a> {
     /// The endpoints of the groups that it fetches for. The source is called for all others.
     pub endpoints: Endpoints<'a>,
     pub settings: FetchThreadSettings,
-    /// Where is counted why an origin gave no value.
+    /// Where is noted why an origin gave no value.
     pub failures: &'a FailureSlots,
 }

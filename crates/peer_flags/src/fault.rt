@@ -15,6 +15,8 @@ pub enum WordFault {
     Address,
     #[error("a port, or an address and a port, is needed, such as 9180 or 127.0.0.1:9180")]
     Page,
+    #[error("text or json is needed")]
+    Log,
 }
 
 /// A word that cannot be used, and the flag that it was given to, without its dashes.

@@ -33,7 +33,7 @@ const CHECK: &str = "check";
 
 // The flags, as `--help` lists them: for what is served, for how services are asked, for how it is served, and for whoever
 // runs it.
-const FLAGS: [Flag; 19] = [
+const FLAGS: [Flag; 20] = [
     Flag {
         name: "listen",
         takes: Takes::Required("ADDR"),
@@ -123,6 +123,11 @@ const FLAGS: [Flag; 19] = [
         name: "stats",
         takes: Takes::Value("ADDR"),
         help: "Where /metrics and /healthz are served, such as 9180 for 127.0.0.1:9180",
+    },
+    Flag {
+        name: "log",
+        takes: Takes::Defaulted("FORM", "text"),
+        help: "How lines on standard error are written while it serves: text, or json for one object a line",
     },
     Flag {
         name: "until-eof",

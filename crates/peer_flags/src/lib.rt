@@ -1,6 +1,6 @@
 //! The words that `peer_front` is called with: its flags, their defaults and their bounds.
 //!
-//! It stands on `clap`. It promises numbers within the bounds of their flags, which time a text means, and room for one
+//! It stands on `clap`, and on `peer_log` for the forms of lines. It promises numbers within the bounds of their flags, which time a text means, and room for one
 //! connection and one value at least, and for no more than were asked for. `flags_tests` shows the sentence for each word that
 //! cannot be used.
 #![tactic(auto)]
@@ -8,6 +8,7 @@
 mod address;
 mod fault;
 mod flags;
+mod log;
 mod options;
 mod room;
 mod size;

@@ -4,10 +4,12 @@ ghost use Rattle.std.specs.Duration.{as_nanos};
 
 use crate::address::{ListenAddress, PageAddress, listen, stats};
 use crate::fault::{BadWord, WordFault};
+use crate::log::log;
 use crate::size::{bytes_of, number_of};
 use crate::time::time_of;
 use clap::ArgMatches;
 use clap::parser::ValueSource;
+use peer_log::LogForm;
 use std::time::Duration;
 
 // The most workers, and the most loops.
@@ -60,6 +62,7 @@ pub struct Options<'w> {
     pub connect_timeout: Duration,
     pub connection_for_each: bool,
     pub stats: Option<PageAddress<'w>>,
+    pub log: LogForm,
     pub until_eof: bool,
     /// The first flag given that is for services alone, without its dashes.
     pub for_services: Option<&'static str>,
@@ -215,6 +218,7 @@ impl<'w> Options<'w> {
         let counts = Counts::of(matches)?;
         let limits = Limits::of(matches)?;
         let stats = stats(matches)?;
+        let log = log(matches)?;
         Ok(Options {
             listen,
             check: matches.get_flag("check"),
@@ -232,6 +236,7 @@ impl<'w> Options<'w> {
             connect_timeout: limits.connect_timeout,
             connection_for_each: matches.get_flag("connection-for-each"),
             stats,
+            log,
             until_eof: matches.get_flag("until-eof"),
             for_services: first_for_services(matches),
         })

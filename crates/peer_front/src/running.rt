@@ -3,6 +3,8 @@ ghost use Rattle.std.specs.Prelude.{IfSome};
 ghost use Rattle.peer_fetch.specs.Threads.{Allows};
 
 use crate::end::End;
+use crate::failing::Watched;
+use crate::log::Log;
 use crate::names::{has_names, look_up_names};
 use crate::page::Page;
 use crate::troubles::tell_troubles;
@@ -26,6 +28,8 @@ pub struct Service<'a, S: Source> {
     pub settings: &'a Settings<'a>,
     /// What it is, for its page.
     pub facts: ServerFacts<'a>,
+    /// Where lines are said.
+    pub log: &'a Log,
     /// What threads fetch, where they do.
     pub plan: Option<FetchPlan<'a>>,
 }
@@ -129,7 +133,7 @@ fn serve_paged<S: Source + Send + Sync, H: AllocGlobal + Files + Host>(
 }
 
 // Serves, and looks names of services up again where there are some.
-fn serve_named<S: Source + Send + Sync, H: AllocGlobal + Files + Host>(
+fn serve_named<S: Source + Send + Sync, H: AllocGlobal + Eprint + Files + Host>(
     rt: &H,
     service: Service<'_, S>,
     page: Option<Page>,
@@ -140,11 +144,12 @@ fn serve_named<S: Source + Send + Sync, H: AllocGlobal + Files + Host>(
         Some(plan) if has_names(plan.endpoints.each) => plan.endpoints.each,
         _ => return serve_paged(rt, service, page),
     };
+    let log = service.log;
     let end = End::new();
     let end = &end;
     serve_beside(
         rt,
-        move || look_up_names(rt, endpoints, end),
+        move || look_up_names(rt, log, endpoints, end),
         move || end.tell(),
         move || -> Result<Report, ServerFault>
             requires { IfSome service.plan (Allows H.carried (S.answers service.source)) }
@@ -163,10 +168,15 @@ pub fn serve_watched<S: Source + Send + Sync, H: AllocGlobal + Eprint + Files + 
 {
     let end = End::new();
     let end = &end;
-    let counters = service.settings.counters;
+    let watched = Watched {
+        log: service.log,
+        counters: service.settings.counters,
+        facts: service.facts,
+        plan: service.plan,
+    };
     serve_beside(
         rt,
-        move || tell_troubles(rt, counters, end),
+        move || tell_troubles(rt, watched, end),
         move || end.tell(),
         move || -> Result<Report, ServerFault>
             requires { IfSome service.plan (Allows H.carried (S.answers service.source)) }

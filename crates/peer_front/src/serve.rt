@@ -8,6 +8,7 @@ use crate::exit::{BAD_WORD, DONE, Exit, NO_SEED, OUT_OF_MEMORY, no_output, refus
 use crate::facts::{facts_of, served_groups};
 use crate::files::within_files;
 use crate::listen::listen;
+use crate::log::Log;
 use crate::page::{Page, page_of};
 use crate::running::{Service, serve_watched};
 use crate::said::{FilledBy, say_caches, say_listening, say_prefixes, say_serving, say_totals};
@@ -146,11 +147,13 @@ fn serve_source<
     }
     let settings = settings_of(options, filled_by, opened.seed, outside);
     let Opened { listener, page, .. } = opened;
+    let log = Log::new(options.log);
     let service = Service {
         source,
         listener,
         settings: &settings,
         facts: outside.facts,
+        log: &log,
         plan,
     };
     let served = serve_watched(rt, service, page);

@@ -1,6 +1,7 @@
 //! The addresses of an origin's host. Those of a name are looked up again while others connect to what was found last.
 
 use crate::endpoint::EndpointFault;
+use crate::look_up::{LookUp, look_up_of};
 use peer_runtime::Network;
 use peer_wait::lock;
 use std::alloc::{AllocError, Global};
@@ -117,13 +118,19 @@ impl Addresses {
         Arc::try_clone(&*lock(rt, &self.found))
     }
 
-    /// Looks the name up again. Where nothing is found, or memory is refused, the addresses stay.
-    pub fn look_up_again<H: Network>(&self, rt: &H, alloc: Global) {
+    /// Looks the name up again, and says what that came to. Where nothing is found, or memory is refused, the addresses stay.
+    pub fn look_up_again<H: Network>(&self, rt: &H, alloc: Global) -> LookUp {
         let Some(name) = &self.name else {
-            return;
+            return LookUp::Same;
+        };
+        let Ok(before) = self.found(rt) else {
+            return LookUp::Failed;
         };
         if let Ok(found) = name.look_up(rt, alloc) {
+            let came_to = look_up_of(found.as_slice(), before.as_slice());
             *lock(rt, &self.found) = found;
+            return came_to;
         }
+        LookUp::Failed
     }
 }

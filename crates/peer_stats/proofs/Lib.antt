@@ -1,3 +1,4 @@
 pub mod EachLemmas
 pub mod JoinLemmas
+pub mod StartLemmas
 pub mod TextLemmas

@@ -4,5 +4,6 @@ pub mod Groups
 pub mod Labels
 pub mod Looks
 pub mod Pages
+pub mod Starts
 pub mod States
 pub mod Sums

@@ -6,6 +6,8 @@ use Rattle.peer_stats.specs.declared.counts.AskCounts.{AskCounts}
 use Rattle.peer_stats.specs.declared.counts.ReplyCounts.{ReplyCounts}
 use Rattle.peer_stats.specs.declared.counts.CloseCounts.{CloseCounts}
 use Rattle.peer_stats.specs.declared.counts.FailureCounts.{FailureCounts}
+use Rattle.peer_stats.specs.declared.failure.OriginFailure.{OriginFailure}
+use Rattle.peer_stats.specs.declared.failure.OriginFailure.TheVariants as failure
 
 -- two counts together
 abbrev pub sum_of : ℕ → ℕ → ℕ
@@ -72,3 +74,14 @@ failure_sum a b = record {
   too_long = sum_of a.too_long b.too_long;
   memory = sum_of a.memory b.memory;
 }
+
+-- the failures of one kind
+abbrev pub failures_of : OriginFailure → FailureCounts → ℕ
+failures_of failure.NoSuchKey c = c.no_such_key
+failures_of failure.Status c = c.status
+failures_of failure.Unreached c = c.unreached
+failures_of failure.Late c = c.late
+failures_of failure.Lost c = c.lost
+failures_of failure.Malformed c = c.malformed
+failures_of failure.TooLong c = c.too_long
+failures_of failure.Memory c = c.memory

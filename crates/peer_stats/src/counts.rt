@@ -1,6 +1,9 @@
 //! Numbers that were counted, as a reader sees them.
 ghost use Rattle.std.specs.Prelude.{◌≡◌};
 ghost use Rattle.peer_stats.specs.Sums.{ask_sum, close_sum, failure_sum, filler_sum, loop_sum, reply_sum};
+ghost use Rattle.peer_stats.specs.Sums.{failures_of};
+
+use crate::failure::OriginFailure;
 
 /// What one loop has counted, or all of them, without what it counted of each group. Each but the last is what a getter of its
 /// seat gives.
@@ -262,6 +265,22 @@ impl FailureCounts {
         too_long: 0,
         memory: 0,
     };
+
+    /// How many are of this kind.
+    pub fn of(self, failure: OriginFailure) -> u64
+        ensures { result ≡ failures_of failure self }
+    {
+        match failure {
+            OriginFailure::NoSuchKey => self.no_such_key,
+            OriginFailure::Status => self.status,
+            OriginFailure::Unreached => self.unreached,
+            OriginFailure::Late => self.late,
+            OriginFailure::Lost => self.lost,
+            OriginFailure::Malformed => self.malformed,
+            OriginFailure::TooLong => self.too_long,
+            OriginFailure::Memory => self.memory,
+        }
+    }
 
     /// What was counted of two groups together.
     pub fn plus(self, other: FailureCounts) -> FailureCounts

@@ -17,6 +17,7 @@ mod family;
 mod group_number;
 mod groups;
 mod label;
+mod last;
 mod numbers;
 mod page;
 mod process;
@@ -35,6 +36,7 @@ pub use counts::{
 pub use end::StatsEnd;
 pub use facts::{ServedGroup, ServerFacts};
 pub use failure::OriginFailure;
+pub use last::{KeyStart, LastFailure};
 pub use numbers::{Build, Numbers, ProcessCounts, ServerBounds};
 pub use page::metrics_page;
 pub use server::{StatsServer, open_stats};

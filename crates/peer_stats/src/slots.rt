@@ -4,7 +4,8 @@
 //! each number that changed. Failures of origins, which several threads count, are added in one step, and so are accepts. What
 //! a loop asks is told last, and read first: a reader never sees more asked than hit, led and joined together. Each loop
 //! publishes what it saw of the caches of groups, so what never falls there is raised to the largest that was seen.
-//! Slots of groups are by the numbers of these, modulo 64.
+//! Slots of groups are by the numbers of these, modulo 64. A failure is told before it is counted: who sees the count finds it there,
+//! or a later one.
 
 use crate::closing::Closing;
 use crate::counts::{
@@ -12,8 +13,10 @@ use crate::counts::{
     ReplyCounts,
 };
 use crate::failure::OriginFailure;
-use std::sync::atomic::AtomicU64;
+use crate::last::{LastFailure, LastSlots};
+use std::sync::Wait;
 use std::sync::atomic::Ordering::SeqCst;
+use std::sync::atomic::{AtomicBool, AtomicU64};
 
 /// How many slots there are for groups: the most groups that a pool has.
 pub(crate) const MAX_GROUPS: usize = 64;
@@ -368,6 +371,9 @@ impl FailureSlot {
 #[derive(Default, Drop)]
 pub struct FailureSlots {
     groups: [FailureSlot; MAX_GROUPS],
+    lasts: [LastSlots; MAX_GROUPS],
+    // Whether the service of a group failed after it gave its last whole reply.
+    failing: [AtomicBool; MAX_GROUPS],
 }
 
 impl FailureSlots {
@@ -376,6 +382,38 @@ impl FailureSlots {
         self.groups[group % MAX_GROUPS]
             .slot(failure)
             .fetch_add(1, SeqCst);
+    }
+
+    /// The service of the group with this number failed so.
+    pub fn note<H: Wait>(&self, rt: &H, group: usize, failure: OriginFailure, last: LastFailure) {
+        let group = group % MAX_GROUPS;
+        self.lasts[group].tell(rt, failure, last);
+        self.failing[group].store(true, SeqCst);
+        self.count(group, failure);
+    }
+
+    /// The service of the group with this number gave a whole reply.
+    pub fn note_well(&self, group: usize) {
+        let failing = &self.failing[group % MAX_GROUPS];
+        // Most replies come while none failed: then no thread writes what others read.
+        if failing.load(SeqCst) {
+            failing.store(false, SeqCst);
+        }
+    }
+
+    /// Whether the service of the group with this number gave no whole reply after its last failure that was noted.
+    pub fn is_failing(&self, group: usize) -> bool {
+        self.failing[group % MAX_GROUPS].load(SeqCst)
+    }
+
+    /// The last failure of this kind of the service of the group with this number, if one was noted.
+    pub fn read_last<H: Wait>(
+        &self,
+        rt: &H,
+        group: usize,
+        failure: OriginFailure,
+    ) -> Option<LastFailure> {
+        self.lasts[group % MAX_GROUPS].read(rt, failure)
     }
 
     /// How often the service of the group with this number failed.

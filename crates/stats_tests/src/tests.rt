@@ -1,6 +1,7 @@
 //! The page of counters, and its server.
 
 mod groups;
+mod lasts;
 mod looks;
 mod pages;
 mod served;

@@ -1,0 +1,42 @@
+//! What became of a value is noted: of a failure of a service which key it was, and what was answered.
+
+use peer_fill::TakenJob;
+use peer_origin::FetchFault;
+use peer_source::Source;
+use peer_stats::{FailureSlots, KeyStart, LastFailure, OriginFailure};
+use std::sync::Wait;
+
+// The status that a service answered, if it answered one.
+fn status_of(fault: FetchFault) -> Option<u16> {
+    match fault {
+        FetchFault::Status(status) => Some(status),
+        _ => None,
+    }
+}
+
+/// Notes that the value of a job was fetched, or why it was not. A service that has no such key gave a whole reply.
+pub fn note_done<S: Source, H: Wait>(
+    rt: &H,
+    failures: &FailureSlots,
+    job: &TakenJob<S>,
+    fault: Option<FetchFault>,
+) {
+    let group = job.group().number;
+    let Some(fault) = fault else {
+        failures.note_well(group);
+        return;
+    };
+    match fault.kind() {
+        OriginFailure::NoSuchKey => {
+            failures.note_well(group);
+            failures.count(group, OriginFailure::NoSuchKey);
+        }
+        kind => {
+            let last = LastFailure {
+                status: status_of(fault),
+                key: KeyStart::of(job.key()),
+            };
+            failures.note(rt, group, kind, last);
+        }
+    }
+}
