@@ -16,6 +16,7 @@ SCRIPTS = {
     "lying_origin": ["peer_front"],
     "kept": ["peer_front"],
     "names": ["peer_front"],
+    "rests": ["peer_front"],
     "refused": ["refused", "peer_serve"],
     "front_refused": ["peer_front"],
     "front_statuses": ["peer_front"],

@@ -376,7 +376,7 @@ def each_failure_is_of_its_kind():
     nobody.bind(("127.0.0.1", 0))
     urls = [Service(serve).url if serve else f"http://127.0.0.1:{nobody.getsockname()[1]}/" for serve, _ in KINDS]
     words = [f"g{number}={url}" for number, url in enumerate(urls)]
-    with Counted("--timeout", "1", *words) as server, ThreadPoolExecutor(8) as threads:
+    with Counted("--timeout", "1", "--rest-after", "1000", *words) as server, ThreadPoolExecutor(8) as threads:
         # Of the first kind one, of the next two, and so on.
         paths = [f"g{number}/{number}/{key}" for number in range(len(KINDS)) for key in range(number + 1)]
         list(threads.map(server.ask, paths))

@@ -29,6 +29,8 @@ LATE = b"origin timed out\n"
 LONG = b"value too long\n"
 # How many seconds a value may take. On a busy machine the service, which is one process of Python, takes some for most.
 TIMEOUT = "12"
+# So that its address hardly rests, and each key is asked of it (bench/rests.py is about that).
+RESTLESS = ["--rest", "1ms", "--rest-after", "1000"]
 STATUSES = [206, 300, 301, 302, 307, 400, 410, 429, 500, 502, 503]
 
 
@@ -240,7 +242,8 @@ async def die_midway(service, checks, keys):
     service.die()
     await asyncio.sleep(1)
     await service.begin()
-    service.back = asyncio.get_running_loop().time()
+    # The address may rest for a moment more.
+    service.back = asyncio.get_running_loop().time() + 0.5
 
 
 async def run(given):
@@ -250,7 +253,7 @@ async def run(given):
         replies[draw.randbytes(draw.randint(1, 24))] = drawn(draw)
     service, checks, port = Service(replies, free_port()), Checks(), free_port()
     await service.begin()
-    words = [given.program, "--listen", f"127.0.0.1:{port}", "--timeout", TIMEOUT, f"values=http://127.0.0.1:{service.port}/values/"]
+    words = [given.program, "--listen", f"127.0.0.1:{port}", "--timeout", TIMEOUT, *RESTLESS, f"values=http://127.0.0.1:{service.port}/values/"]
     server = subprocess.Popen(words, stdout=subprocess.PIPE, stderr=subprocess.DEVNULL)
     try:
         server.stdout.readline()

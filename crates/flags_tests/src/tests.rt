@@ -61,6 +61,9 @@ fn each_flag_has_its_default(rt: HostRuntime) -> Result<(), Fail> {
         memory: 268_435_456,
         timeout: Duration::from_secs(10),
         connect_timeout: Duration::from_secs(2),
+        wait: Duration::from_secs(10),
+        rest_after: 3,
+        rest: Duration::from_secs(10),
         connection_for_each: false,
         stats: None,
         log: LogForm::Text,
@@ -80,6 +83,8 @@ fn numbers_are_within_their_bounds(rt: HostRuntime) -> Result<(), Fail> {
         ("--workers", "16", None),
         ("--workers", "0", None),
         ("--workers", "17", Some("0 to 16")),
+        ("--rest-after", "1000", None),
+        ("--rest-after", "0", Some("1 to 1000")),
         ("--fetchers", "4", None),
         ("--fetchers", "0", Some("1 to 4")),
         ("--fetchers", "5", Some("1 to 4")),
@@ -172,6 +177,32 @@ fn other_texts_are_no_times(rt: HostRuntime) -> Result<(), Fail> {
     ] {
         let text = format!(in rt.alloc(); "--timeout {word}: {fault}")?;
         right &= tells(rt.alloc(), "--timeout", word, text.as_str())?;
+    }
+    assert!(rt; right);
+    Ok(())
+}
+
+// How long a key may wait by these words, or none where one cannot be used.
+fn wait_of(alloc: Global, words: &[&str]) -> Result<Option<Duration>, Fail> {
+    let matches = matches_of(alloc, words)?;
+    let wait = match Options::of(&matches) {
+        Ok(options) => Some(options.wait),
+        Err(_) => None,
+    };
+    drop(matches);
+    Ok(wait)
+}
+
+#[test]
+fn a_key_waits_as_long_as_a_value_takes_or_as_is_said(rt: HostRuntime) -> Result<(), Fail> {
+    let mut right = true;
+    for (timeout, wait, millis) in [
+        ("--timeout=3s", "--rest=1s", Some(3_000)),
+        ("--timeout=3s", "--wait=500ms", Some(500)),
+        ("--timeout=3s", "--wait=0", None),
+    ] {
+        let words = ["peer_front", "--listen", "127.0.0.1:1", timeout, wait];
+        right &= wait_of(rt.alloc(), &words)? == millis.map(Duration::from_millis);
     }
     assert!(rt; right);
     Ok(())

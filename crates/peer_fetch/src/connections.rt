@@ -7,8 +7,7 @@ ghost use Rattle.std.specs.Prelude.{OnOk};
 ghost use Rattle.slab.specs.Slab.{HasRoomFor};
 
 use crate::idle::Idle;
-use crate::link::{Link, Reusable};
-use crate::opening::Untried;
+use crate::link::{Link, Reusable, Way};
 use mio::Token;
 use mio::event::Event;
 use peer_runtime::{Wires, keys_of};
@@ -16,6 +15,8 @@ use peer_source::Source;
 use slab::Slab;
 use std::alloc::{AllocError, Global};
 use std::collections::VecDeque;
+use std::net::SocketAddr;
+use std::ops::Range;
 use std::time::Duration;
 
 /// Connections, each under its key.
@@ -98,10 +99,10 @@ impl<'a, S: Source, H: Wires> Connections<'a, S, H> {
         }
     }
 
-    /// Lets a connection go that was not reached. Says which addresses are to be tried next.
-    pub fn forget_unreached(&mut self, key: usize) -> Option<Untried> {
+    /// Lets a connection go that was not reached. Says where it led to.
+    pub fn forget_unreached(&mut self, key: usize) -> Option<Way> {
         let link = self.links.try_remove(key)?;
-        Some(link.untried)
+        Some(link.way)
     }
 
     /// Takes a connection to the endpoint with this number off those that may be used again. One that has ended meanwhile is let go.
@@ -131,16 +132,27 @@ impl<'a, S: Source, H: Wires> Connections<'a, S, H> {
         }
     }
 
-    /// Lets all connections go that are kept for the endpoint of this one, where it was kept itself.
-    pub fn forget_kept_with(&mut self, key: usize) {
-        let number = match self.links.get(key) {
-            Some(link) if link.was_kept => link.number,
-            _ => return,
-        };
-        for _ in 0..self.links.len() {
-            match self.idle.pop(number) {
-                Some(kept) => self.forget(kept),
-                None => return,
+    /// All keys that connections may have.
+    pub fn keys(&self) -> Range<usize> {
+        keys_of(&self.links)
+    }
+
+    /// The number of the endpoint of a connection that is kept, and its address.
+    pub fn kept_at(&self, key: usize) -> Option<(usize, SocketAddr)> {
+        let link = self.links.get(key)?;
+        if link.is_free() {
+            Some((link.number, link.way.address))
+        } else {
+            None
+        }
+    }
+
+    /// Lets all connections go that are kept to an address.
+    pub fn forget_kept_to(&mut self, address: SocketAddr) {
+        for key in self.keys() {
+            match self.kept_at(key) {
+                Some((_, kept)) if kept == address => self.lose(key),
+                _ => {}
             }
         }
     }

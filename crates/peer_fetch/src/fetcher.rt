@@ -7,9 +7,11 @@
 //! only if that is to its own endpoint, which is looked at once more there (`Link::begin`).
 
 mod connecting;
+mod ending;
 
+use crate::books::Books;
 use crate::connections::{Connections, earlier};
-use crate::link::{Reusable, Turn};
+use crate::link::Turn;
 use crate::opening::System;
 use crate::room::Room;
 use crate::settings::FetchThreadSettings;
@@ -18,12 +20,20 @@ use peer_fill::TakenJob;
 use peer_origin::{Failure, FetchFault};
 use peer_runtime::{Network, Wires};
 use peer_source::Source;
-use peer_value::{Done, Numbered, Shares, UnderWay, Waiting};
+use peer_value::{Done, Event as Befell, Numbered, Shares, UnderWay, Waiting};
 use std::alloc::Global;
+use std::net::SocketAddr;
 use std::time::Duration;
 
 // How many values may wait. Each key that waits is fetched in the end, or is late, whatever its clients hold by then.
 const MAX_WAITING: usize = 4096;
+
+// Where a connection leads to: a service, and its address.
+#[derive(Clone, Copy)]
+struct Place {
+    service: usize,
+    address: SocketAddr,
+}
 
 /// The values that are under way, and those that wait.
 #[derive(Drop)]
@@ -31,6 +41,7 @@ pub struct Fetcher<'a, S: Source, H: Wires> {
     alloc: Global,
     settings: FetchThreadSettings,
     connections: Connections<'a, S, H>,
+    books: Books,
     shares: Shares,
     waiting: Waiting<'a, S>,
     buffer: Vec<u8>,
@@ -45,6 +56,7 @@ impl<'a, S: Source, H: Network> Fetcher<'a, S, H> {
     /// Nothing is under way.
     pub fn new(alloc: Global, settings: FetchThreadSettings, room: Room) -> Fetcher<'a, S, H> {
         let Room {
+            books,
             idle,
             shares,
             buffer,
@@ -53,6 +65,7 @@ impl<'a, S: Source, H: Network> Fetcher<'a, S, H> {
             alloc,
             settings,
             connections: Connections::new(alloc, idle),
+            books,
             shares,
             waiting: Waiting::new(alloc),
             buffer,
@@ -126,6 +139,9 @@ impl<'a, S: Source, H: Network> Fetcher<'a, S, H> {
         ensures { IfSome result (IsDoneOn H.carried) }
     {
         let number = under.number();
+        if self.read_addresses(system, &under).is_err() {
+            return Some(under.done(Err(FetchFault::Memory)));
+        }
         let Some(key) = self.connections.take_idle(number) else {
             return self.connect_first(system, under);
         };
@@ -153,21 +169,36 @@ impl<'a, S: Source, H: Network> Fetcher<'a, S, H> {
         requires own { IsOfGroup at job.place.group }
         ensures { IfSome result (IsDoneOn H.carried) }
     {
-        let due = self
-            .read_clock(system)
-            .saturating_add(self.settings.fetch.value);
+        let now = self.read_clock(system);
         let service = self.shares.service(at.number());
+        let has_room = self.shares.has_room(service);
+        let due = now.saturating_add(self.time_of(has_room));
         match UnderWay::begin(self.alloc, at, job, due) {
-            Ok(under) if self.shares.has_room(service) => self.start(system, under),
+            Ok(under) if has_room => self.start(system, under),
+            Ok(under) if self.books.all_rest(service, now) => {
+                Some(under.done(Err(FetchFault::Unreached)))
+            }
             Ok(under) => self.waiting.push(service, under),
             Err(done) => Some(done),
         }
     }
 
+    // How long a value has from now on, which is under way or waits.
+    fn time_of(&self, is_under_way: bool) -> Duration {
+        if is_under_way {
+            self.settings.fetch.value
+        } else {
+            self.settings.fetch.wait
+        }
+    }
+
     // Whether the first value that waits for a service may be under way now, or is to be given up.
     fn may_go_on(&self, service: usize) -> bool {
+        let now = self.connections.now();
         match self.waiting.due(service) {
-            Some(due) => due <= self.connections.now() || self.shares.has_room(service),
+            Some(due) => {
+                due <= now || self.shares.has_room(service) || self.books.all_rest(service, now)
+            }
             None => false,
         }
     }
@@ -182,8 +213,8 @@ impl<'a, S: Source, H: Network> Fetcher<'a, S, H> {
         None
     }
 
-    /// Fetches a value that waited, for which it has as long as one that did not wait: else, where a service has more to do than
-    /// it can, each value would begin too late. One that is to be given up, or cannot be fetched, is given back.
+    /// Fetches a value that waited, for which it has as long as one that did not wait. One that is to be given up, or cannot be
+    /// fetched, or for which there is no room since all addresses of its service rest, is given back.
     pub fn go_on(&mut self, system: &System<'_, H>, under: UnderWay<'a, S>) -> Option<Done<'a, S>>
         ensures { IfSome result (IsDoneOn H.carried) }
     {
@@ -191,29 +222,11 @@ impl<'a, S: Source, H: Network> Fetcher<'a, S, H> {
         if under.due() <= now {
             return Some(under.done(Err(FetchFault::Late)));
         }
+        if !self.shares.has_room(self.shares.service(under.number())) {
+            return Some(under.done(Err(FetchFault::Unreached)));
+        }
         let due = now.saturating_add(self.settings.fetch.value);
         self.start(system, under.put_off(due))
-    }
-
-    // Keeps a connection for another value, in the place of an older one where too many are kept.
-    fn keep(&mut self, key: usize, reusable: Reusable) {
-        // Before it is kept itself, so that it is not the one that goes.
-        if self.connections.len().saturating_sub(self.shares.total()) > self.settings.under_way {
-            self.connections.forget_oldest();
-        }
-        self.connections.keep(key, reusable);
-    }
-
-    // Keeps a connection whose value is done, or lets it go. Where a value is late on one that was kept, its host may be gone
-    // without a word, so that all that are kept for it go too.
-    fn release(&mut self, key: usize, fault: Option<FetchFault>, reusable: Option<Reusable>) {
-        if fault == Some(FetchFault::Late) {
-            self.connections.forget_kept_with(key);
-        }
-        match reusable {
-            Some(reusable) if !self.settings.fetch.connection_for_each => self.keep(key, reusable),
-            _ => self.connections.forget(key),
-        }
     }
 
     // Makes the request for a value once more, on a new connection.
@@ -252,7 +265,13 @@ impl<'a, S: Source, H: Network> Fetcher<'a, S, H> {
         let now = self.connections.now();
         let link = self.connections.get_mut(key)?;
         let service = self.shares.service(link.number);
+        let address = link.way.address;
+        let place = Place { service, address };
+        let was_connected = link.is_connected();
         let turn = link.turn(system.rt, &mut self.buffer, now);
+        if !was_connected && link.is_connected() {
+            self.note_event(place, Befell::Connected);
+        }
         match turn {
             Turn::Waits => None,
             Turn::Busy => {
@@ -264,16 +283,18 @@ impl<'a, S: Source, H: Network> Fetcher<'a, S, H> {
                 None
             }
             Turn::Done(done, reusable) => {
-                self.shares.end(service);
-                self.release(key, done.fault(), reusable);
+                self.shares.end(place.service);
+                self.note_end(place, done.fault());
+                self.release(key, place, reusable);
                 Some(done)
             }
             Turn::Unconnected(under) => {
-                self.shares.end(service);
+                self.shares.end(place.service);
+                self.note_event(place, Befell::Unreached);
                 self.connect_next(system, key, under)
             }
             Turn::Cut(under, failure) => {
-                self.shares.end(service);
+                self.shares.end(place.service);
                 self.cut(system, key, under, failure)
             }
         }

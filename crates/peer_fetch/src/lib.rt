@@ -7,6 +7,7 @@
 //! calls the source.
 #![tactic(auto)]
 
+mod books;
 mod connections;
 mod fetcher;
 mod idle;

@@ -11,7 +11,6 @@ ghost use Rattle.peer_fetch.specs.Turns.{GivesOn, IsTurnOf, KeepsWire};
 ghost use Rattle.peer_value.specs.UnderWays.{number_of};
 ghost use Rattle.peer_value.specs.Values.{IsToldBy, IsUnused};
 
-use crate::opening::Untried;
 use crate::transfer::{Halt, receive, send};
 use mio::event::Event;
 use mio::net::TcpStream;
@@ -21,6 +20,7 @@ use peer_source::Source;
 use peer_value::{Answer, Done, UnderWay};
 use std::io::ErrorKind;
 use std::marker::PhantomData;
+use std::net::SocketAddr;
 use std::time::Duration;
 
 /// That another request may follow on a connection. Its turn alone says so.
@@ -28,6 +28,13 @@ use std::time::Duration;
 pub struct Reusable {
     // No other module makes one.
     private: (),
+}
+
+/// The address of a connection, and how many others may be tried for its first value if it is not reached.
+#[derive(Clone, Copy)]
+pub struct Way {
+    pub address: SocketAddr,
+    pub left: usize,
 }
 
 /// How a connection stands after its turn.
@@ -57,8 +64,8 @@ pub struct Link<'a, S: Source, H: Wires> {
     readiness: Readiness,
     /// The number of the endpoint that it is to.
     pub number: usize,
-    /// The addresses that are tried next, where this one is not reached.
-    pub untried: Untried,
+    /// Where it leads to.
+    pub way: Way,
     /// Whether it was used before.
     pub was_kept: bool,
     /// Whether it is on the list of those that are to have a turn.
@@ -125,7 +132,7 @@ impl<'a, S: Source, H: Wires> Link<'a, S, H> {
         rt: &H,
         stream: TcpStream,
         under: UnderWay<'a, S>,
-        untried: Untried,
+        way: Way,
         due: Duration,
     ) -> Link<'a, S, H>
         requires { IsUnused under.fetching }
@@ -138,7 +145,7 @@ impl<'a, S: Source, H: Wires> Link<'a, S, H> {
             connect_due: Some(due),
             readiness: Readiness::unknown(),
             number,
-            untried,
+            way,
             was_kept: false,
             is_ready: false,
             of: PhantomData,
@@ -252,6 +259,11 @@ impl<'a, S: Source, H: Wires> Link<'a, S, H> {
                 Turn::Busy
             }
         }
+    }
+
+    /// Whether it is connected.
+    pub fn is_connected(&self) -> bool {
+        self.connect_due.is_none()
     }
 
     // How far the stream is. An address that is not reached by its time has failed.

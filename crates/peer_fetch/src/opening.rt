@@ -1,15 +1,12 @@
-//! How a connection to an origin begins: the addresses are tried in turn, and the stream is registered for its events.
+//! How a connection to an origin begins: a stream begins to connect, and is registered for its events.
 //!
 //! It stands on the sockets and the readiness of `mio`. It promises nothing that contracts see: a stream may fail to connect
 //! later, and then the next address is tried.
 
 use mio::net::TcpStream;
 use mio::{Interest, Registry, Token};
-use peer_origin::Addresses;
 use peer_runtime::Network;
-use std::alloc::{AllocError, Global};
 use std::net::SocketAddr;
-use std::sync::{Arc, Wait};
 use std::time::{Clock, Duration, Instant};
 
 /// The runtime, where streams are registered for events, and when the thread began.
@@ -28,49 +25,17 @@ impl<'r, H: Clock> System<'r, H> {
     }
 }
 
-/// The addresses of a host that a connection has not tried yet. Where others are found meanwhile, these stay.
-#[derive(Drop)]
-pub struct Untried {
-    found: Arc<Vec<SocketAddr>, Global>,
-    next: usize,
-}
-
-impl Untried {
-    /// All of them.
-    pub fn of<H: Wait>(rt: &H, addresses: &Addresses) -> Result<Untried, AllocError> {
-        Ok(Untried {
-            found: addresses.found(rt)?,
-            next: 0,
-        })
-    }
-
-    /// Whether there is none.
-    pub fn is_empty(&self) -> bool {
-        self.next >= self.found.len()
-    }
-}
-
-/// A stream that begins to connect to one of these addresses, and those that are to be tried behind it.
+/// A stream that begins to connect to this address.
 pub fn open<H: Network>(
     system: &System<'_, H>,
-    untried: Untried,
+    address: SocketAddr,
     token: Token,
-) -> Option<(TcpStream, Untried)> {
-    let Untried { found, next } = untried;
-    for number in next..found.len() {
-        let address = *found.get(number)?;
-        let Ok(mut stream) = TcpStream::connect(system.rt, address) else {
-            continue;
-        };
-        let interest = Interest::READABLE | Interest::WRITABLE;
-        if system
-            .registry
-            .register(&mut stream, token, interest)
-            .is_ok()
-        {
-            let next = number + 1;
-            return Some((stream, Untried { found, next }));
-        }
+) -> Option<TcpStream> {
+    let mut stream = TcpStream::connect(system.rt, address).ok()?;
+    let interest = Interest::READABLE | Interest::WRITABLE;
+    let registered = system.registry.register(&mut stream, token, interest);
+    if registered.is_err() {
+        return None;
     }
-    None
+    Some(stream)
 }

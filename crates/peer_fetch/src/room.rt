@@ -2,6 +2,7 @@
 //!
 //! It stands on vectors, and promises nothing that contracts see.
 
+use crate::books::Books;
 use crate::idle::Idle;
 use crate::settings::FetchPlan;
 use peer_value::Shares;
@@ -13,6 +14,7 @@ const ROOM: usize = 65_536;
 /// The memory that is needed before a value is under way.
 #[derive(Drop)]
 pub struct Room {
+    pub books: Books,
     pub idle: Idle,
     pub shares: Shares,
     pub buffer: Vec<u8>,
@@ -21,8 +23,10 @@ pub struct Room {
 impl Room {
     /// Room for what this plan has fetched.
     pub fn new(alloc: Global, plan: &FetchPlan<'_>) -> Result<Room, AllocError> {
+        let endpoints = plan.endpoints.each.len();
         Ok(Room {
-            idle: Idle::new(alloc, plan.endpoints.each.len())?,
+            books: Books::new(alloc, endpoints, &plan.settings.fetch)?,
+            idle: Idle::new(alloc, endpoints)?,
             shares: Shares::new(alloc, &plan.endpoints, plan.settings.under_way)?,
             buffer: vec![in alloc; 0; ROOM]?,
         })

@@ -1,6 +1,8 @@
 -- What a text means as a time, in nanoseconds.
 use Rattle.std.specs.Prelude.{ℕ, ◌+◌, ◌-◌, ◌*◌, ◌/◌, ◌^◌, Bool, List, length, take, drop, codes, cond, nat_lt, nat_le, ◌==◌, ◌&&◌}
-use Rattle.std.specs.Prelude.{Option, Some, None, option_map, bytes_eq}
+use Rattle.std.specs.Prelude.{◌≤◌, Option, Some, None, option_map, bytes_eq}
+use Rattle.std.specs.Duration.{as_nanos}
+use Rattle.std.specs.declared.time.Duration.{Duration}
 use Rattle.std.specs.List.{list_all, position_or_len, before_first, after_first}
 use Rattle.std.specs.Char.{is_ascii_digit}
 use Rattle.std.specs.Str.Parse.{digits_value}
@@ -56,3 +58,7 @@ nanos_of text =
 abbrev pub within : ℕ → ℕ → Option ℕ → Option ℕ
 within least most None = None
 within least most (Some n) = cond (nat_le least n && nat_le n most) (Some n) None
+
+-- from a millisecond to an hour
+abbrev pub IsTime : Duration → Type 0
+IsTime time = (1_000_000 ≤ as_nanos time) × (as_nanos time ≤ 3_600_000_000_000)

@@ -33,7 +33,7 @@ const CHECK: &str = "check";
 
 // The flags, as `--help` lists them: for what is served, for how services are asked, for how it is served, and for whoever
 // runs it.
-const FLAGS: [Flag; 20] = [
+const FLAGS: [Flag; 23] = [
     Flag {
         name: "listen",
         takes: Takes::Required("ADDR"),
@@ -83,6 +83,21 @@ const FLAGS: [Flag; 20] = [
         name: "connect-timeout",
         takes: Takes::Defaulted("TIME", "2s"),
         help: "How long a connection to one address of a service may take",
+    },
+    Flag {
+        name: "wait",
+        takes: Takes::Value("TIME"),
+        help: "How long a key may wait until its service may be asked for it; without it as long as --timeout",
+    },
+    Flag {
+        name: "rest-after",
+        takes: Takes::Defaulted("N", "3"),
+        help: "Values in a row that are late at an address of a service until it rests, 1 to 1000",
+    },
+    Flag {
+        name: "rest",
+        takes: Takes::Defaulted("TIME", "10s"),
+        help: "How long an address rests at which values are late, or that is not reached",
     },
     Flag {
         name: "connection-for-each",

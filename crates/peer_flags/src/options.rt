@@ -1,6 +1,6 @@
 //! The words that the program is called with.
 ghost use Rattle.std.specs.Prelude.{◌≤◌, ◌^◌, IfOk, IfSome};
-ghost use Rattle.std.specs.Duration.{as_nanos};
+ghost use Rattle.peer_flags.specs.Times.{IsTime};
 
 use crate::address::{ListenAddress, PageAddress, listen, stats};
 use crate::fault::{BadWord, WordFault};
@@ -24,6 +24,9 @@ const MAX_UNDER_WAY: u64 = 1024;
 // The most connections.
 const MAX_CONNECTIONS: u64 = 65_536;
 
+// The most values in a row that are late at an address until it rests.
+const MAX_REST_AFTER: u64 = 1000;
+
 // The most keys of a cache.
 const MAX_CACHE_KEYS: u64 = 4_294_967_296;
 
@@ -33,11 +36,14 @@ const MIN_TIME: u64 = 1_000_000;
 const MAX_TIME: u64 = 3_600_000_000_000;
 
 // The flags that say how services are asked.
-const FOR_SERVICES: [&str; 5] = [
+const FOR_SERVICES: [&str; 8] = [
     "fetchers",
     "under-way",
     "timeout",
     "connect-timeout",
+    "wait",
+    "rest-after",
+    "rest",
     "connection-for-each",
 ];
 
@@ -60,6 +66,11 @@ pub struct Options<'w> {
     pub memory: usize,
     pub timeout: Duration,
     pub connect_timeout: Duration,
+    /// How long a key may wait until its service may be asked for it.
+    pub wait: Duration,
+    /// How many values in a row are late at an address until it rests.
+    pub rest_after: u32,
+    pub rest: Duration,
     pub connection_for_each: bool,
     pub stats: Option<PageAddress<'w>>,
     pub log: LogForm,
@@ -121,7 +132,7 @@ fn size<'w>(matches: &ArgMatches<'w>, flag: &'w str) -> Result<u64, BadWord<'w>>
 
 // The time of a flag.
 fn time<'w>(matches: &ArgMatches<'w>, flag: &'w str) -> Result<Duration, BadWord<'w>>
-    ensures { IfOk result (λ time. (1_000_000 ≤ as_nanos time) × (as_nanos time ≤ 3_600_000_000_000)) }
+    ensures { IfOk result IsTime }
 {
     let word = matches.get_str(flag).unwrap_or("");
     match time_of(word, MIN_TIME, MAX_TIME) {
@@ -132,6 +143,21 @@ fn time<'w>(matches: &ArgMatches<'w>, flag: &'w str) -> Result<Duration, BadWord
             fault: WordFault::Time,
         }),
     }
+}
+
+// The time of a flag, and this one if it is not given.
+fn time_or<'w>(
+    matches: &ArgMatches<'w>,
+    flag: &'w str,
+    other: Duration,
+) -> Result<Duration, BadWord<'w>>
+    requires { IsTime other }
+    ensures { IfOk result IsTime }
+{
+    if matches.get_str(flag).is_none() {
+        return Ok(other);
+    }
+    time(matches, flag)
 }
 
 // The first flag given that is for services alone.
@@ -173,30 +199,53 @@ impl Counts {
     }
 }
 
-// What memory and time have to stay within.
+// What memory has to stay within.
 #[derive(Clone, Copy)]
 struct Limits {
     cache_bytes: u64,
     cache_keys: Option<u64>,
     memory: usize,
+}
+
+// How long services may take, and when their addresses rest.
+#[derive(Clone, Copy)]
+struct Times {
     timeout: Duration,
     connect_timeout: Duration,
+    wait: Duration,
+    rest_after: u32,
+    rest: Duration,
+}
+
+impl Times {
+    // What the words say, or the first that cannot be used.
+    fn of<'w>(matches: &ArgMatches<'w>) -> Result<Times, BadWord<'w>>
+        ensures timeout { IfOk result (λ t. IsTime t.timeout) }
+        ensures connect { IfOk result (λ t. IsTime t.connect_timeout) }
+        ensures wait { IfOk result (λ t. IsTime t.wait) }
+        ensures after { IfOk result (λ t. (1 ≤ t.rest_after) × (t.rest_after ≤ 1000)) }
+        ensures rest { IfOk result (λ t. IsTime t.rest) }
+    {
+        let timeout = time(matches, "timeout")?;
+        Ok(Times {
+            timeout,
+            connect_timeout: time(matches, "connect-timeout")?,
+            wait: time_or(matches, "wait", timeout)?,
+            rest_after: number(matches, "rest-after", 1, MAX_REST_AFTER)? as u32,
+            rest: time(matches, "rest")?,
+        })
+    }
 }
 
 impl Limits {
     // What the words say, or the first that cannot be used.
     fn of<'w>(matches: &ArgMatches<'w>) -> Result<Limits, BadWord<'w>>
         ensures cache_keys { IfOk result (λ l. IfSome l.cache_keys (λ n. (1 ≤ n) × (n ≤ 2 ^ 32))) }
-        ensures timeout { IfOk result (λ l. (1_000_000 ≤ as_nanos l.timeout) × (as_nanos l.timeout ≤ 3_600_000_000_000)) }
-        ensures connect { IfOk result (λ l. (1_000_000 ≤ as_nanos l.connect_timeout)
-            × (as_nanos l.connect_timeout ≤ 3_600_000_000_000)) }
     {
         Ok(Limits {
             cache_bytes: size(matches, "cache")?,
             cache_keys: number_if_given(matches, "cache-keys", 1, MAX_CACHE_KEYS)?,
             memory: size(matches, "memory")? as usize,
-            timeout: time(matches, "timeout")?,
-            connect_timeout: time(matches, "connect-timeout")?,
         })
     }
 }
@@ -210,13 +259,13 @@ impl<'w> Options<'w> {
         ensures loops { IfOk result (λ o. (1 ≤ o.loops) × (o.loops ≤ 16)) }
         ensures connections { IfOk result (λ o. (1 ≤ o.connections) × (o.connections ≤ 65536)) }
         ensures cache_keys { IfOk result (λ o. IfSome o.cache_keys (λ n. (1 ≤ n) × (n ≤ 2 ^ 32))) }
-        ensures timeout { IfOk result (λ o. (1_000_000 ≤ as_nanos o.timeout) × (as_nanos o.timeout ≤ 3_600_000_000_000)) }
-        ensures connect { IfOk result (λ o. (1_000_000 ≤ as_nanos o.connect_timeout)
-            × (as_nanos o.connect_timeout ≤ 3_600_000_000_000)) }
+        ensures timeout { IfOk result (λ o. IsTime o.timeout × IsTime o.connect_timeout) }
+        ensures rests { IfOk result (λ o. IsTime o.wait × IsTime o.rest × (1 ≤ o.rest_after)) }
     {
         let listen = listen(matches)?;
         let counts = Counts::of(matches)?;
         let limits = Limits::of(matches)?;
+        let times = Times::of(matches)?;
         let stats = stats(matches)?;
         let log = log(matches)?;
         Ok(Options {
@@ -232,8 +281,11 @@ impl<'w> Options<'w> {
             cache_bytes: limits.cache_bytes,
             cache_keys: limits.cache_keys,
             memory: limits.memory,
-            timeout: limits.timeout,
-            connect_timeout: limits.connect_timeout,
+            timeout: times.timeout,
+            connect_timeout: times.connect_timeout,
+            wait: times.wait,
+            rest_after: times.rest_after,
+            rest: times.rest,
             connection_for_each: matches.get_flag("connection-for-each"),
             stats,
             log,

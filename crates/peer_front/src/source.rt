@@ -101,6 +101,9 @@ pub fn fetch_settings(options: &Options<'_>) -> FetchSettings {
     FetchSettings {
         connect: options.connect_timeout,
         value: options.timeout,
+        wait: options.wait,
+        rest_after: options.rest_after,
+        rest: options.rest,
         connection_for_each: options.connection_for_each,
     }
 }

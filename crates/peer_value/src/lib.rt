@@ -9,16 +9,20 @@
 //! the order in which they came in (`Waiting`).
 #![tactic(auto)]
 
+mod address_book;
 mod done;
 mod endpoints;
 mod fetching;
+mod listed;
 mod shares;
 mod under_way;
 mod waiting;
 
+pub use address_book::AddressBook;
 pub use done::Done;
 pub use endpoints::{Endpoints, Numbered};
 pub use fetching::{Answer, Fetching};
+pub use listed::{Event, Listed};
 pub use shares::Shares;
 pub use under_way::UnderWay;
 pub use waiting::Waiting;

@@ -289,7 +289,7 @@ pub fn patient() -> FetchThreadSettings {
         fetch: FetchSettings {
             connect: Duration::from_secs(20),
             value: Duration::from_secs(40),
-            connection_for_each: false,
+            ..FetchSettings::usual()
         },
         under_way: 256,
         pause: Duration::from_millis(1),
