@@ -38,6 +38,7 @@ import urllib.parse
 import urllib.request
 from concurrent.futures import ThreadPoolExecutor
 from contextlib import ExitStack
+from datetime import datetime
 
 from common import Listening, Service, ask, hangs, run_rows
 
@@ -463,6 +464,16 @@ def a_service_is_well_again():
         return failed and well and len(server.lines("origin well again")) == 1
 
 
+def most_at_once(said):
+    """The most lines of one look at the counters, which are a second apart."""
+    times = [datetime.fromisoformat(time) for time in re.findall(r"^([0-9T:.-]+)Z (?:info|warn) ", said, re.MULTILINE)]
+    most = count = 0
+    for before, time in zip([times[0], *times], times):
+        count = count + 1 if (time - before).total_seconds() < 0.5 else 1
+        most = max(most, count)
+    return most
+
+
 def lines_are_few():
     nobody = socket.socket()
     nobody.bind(("127.0.0.1", 0))
@@ -474,7 +485,9 @@ def lines_are_few():
                 server.ask(f"g{number}/k")
             return server.lines("lines left out")
 
-        return comes_to(are_left_out) and int(server.lines("lines left out")[0]["more"]) >= 1
+        told = comes_to(are_left_out) and int(server.lines("lines left out")[0]["more"]) >= 1
+        # The one that says how many were left out comes beside them.
+        return told and most_at_once(server.said()) <= 20 + 1
 
 
 def what_is_taken_is_told():

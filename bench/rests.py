@@ -124,9 +124,19 @@ class Named(Started):
         self.address = ("127.0.0.1", free_port())
         script = f"mount --bind {hosts} /etc/hosts && exec {PROGRAM} --listen 127.0.0.1:{self.address[1]} {' '.join(words)}"
         script += f" g=http://{NAME}:{port}/"
-        self.process = subprocess.Popen(["unshare", "--mount", "sh", "-c", script], stdout=subprocess.PIPE, stderr=subprocess.DEVNULL)
+        self.said = tempfile.TemporaryFile()
+        self.process = subprocess.Popen(["unshare", "--mount", "sh", "-c", script], stdout=subprocess.PIPE, stderr=self.said)
         if not self.process.stdout.readline():
             raise OSError("the program does not serve")
+
+    def says(self, what):
+        """Whether it comes to say this on standard error."""
+        until = time.monotonic() + PATIENCE
+        while time.monotonic() < until:
+            if what in os.pread(self.said.fileno(), 100000, 0).decode():
+                return True
+            time.sleep(0.1)
+        return False
 
 
 class Hosts:
@@ -231,36 +241,15 @@ def an_address_that_is_full_costs_nothing_after_the_first():
 
 
 def a_kept_connection_to_an_address_that_is_gone_is_let_go():
-    hosts, port = Hosts("127.0.0.2"), free_port()
-    listener = socket.create_server(("127.0.0.2", port))
-    with Named(hosts.name, port) as server:
+    hosts = Hosts("127.0.0.2")
+    with Service("127.0.0.2", port := free_port()), Service("127.0.0.3", port, "moved"), Named(hosts.name, port) as server:
         front = Front(server.address)
-        asked = threading.Thread(target=front.ask)
-        asked.start()
-        stream, _ = listener.accept()
-        stream.settimeout(PATIENCE)
-        stream.recv(10000)
-        stream.sendall(b"HTTP/1.1 200 OK\r\nContent-Length: 4\r\n\r\nhere")
-        asked.join()
+        is_kept = front.ask()[1].endswith(b"here")
         hosts.stand_for("127.0.0.3")
-        with Service("127.0.0.3", port, "moved"):
-            # It serves the keys that are asked for until the name is looked up.
-            stop = threading.Event()
-            threading.Thread(target=keep_asking, args=(front, stop), daemon=True).start()
-            try:
-                while stream.recv(10000):
-                    stream.sendall(b"HTTP/1.1 200 OK\r\nContent-Length: 4\r\n\r\nhere")
-                return front.ask()[1].endswith(b"moved")
-            finally:
-                stop.set()
-                stream.close()
-                listener.close()
-
-
-def keep_asking(front, stop):
-    while not stop.is_set():
-        front.ask()
-        time.sleep(0.2)
+        has_changed = server.says("addresses changed")
+        # A fetcher reads the addresses of a service once a second.
+        time.sleep(1.5)
+        return is_kept and has_changed and front.ask()[1].endswith(b"moved")
 
 
 ROWS = [

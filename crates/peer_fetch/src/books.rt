@@ -9,7 +9,7 @@ use std::alloc::{AllocError, Global};
 use std::net::SocketAddr;
 use std::time::Duration;
 
-// How many seconds the addresses of a service are used until they are read again, by which its name may have others.
+// After how many seconds the addresses of a service are read again, since its name may have got others.
 const SECONDS_OF_READING: u64 = 1;
 
 // The addresses of one service.
@@ -77,14 +77,6 @@ impl Books {
     pub fn has(&self, service: usize, address: SocketAddr) -> bool {
         match self.each.get(service) {
             Some(page) => page.book.has(address),
-            None => false,
-        }
-    }
-
-    /// Whether all addresses of a service rest.
-    pub fn all_rest(&self, service: usize, now: Duration) -> bool {
-        match self.each.get(service) {
-            Some(page) => page.book.all_rest(now),
             None => false,
         }
     }

@@ -2,7 +2,7 @@
 //!
 //! It stands on the connections of the thread (`Connections`), on the value of each (`UnderWay`), and on how many of them a
 //! service may have (`Shares`): those that it may not yet have wait (`Waiting`), so that one whose values hang does not hold up
-//! the others. It promises that a value which is given back done was found on a connection of the network that carried its
+//! the others while a place is left. It promises that a value which is given back done was found on a connection of the network that carried its
 //! request, and what `UnderWay` does: it is given back with its job, once at most. A value is asked for on a kept connection
 //! only if that is to its own endpoint, which is looked at once more there (`Link::begin`).
 
@@ -175,9 +175,6 @@ impl<'a, S: Source, H: Network> Fetcher<'a, S, H> {
         let due = now.saturating_add(self.time_of(has_room));
         match UnderWay::begin(self.alloc, at, job, due) {
             Ok(under) if has_room => self.start(system, under),
-            Ok(under) if self.books.all_rest(service, now) => {
-                Some(under.done(Err(FetchFault::Unreached)))
-            }
             Ok(under) => self.waiting.push(service, under),
             Err(done) => Some(done),
         }
@@ -194,11 +191,8 @@ impl<'a, S: Source, H: Network> Fetcher<'a, S, H> {
 
     // Whether the first value that waits for a service may be under way now, or is to be given up.
     fn may_go_on(&self, service: usize) -> bool {
-        let now = self.connections.now();
         match self.waiting.due(service) {
-            Some(due) => {
-                due <= now || self.shares.has_room(service) || self.books.all_rest(service, now)
-            }
+            Some(due) => due <= self.connections.now() || self.shares.has_room(service),
             None => false,
         }
     }
@@ -214,16 +208,13 @@ impl<'a, S: Source, H: Network> Fetcher<'a, S, H> {
     }
 
     /// Fetches a value that waited, for which it has as long as one that did not wait. One that is to be given up, or cannot be
-    /// fetched, or for which there is no room since all addresses of its service rest, is given back.
+    /// fetched, is given back: so those that wait for a service whose addresses all rest are given back with the first free place.
     pub fn go_on(&mut self, system: &System<'_, H>, under: UnderWay<'a, S>) -> Option<Done<'a, S>>
         ensures { IfSome result (IsDoneOn H.carried) }
     {
         let now = self.read_clock(system);
         if under.due() <= now {
             return Some(under.done(Err(FetchFault::Late)));
-        }
-        if !self.shares.has_room(self.shares.service(under.number())) {
-            return Some(under.done(Err(FetchFault::Unreached)));
         }
         let due = now.saturating_add(self.settings.fetch.value);
         self.start(system, under.put_off(due))
@@ -268,6 +259,7 @@ impl<'a, S: Source, H: Network> Fetcher<'a, S, H> {
         let address = link.way.address;
         let place = Place { service, address };
         let was_connected = link.is_connected();
+        let is_late = link.is_late(now);
         let turn = link.turn(system.rt, &mut self.buffer, now);
         if !was_connected && link.is_connected() {
             self.note_event(place, Befell::Connected);
@@ -284,7 +276,7 @@ impl<'a, S: Source, H: Network> Fetcher<'a, S, H> {
             }
             Turn::Done(done, reusable) => {
                 self.shares.end(place.service);
-                self.note_end(place, done.fault());
+                self.note_end(place, done.fault(), is_late);
                 self.release(key, place, reusable);
                 Some(done)
             }

@@ -261,6 +261,14 @@ impl<'a, S: Source, H: Wires> Link<'a, S, H> {
         }
     }
 
+    /// Whether its value is to be given up by now.
+    pub fn is_late(&self, now: Duration) -> bool {
+        match &self.under {
+            Some(under) => under.due() <= now,
+            None => false,
+        }
+    }
+
     /// Whether it is connected.
     pub fn is_connected(&self) -> bool {
         self.connect_due.is_none()

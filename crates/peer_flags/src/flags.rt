@@ -62,7 +62,7 @@ const FLAGS: [Flag; 23] = [
     Flag {
         name: "GROUP=URL",
         takes: Takes::Words,
-        help: "A group, and what stands before its keys at its origin, such as thumbs=http://10.0.0.7/thumbs/",
+        help: "A group, and what stands before its keys at its service, such as thumbs=http://10.0.0.7/thumbs/",
     },
     Flag {
         name: "fetchers",
@@ -137,7 +137,7 @@ const FLAGS: [Flag; 23] = [
     Flag {
         name: "stats",
         takes: Takes::Value("ADDR"),
-        help: "Where /metrics and /healthz are served, such as 9180 for 127.0.0.1:9180",
+        help: "Where /metrics, /readyz and /healthz are served, such as 9180 for 127.0.0.1:9180",
     },
     Flag {
         name: "log",

@@ -37,6 +37,8 @@ pub struct Failing {
     before: [FailureCounts; MAX_GROUPS],
     // The failures since the service was well.
     since: [u64; MAX_GROUPS],
+    // The group that is looked at first: the next one each time, since not all may have a line in one second.
+    first: usize,
 }
 
 // A group and its service, as lines name them.
@@ -179,6 +181,7 @@ impl Failing {
     pub const NONE: Failing = Failing {
         before: [FailureCounts::NONE; MAX_GROUPS],
         since: [0; MAX_GROUPS],
+        first: 0,
     };
 
     // Looks at the group with this number.
@@ -198,18 +201,21 @@ impl Failing {
         let since = self.since[place].saturating_add(more);
         self.since[place] = since;
         if more == 0 && since > 0 && !watched.counters.failures().is_failing(number) {
-            self.since[place] = 0;
             let fields = well_fields(named, since);
-            watched
-                .log
-                .say(rt, Level::Info, b"origin well again", &fields);
+            let log = watched.log;
+            if log.say(rt, Level::Info, b"origin well again", &fields) {
+                self.since[place] = 0;
+            }
         }
     }
 
     /// Says how often services failed since the last look, and which are well again.
     pub fn look<H: AllocGlobal + Eprint + Wait + Clock>(&mut self, rt: &H, watched: &Watched<'_>) {
-        for number in 0..watched.facts.groups.len() {
+        let groups = watched.facts.groups.len();
+        for step in 0..groups {
+            let number = self.first.wrapping_add(step) % groups;
             self.look_at(rt, watched, number);
         }
+        self.first = self.first.wrapping_add(1);
     }
 }

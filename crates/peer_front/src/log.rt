@@ -1,10 +1,10 @@
 //! Lines on standard error while it serves, each with its time.
 
-use peer_log::{Entry, Field, Level, LogForm, Said, line_of, time_text};
+use peer_log::{Entry, Field, Level, LogForm, Said, line_of, now_text};
 use std::str;
 use std::sync::atomic::AtomicU64;
 use std::sync::atomic::Ordering::SeqCst;
-use std::time::{Clock, SystemTime};
+use std::time::Clock;
 
 // The most lines between two looks at the counters, a second.
 const MOST_LINES: u64 = 20;
@@ -15,20 +15,6 @@ pub struct Log {
     form: LogForm,
     // The lines that were to be said since the last look.
     lines: AtomicU64,
-}
-
-// The milliseconds since the beginning of 1970, 0 where the system does not tell them.
-fn now_millis<H: Clock>(rt: &H) -> u64 {
-    let Ok(now) = SystemTime::now(rt) else {
-        return 0;
-    };
-    match now.duration_since(SystemTime::UNIX_EPOCH) {
-        Ok(time) => time
-            .as_secs()
-            .saturating_mul(1000)
-            .saturating_add(time.subsec_millis() as u64),
-        Err(_) => 0,
-    }
 }
 
 // Writes these bytes of a line, which are ASCII.
@@ -47,37 +33,44 @@ impl Log {
         }
     }
 
+    // The line of an entry, if memory is not refused.
+    fn line<H: AllocGlobal + Clock>(&self, rt: &H, entry: &Entry<'_>) -> Option<Vec<u8>> {
+        let time = now_text(rt, rt.alloc())?;
+        line_of(rt.alloc(), self.form, time.as_str().as_bytes(), entry).ok()
+    }
+
     // Writes the line of an entry.
     fn write<H: AllocGlobal + Eprint + Clock>(&self, rt: &H, entry: &Entry<'_>) {
-        let time = time_text(now_millis(rt));
-        match line_of(rt.alloc(), self.form, &time, entry) {
-            Ok(line) => say_bytes(rt, line.as_slice()),
+        match self.line(rt, entry) {
+            Some(line) => say_bytes(rt, line.as_slice()),
             // There is no memory for a line, and this takes none.
-            Err(_) => {
+            None => {
                 say_bytes(rt, entry.what);
                 say_bytes(rt, b"\n");
             }
         }
     }
 
-    /// Says what happened, with these fields, unless 20 lines were said since the last look.
+    /// Says what happened, with these fields, unless 20 lines were said since the last look. Whether it was said.
     pub fn say<H: AllocGlobal + Eprint + Clock>(
         &self,
         rt: &H,
         level: Level,
         what: &[u8],
         fields: &[Field<'_>],
-    ) {
-        if self.lines.fetch_add(1, SeqCst) < MOST_LINES {
-            self.write(
-                rt,
-                &Entry {
-                    level,
-                    what,
-                    fields,
-                },
-            );
+    ) -> bool {
+        if self.lines.fetch_add(1, SeqCst) >= MOST_LINES {
+            return false;
         }
+        self.write(
+            rt,
+            &Entry {
+                level,
+                what,
+                fields,
+            },
+        );
+        true
     }
 
     /// A look at the counters begins. Says how many lines were left out since the last one.

@@ -1,7 +1,8 @@
 //! Lines that a running server writes for whoever watches it: when, how bad, what, and which.
 //!
-//! `line_of` writes an entry as text or as JSON. It stands on `itoa`. It promises the bytes of a line: names, keys and words are
-//! escaped in it, so that an entry is always one line of printable ASCII. What time a number means the tests show (`log_tests`).
+//! `line_of` writes an entry as text or as JSON. It stands on `itoa` and `jiff`. It promises the bytes of a line: what happened, and
+//! names, keys and words are escaped in it. So an entry is one line of printable ASCII, if the names of its fields and its time are.
+//! What text a time has the tests show (`log_tests`).
 #![tactic(auto)]
 
 mod entry;
@@ -11,4 +12,4 @@ mod time;
 
 pub use entry::{Entry, Field, Level, LogForm, Said};
 pub use line::line_of;
-pub use time::time_text;
+pub use time::{now_text, time_text};

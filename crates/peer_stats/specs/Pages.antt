@@ -80,7 +80,7 @@ replies_text c =
 -- the failures of origins
 abbrev pub failures_text : FailureCounts → List ℕ
 failures_text c =
-    family_text (codes "peer_front_origin_failures_total") (codes "counter") (codes "Calls for which an origin gave no value.")
+    family_text (codes "peer_front_origin_failures_total") (codes "counter") (codes "Calls for which a service gave no value.")
     ++ labelled_text (codes "peer_front_origin_failures_total") (codes "kind=\"no_such_key\"") c.no_such_key
     ++ labelled_text (codes "peer_front_origin_failures_total") (codes "kind=\"status\"") c.status
     ++ labelled_text (codes "peer_front_origin_failures_total") (codes "kind=\"unreached\"") c.unreached

@@ -232,7 +232,7 @@ fn put_failures(page: &mut Vec<u8>, counts: &FailureCounts) -> Result<(), AllocE
         page,
         b"peer_front_origin_failures_total",
         b"counter",
-        b"Calls for which an origin gave no value.",
+        b"Calls for which a service gave no value.",
     )?;
     put_labelled(
         page,

@@ -116,17 +116,6 @@ impl AddressBook {
         first_at(&self.each, address).is_some()
     }
 
-    /// Whether there are addresses, and all rest.
-    pub fn all_rest(&self, now: Duration) -> bool
-        ensures some { IsTrue result → 0 < length self.now.each.items }
-        ensures rest { IsTrue result → All (RestsAt now) self.now.each.items }
-    {
-        match first_awake(&self.each, now) {
-            Some(_) => false,
-            None => !self.each.is_empty(),
-        }
-    }
-
     // Gives the address at this index.
     fn give(&mut self, index: usize, now: Duration) -> SocketAddr
         requires { index < length self.old.each.items }

@@ -13,7 +13,7 @@ use std::time::Duration;
 pub enum Event {
     /// A connection was made.
     Connected,
-    /// A whole reply came, with whatever status.
+    /// A reply came, with whatever status, or a broken one.
     Answered,
     /// A value was late on a connection.
     Late,

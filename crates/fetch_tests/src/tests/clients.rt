@@ -194,12 +194,14 @@ fn by_itself() -> FetchThreadSettings {
     }
 }
 
-// A thread that gives a value up soon.
+// A thread that gives a value up soon, and an address never.
 fn hasty() -> FetchThreadSettings {
     let patient = patient();
     FetchThreadSettings {
         fetch: FetchSettings {
             value: Duration::from_secs(3),
+            wait: Duration::from_secs(3),
+            rest_after: u32::MAX,
             ..patient.fetch
         },
         ..patient

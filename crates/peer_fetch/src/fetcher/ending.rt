@@ -37,10 +37,11 @@ impl<'a, S: Source, H: Network> Fetcher<'a, S, H> {
     }
 
     /// Notes how a value ended on a connection. If it was late, its host may be gone without a word, so that all connections that
-    /// are kept to it go.
-    pub(super) fn note_end(&mut self, place: Place, fault: Option<FetchFault>) {
+    /// are kept to it go. So is one whose status came in time, and the rest of whose reply did not.
+    pub(super) fn note_end(&mut self, place: Place, fault: Option<FetchFault>, is_late: bool) {
         let befell = match fault {
             Some(FetchFault::Late) => Befell::Late,
+            Some(FetchFault::Status(_)) if is_late => Befell::Late,
             Some(FetchFault::Unreached) => Befell::Unreached,
             _ => Befell::Answered,
         };
