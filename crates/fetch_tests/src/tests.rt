@@ -6,5 +6,6 @@ mod lookup;
 mod origin;
 mod replies;
 mod running;
+mod scripted;
 mod served;
 mod waking;

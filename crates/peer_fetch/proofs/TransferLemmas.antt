@@ -1,7 +1,13 @@
 -- What a connection carried is what was sent and came for its value.
-use Rattle.std.proofs.Common.{◌≡◌, ◌∙◌, ℕ, ◌+◌, Bool, List, [], ◌++◌, take, drop, Option, Some, Result, Ok, Err, IfOk, IsSomeAnd, ap, sym, subst}
+use Rattle.std.proofs.Common.{◌≡◌, ◌∙◌, ℕ, ◌+◌, Bool, List, [], ◌++◌, take, drop, Option, Some, Result, Ok, Err, IfOk, IsSomeAnd, ap, sym, subst, IsTrue}
+use mathlib.Core.Logic.{∥∥₁_map}
 use Rattle.std.proofs.Math.Seq.{take-add}
-use Rattle.peer_value.specs.Values.{IsCarried}
+use Rattle.std.proofs.lemmas.List.{take_all}
+use Rattle.peer_http.specs.Requests.{IsOneRequest}
+use Rattle.peer_runtime.specs.declared.wire.Wire.{Wire}
+use Rattle.peer_origin.specs.Wires.{IsOneReply, IsOver}
+use Rattle.peer_value.specs.Values.{IsAnswerOf, IsCarried}
+use Rattle.peer_value.specs.declared.fetching.Answer as fetched
 use Rattle.peer_value.specs.declared.fetching.Fetching.{Fetching}
 
 -- so much more of the request was sent
@@ -19,6 +25,16 @@ sent_same line line' request request' sent sent' on wire counted same =
 -- nothing was sent
 pub sent_blank : (line request : List ℕ) (sent : ℕ) → line ≡ [] → sent ≡ 0 → line ≡ take sent request
 sent_blank line request sent blank none = blank ∙ ap (λ k. take k request) (sym none)
+
+-- a use is over once its value was answered by a reply that keeps the connection
+pub over_by : (wire : Wire) (f : Fetching) (a : fetched.Answer) → ∥ IsOneRequest f.request.items ∥₁ → wire.sent.bytes ≡ take f.sent f.request.items
+    → wire.came.bytes ≡ f.receiving.came.bytes → IsAnswerOf f a → IsTrue a.keeps → IsOver wire
+over_by wire f a one sent came answer keeps =
+    let whole = take_all f.sent f.request.items answer.sent in
+    let free = answer.keeps keeps in (
+      subst (λ t. ∥ IsOneRequest t ∥₁) (sym (sent ∙ whole)) one,
+      subst (λ t. ∥ IsOneReply t ∥₁) (sym came) (∥∥₁_map free.1.1 (λ ends. (free.0.status, free.0.value.items, ends))),
+    )
 
 module _ (carried : List ℕ → List ℕ → Bool → Type 0) where
   -- the network says so of what was sent and came for the value

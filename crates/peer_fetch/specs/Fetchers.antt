@@ -2,7 +2,7 @@
 use Rattle.std.specs.Prelude.{◌≡◌, ◌<◌}
 use Rattle.peer_source.specs.declared.source.Source as Source
 use Rattle.peer_value.specs.Waitings.{count_of}
-use Rattle.peer_runtime.specs.declared.wires.Wires as Wires
+use Rattle.peer_origin.specs.declared.wires.Wires as Wires
 use Rattle.peer_fetch.specs.declared.fetcher.Fetcher.{Fetcher}
 
 module _ {S H : Type 0} {g : Source.Ghosts S} {n : Wires.Ghosts H} where

@@ -17,8 +17,8 @@ use crate::room::Room;
 use crate::settings::FetchThreadSettings;
 use mio::event::Event;
 use peer_fill::TakenJob;
-use peer_origin::{Failure, FetchFault};
-use peer_runtime::{Network, Wires};
+use peer_origin::{Failure, FetchFault, Wires};
+use peer_runtime::Network;
 use peer_source::Source;
 use peer_value::{Done, Event as Befell, Numbered, Shares, UnderWay, Waiting};
 use std::alloc::Global;
@@ -47,7 +47,7 @@ pub struct Fetcher<'a, S: Source, H: Wires> {
     buffer: Vec<u8>,
 }
 
-impl<'a, S: Source, H: Network> Fetcher<'a, S, H> {
+impl<'a, S: Source, H: Network + Wires> Fetcher<'a, S, H> {
     ghost use Rattle.std.specs.Prelude.{◌↔◌, IfSome, IsTrue};
     ghost use Rattle.peer_fetch.specs.Fetchers.{HasNothing, MayTakeJob};
     ghost use Rattle.peer_value.specs.Endpoints.{IsOfGroup};
@@ -146,7 +146,7 @@ impl<'a, S: Source, H: Network> Fetcher<'a, S, H> {
             return self.connect_first(system, under);
         };
         match self.connections.get_mut(key) {
-            Some(link) if link.number == number && link.is_free() && under.is_unused() => {
+            Some(link) if link.number == number && link.may_begin() && under.is_unused() => {
                 link.begin(system.rt, under)
             }
             _ => return self.connect_first(system, under),

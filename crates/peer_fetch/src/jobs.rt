@@ -17,7 +17,7 @@ use crate::noted::note_done;
 use crate::opening::System;
 use crate::settings::FetchPlan;
 use peer_fill::{FillSeat, Gate, Pool, TakenJob};
-use peer_origin::Endpoint;
+use peer_origin::{Endpoint, Wires};
 use peer_runtime::Network;
 use peer_source::{Outcome, Source};
 use peer_value::Done;
@@ -38,7 +38,7 @@ pub struct Jobs<'p, 'a, S: Source, L: Ledger, G> {
 
 // Fills the flight of a job with this outcome, which was fetched at this endpoint, if that is the one of its group. No other job
 // comes here, and one that did would be filled by a call of the source.
-fn fill<'a, S: Source, L: Ledger, G: Gate, H: Network>(
+fn fill<'a, S: Source, L: Ledger, G: Gate, H: Network + Wires>(
     rt: &H,
     jobs: &Jobs<'_, 'a, S, L, G>,
     seat: &mut FillSeat<S, L>,
@@ -58,7 +58,7 @@ fn fill<'a, S: Source, L: Ledger, G: Gate, H: Network>(
 }
 
 // Fills the flight of a job whose value was fetched, or was not, and notes which.
-fn fill_done<'a, S: Source, L: Ledger, G: Gate, H: Network>(
+fn fill_done<'a, S: Source, L: Ledger, G: Gate, H: Network + Wires>(
     rt: &H,
     jobs: &Jobs<'_, 'a, S, L, G>,
     seat: &mut FillSeat<S, L>,
@@ -80,7 +80,7 @@ fn fill_done<'a, S: Source, L: Ledger, G: Gate, H: Network>(
 }
 
 // Takes a job, and begins to fetch its value where its group has an endpoint. Whether there was one.
-fn take_job<'a, S: Source, L: Ledger, G: Gate, H: Network>(
+fn take_job<'a, S: Source, L: Ledger, G: Gate, H: Network + Wires>(
     system: &System<'_, H>,
     jobs: &Jobs<'_, 'a, S, L, G>,
     seat: &mut FillSeat<S, L>,
@@ -108,7 +108,7 @@ fn take_job<'a, S: Source, L: Ledger, G: Gate, H: Network>(
 }
 
 /// Takes jobs while there is room for their values, so many at most. Whether there was one.
-pub fn take_jobs<'a, S: Source, L: Ledger, G: Gate, H: Network>(
+pub fn take_jobs<'a, S: Source, L: Ledger, G: Gate, H: Network + Wires>(
     system: &System<'_, H>,
     jobs: &Jobs<'_, 'a, S, L, G>,
     seat: &mut FillSeat<S, L>,
@@ -129,7 +129,7 @@ pub fn take_jobs<'a, S: Source, L: Ledger, G: Gate, H: Network>(
 }
 
 /// Goes on with those that wait, as far as they may by now.
-pub fn serve_waiting<'a, S: Source, L: Ledger, G: Gate, H: Network>(
+pub fn serve_waiting<'a, S: Source, L: Ledger, G: Gate, H: Network + Wires>(
     system: &System<'_, H>,
     jobs: &Jobs<'_, 'a, S, L, G>,
     seat: &mut FillSeat<S, L>,
@@ -149,7 +149,7 @@ pub fn serve_waiting<'a, S: Source, L: Ledger, G: Gate, H: Network>(
 }
 
 /// Gives each of those a turn that are to have one by now.
-pub fn serve_ready<'a, S: Source, L: Ledger, G: Gate, H: Network>(
+pub fn serve_ready<'a, S: Source, L: Ledger, G: Gate, H: Network + Wires>(
     system: &System<'_, H>,
     jobs: &Jobs<'_, 'a, S, L, G>,
     seat: &mut FillSeat<S, L>,

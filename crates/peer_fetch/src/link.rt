@@ -1,11 +1,13 @@
 //! A connection to an origin, and the value that is under way on it.
 //!
 //! It promises that a turn leaves a value on its connection, or gives it back with its own job, that only a value of the endpoint
-//! with whose number the connection began is asked for on it, where no other is under way, and that what a connection carried in
-//! its present use is what was sent and came for that value.
-ghost use Rattle.std.specs.Prelude.{◌≡◌, ◌↔◌, IfSome, IsSome, IsTrue, Some, None};
+//! with whose number the connection began is asked for on it, where no other is under way and the last use is over: one whole
+//! request was sent in it, and one whole reply came. What a connection carried in its present use is what was sent and came for
+//! that value.
+ghost use Rattle.std.specs.Prelude.{◌≡◌, ◌↔◌, IfSome, IsSome, IsTrue, Some, None, false, true};
 ghost use Rattle.std.proofs.Props.{props};
 ghost use Rattle.peer_runtime.specs.Wires.{Carried};
+ghost use Rattle.peer_origin.specs.Wires.{IsOver};
 ghost use Rattle.peer_fetch.specs.Transfers.{IsOn};
 ghost use Rattle.peer_fetch.specs.Turns.{GivesOn, IsTurnOf, KeepsWire};
 ghost use Rattle.peer_value.specs.UnderWays.{number_of};
@@ -14,8 +16,8 @@ ghost use Rattle.peer_value.specs.Values.{IsToldBy, IsUnused};
 use crate::transfer::{Halt, receive, send};
 use mio::event::Event;
 use mio::net::TcpStream;
-use peer_origin::{Failure, FetchFault, is_to_itself};
-use peer_runtime::{Readiness, Wire, Wires, would_block};
+use peer_origin::{Failure, FetchFault, Wires, is_to_itself};
+use peer_runtime::{Readiness, Wire, would_block};
 use peer_source::Source;
 use peer_value::{Answer, Done, UnderWay};
 use std::io::ErrorKind;
@@ -70,10 +72,13 @@ pub struct Link<'a, S: Source, H: Wires> {
     pub was_kept: bool,
     /// Whether it is on the list of those that are to have a turn.
     pub is_ready: bool,
+    // Whether its last use is over: another request may follow.
+    is_over: bool,
     of: PhantomData<H>,
     ghost own: { IfSome under (λ u. number_of u ≡ number) } by { Prim.hlevel props },
     ghost carried: { Carried H.carried wire },
     ghost tied: { IfSome under (λ u. IsOn wire u) } by { Prim.hlevel props },
+    ghost over: { IsTrue is_over → IsOver wire } by { Prim.hlevel props },
 }
 
 // How far a stream is that began to connect.
@@ -148,6 +153,7 @@ impl<'a, S: Source, H: Wires> Link<'a, S, H> {
             way,
             was_kept: false,
             is_ready: false,
+            is_over: false,
             of: PhantomData,
         }
     }
@@ -179,6 +185,14 @@ impl<'a, S: Source, H: Wires> Link<'a, S, H> {
         self.under.is_none()
     }
 
+    /// Whether no value is under way, and another one may be asked for: its last use is over.
+    pub fn may_begin(&self) -> bool
+        ensures free { IsTrue result → self.now.under ≡ None }
+        ensures over { IsTrue result → self.now.is_over ≡ true }
+    {
+        self.is_free() && self.is_over
+    }
+
     // Puts the value that is under way, where there is none.
     fn put(&mut self, under: UnderWay<'a, S>)
         requires number { number_of under ≡ self.old.number }
@@ -194,12 +208,14 @@ impl<'a, S: Source, H: Wires> Link<'a, S, H> {
     pub fn begin(&mut self, rt: &H, under: UnderWay<'a, S>)
         requires number { number_of under ≡ self.old.number }
         requires free { self.old.under ≡ None }
+        requires over { self.old.is_over ≡ true }
         requires unused { IsUnused under.fetching }
         ensures under { self.new.under ≡ Some under.entry }
         ensures number { self.new.number ≡ self.old.number }
     {
         self.readiness.readable = false;
         self.was_kept = true;
+        self.is_over = false;
         rt.begin(&mut self.wire);
         self.put(under);
     }
@@ -229,6 +245,7 @@ impl<'a, S: Source, H: Wires> Link<'a, S, H> {
         ensures number { self.new.number ≡ self.old.number }
     {
         let mut under = under;
+        self.is_over = false;
         // Of what came while the process stood still no event need have told, nor of the end behind it.
         self.readiness.readable |= late;
         self.readiness.read_closed |= late;
@@ -238,8 +255,8 @@ impl<'a, S: Source, H: Wires> Link<'a, S, H> {
             None => match receive(rt, wire, &mut under, buffer, &mut self.readiness) {
                 Ok(answer) => {
                     let Answer { value, keeps } = answer;
-                    let reusable = reusable_if(keeps && !self.readiness.read_closed);
-                    return Turn::Done(under.done(value), reusable);
+                    self.is_over = keeps && !self.readiness.read_closed;
+                    return Turn::Done(under.done(value), reusable_if(self.is_over));
                 }
                 Err(halt) => halt,
             },
@@ -284,6 +301,7 @@ impl<'a, S: Source, H: Wires> Link<'a, S, H> {
         let Some(due) = self.connect_due else {
             return Connecting::Connected;
         };
+        self.is_over = false;
         let progress = progress_of(rt, &mut self.wire);
         match progress {
             Connecting::Connected => {

@@ -16,7 +16,8 @@ use crate::room::Room;
 use crate::settings::FetchPlan;
 use mio::{Events, Poll};
 use peer_fill::{FillSeat, Gate, Pool};
-use peer_runtime::{Network, OwnWaker, PollWaker, WOKEN, Wires};
+use peer_origin::Wires;
+use peer_runtime::{Network, OwnWaker, PollWaker, WOKEN};
 use peer_source::Source;
 use std::alloc::Global;
 use std::net::Net;
@@ -55,7 +56,7 @@ struct Running<'a, S: Source, H: Wires> {
 
 // Gets ready to wait, and says for how long. Where there is room for a value, jobs are taken once more behind saying that
 // the thread falls asleep.
-fn prepare_wait<'a, S: Source, L: Ledger, G: Gate, H: Network>(
+fn prepare_wait<'a, S: Source, L: Ledger, G: Gate, H: Network + Wires>(
     system: &System<'_, H>,
     jobs: &Jobs<'_, 'a, S, L, G>,
     seat: &mut FillSeat<S, L>,
@@ -84,7 +85,7 @@ fn prepare_wait<'a, S: Source, L: Ledger, G: Gate, H: Network>(
 
 // Takes jobs, and gives those that are ready their turn. Whether all is done: no more jobs are pushed, there is none, and
 // no value is under way or waits.
-fn work_on<'a, S: Source, L: Ledger, G: Gate, H: Network>(
+fn work_on<'a, S: Source, L: Ledger, G: Gate, H: Network + Wires>(
     system: &System<'_, H>,
     jobs: &Jobs<'_, 'a, S, L, G>,
     seat: &mut FillSeat<S, L>,
@@ -128,7 +129,7 @@ impl<'a> FetchThread<'a> {
 
     /// Takes jobs of the pool and fills their flights with what the origins answer, until the waker was closed, there is no
     /// job, and no value is under way or waits. For a group without an endpoint the source is called.
-    pub fn run<S: Source, L: Ledger, G: Gate, H: Network>(
+    pub fn run<S: Source, L: Ledger, G: Gate, H: Network + Wires>(
         self,
         rt: &H,
         pool: &Pool<S, L>,
@@ -161,7 +162,7 @@ impl<'a> FetchThread<'a> {
     }
 }
 
-impl<'a, S: Source, H: Network> Running<'a, S, H> {
+impl<'a, S: Source, H: Network + Wires> Running<'a, S, H> {
     // Waits for events so long, and notes them.
     fn wait(&mut self, rt: &H, time: Option<Duration>, waker: OwnWaker<'_>) {
         let waited = self.poll.poll(&mut self.events, time);

@@ -8,8 +8,8 @@ ghost use Rattle.peer_value.specs.UnderWays.{HasSameJob, IsAnswerTo, IsAsked};
 ghost use Rattle.peer_value.specs.Values.{IsFailureOf, IsSameTry};
 ghost use Rattle.peer_fetch.specs.Transfers.{HasRead, IsHaltOf, IsOn};
 
-use peer_origin::Failure;
-use peer_runtime::{Readiness, Wire, Wires, was_interrupted, would_block};
+use peer_origin::{Failure, Wires};
+use peer_runtime::{Readiness, Wire, was_interrupted, would_block};
 use peer_source::Source;
 use peer_value::{Answer, UnderWay};
 use std::io;

@@ -5,7 +5,7 @@ use crate::exit::{DONE, Exit, OUT_OF_MEMORY, no_output, refuse};
 use crate::facts::served_groups;
 use peer_flags::Options;
 use peer_groups::FrontSource;
-use peer_runtime::Wires;
+use peer_origin::Wires;
 use peer_stats::ServedGroup;
 use std::io;
 use std::io::Write;

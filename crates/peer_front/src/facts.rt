@@ -2,7 +2,7 @@
 
 use peer_flags::Options;
 use peer_groups::{FrontSource, names_of};
-use peer_runtime::Wires;
+use peer_origin::Wires;
 use peer_stats::{Build, CacheLimits, ServedGroup, ServerBounds, ServerFacts};
 use std::alloc::Global;
 

@@ -33,6 +33,7 @@ use clap::error::ErrorKind;
 use clap::{ArgMatches, Error};
 use peer_config::Config;
 use peer_flags::{Options, command};
+use peer_origin::Wires;
 use std::fs::Files;
 use std::io::Read;
 use std::net::{Net, TcpListener, TcpStream};
@@ -76,7 +77,7 @@ fn matches_of<'w, H: AllocGlobal + Print + Eprint>(
 // Does what a file asks for, and the words of the command line, which win.
 fn run_file<
     R: Read + Send + Drop + 'static,
-    H: Net<Listener = TcpListener, Stream = TcpStream> + Threads + Wait + Clock + Sync,
+    H: Net<Listener = TcpListener, Stream = TcpStream> + Threads + Wait + Clock + Sync + Wires,
 >(rt: &H, path: &str, matches: &ArgMatches<'_>, own: &[String]) -> Exit
 where
     H: AllocGlobal + Input<Reader = R> + Print + Eprint + Files + RandomSource,
@@ -102,7 +103,7 @@ where
 // Does what the words of a file and of the command line ask for.
 fn run_words<
     R: Read + Send + Drop + 'static,
-    H: Net<Listener = TcpListener, Stream = TcpStream> + Threads + Wait + Clock + Sync,
+    H: Net<Listener = TcpListener, Stream = TcpStream> + Threads + Wait + Clock + Sync + Wires,
 >(rt: &H, path: &str, text: &[u8], config: &Config, words: &[String]) -> Exit
 where
     H: AllocGlobal + Input<Reader = R> + Print + Eprint + Files + RandomSource,
@@ -142,7 +143,7 @@ fn say_unmatched<H: AllocGlobal + Print + Eprint>(rt: &H, error: &Error) -> Exit
 // Does what the words ask for.
 fn run<
     R: Read + Send + Drop + 'static,
-    H: Net<Listener = TcpListener, Stream = TcpStream> + Threads + Wait + Clock + Sync,
+    H: Net<Listener = TcpListener, Stream = TcpStream> + Threads + Wait + Clock + Sync + Wires,
 >(rt: &H, matches: &ArgMatches<'_>, file: Option<ConfigFile<'_>>) -> Exit
 where
     H: AllocGlobal + Input<Reader = R> + Print + Eprint + Files + RandomSource,

@@ -11,6 +11,7 @@ use crate::troubles::tell_troubles;
 use peer_fetch::FetchPlan;
 use peer_fill::Report;
 use peer_loop::{ServerFault, Settings, serve_fetching};
+use peer_origin::Wires;
 use peer_runtime::Host;
 use peer_source::Source;
 use peer_stats::ServerFacts;
@@ -35,7 +36,7 @@ pub struct Service<'a, S: Source> {
 }
 
 // Serves, by fetches where there is a plan.
-fn serve_planned<S: Source + Send + Sync, H: AllocGlobal + Host>(
+fn serve_planned<S: Source + Send + Sync, H: AllocGlobal + Host + Wires>(
     rt: &H,
     service: Service<'_, S>,
 ) -> Result<Report, ServerFault>
@@ -107,7 +108,7 @@ fn serve_apart<
 }
 
 // Serves while the page is served, where one is asked for: here, since files can be read in this thread alone.
-fn serve_paged<S: Source + Send + Sync, H: AllocGlobal + Files + Host>(
+fn serve_paged<S: Source + Send + Sync, H: AllocGlobal + Files + Host + Wires>(
     rt: &H,
     service: Service<'_, S>,
     page: Option<Page>,
@@ -133,7 +134,7 @@ fn serve_paged<S: Source + Send + Sync, H: AllocGlobal + Files + Host>(
 }
 
 // Serves, and looks names of services up again where there are some.
-fn serve_named<S: Source + Send + Sync, H: AllocGlobal + Eprint + Files + Host>(
+fn serve_named<S: Source + Send + Sync, H: AllocGlobal + Eprint + Files + Host + Wires>(
     rt: &H,
     service: Service<'_, S>,
     page: Option<Page>,
@@ -159,7 +160,7 @@ fn serve_named<S: Source + Send + Sync, H: AllocGlobal + Eprint + Files + Host>(
 
 /// Serves while troubles are told and the page is served, where one is asked for, and ends both behind it. Where there is a
 /// plan, threads fetch by it.
-pub fn serve_watched<S: Source + Send + Sync, H: AllocGlobal + Eprint + Files + Host>(
+pub fn serve_watched<S: Source + Send + Sync, H: AllocGlobal + Eprint + Files + Host + Wires>(
     rt: &H,
     service: Service<'_, S>,
     page: Option<Page>,

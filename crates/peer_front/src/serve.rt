@@ -19,6 +19,7 @@ use peer_fill::{CachePlan, Caching, Report};
 use peer_flags::Options;
 use peer_groups::{FrontSource, fetched_of};
 use peer_loop::{Fillers, ServerFault, Settings, Stop};
+use peer_origin::Wires;
 use peer_runtime::{Host, Limits};
 use peer_source::Source;
 use peer_stats::{Counters, ServerFacts};
@@ -119,7 +120,7 @@ fn open<H: AllocGlobal + Eprint + RandomSource + Host>(
 // Serves this source, or says why not.
 fn serve_source<
     S: Source + Send + Sync,
-    H: AllocGlobal + Print + Eprint + Files + RandomSource + Host,
+    H: AllocGlobal + Print + Eprint + Files + RandomSource + Host + Wires,
 >(
     rt: &H,
     options: &Options<'_>,
@@ -183,7 +184,7 @@ pub fn check_flags<H: AllocGlobal + Eprint>(
 /// Serves what is asked for, or says why not. Where it is only to be checked it says what would be served.
 pub fn serve_asked<
     R: Read + Send + Drop + 'static,
-    H: AllocGlobal + Input<Reader = R> + Print + Eprint + Files + RandomSource + Host,
+    H: AllocGlobal + Input<Reader = R> + Print + Eprint + Files + RandomSource + Host + Wires,
 >(rt: &H, options: &Options<'_>, words: &[&str], file: Option<ConfigFile<'_>>) -> Exit {
     let options = &within_files(rt, options, !words.is_empty());
     let source = match source_of(rt, options, words, file) {
@@ -201,7 +202,7 @@ pub fn serve_asked<
 // Serves this source.
 fn serve<
     R: Read + Send + Drop + 'static,
-    H: AllocGlobal + Input<Reader = R> + Print + Eprint + Files + RandomSource + Host,
+    H: AllocGlobal + Input<Reader = R> + Print + Eprint + Files + RandomSource + Host + Wires,
 >(rt: &H, options: &Options<'_>, source: FrontSource<'_, H>, words: &[&str]) -> Exit {
     let has_services = !words.is_empty();
     let counters = Counters::new();

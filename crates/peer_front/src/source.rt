@@ -5,8 +5,8 @@ use crate::exit::{BAD_WORD, Exit, OUT_OF_MEMORY, refuse};
 use crate::table::read_table;
 use peer_flags::Options;
 use peer_groups::{Beside, DEMO_NAMES, FrontSource, GroupFault, Maybe, first_in, origins_of};
-use peer_origin::{FetchSettings, Origin, OriginSource};
-use peer_runtime::{Network, Wires};
+use peer_origin::{FetchSettings, Origin, OriginSource, Wires};
+use peer_runtime::Network;
 use peer_source::{DemoSource, MAX_GROUPS, Source};
 use peer_table::TableSource;
 use std::fs::Files;
@@ -120,7 +120,7 @@ fn join<'a, H: Wires + Sync>(
 }
 
 /// The source that is asked for, or why there is none, which it says.
-pub fn source_of<'a, H: AllocGlobal + Eprint + Files + Network + Sync>(
+pub fn source_of<'a, H: AllocGlobal + Eprint + Files + Network + Wires + Sync>(
     rt: &'a H,
     options: &Options<'_>,
     words: &[&str],

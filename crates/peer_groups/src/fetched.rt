@@ -6,8 +6,7 @@ ghost use Rattle.peer_groups.specs.Besides.{AnswersOrigins};
 
 use crate::beside::Beside;
 use peer_fetch::{FetchPlan, FetchThreadSettings};
-use peer_origin::{Endpoint, FetchSettings, OriginSource};
-use peer_runtime::Wires;
+use peer_origin::{Endpoint, FetchSettings, OriginSource, Wires};
 use peer_source::Source;
 use peer_stats::FailureSlots;
 use peer_value::Endpoints;

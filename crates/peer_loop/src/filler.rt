@@ -6,6 +6,7 @@ ghost use Rattle.peer_fetch.specs.Threads.{Allows};
 
 use peer_fetch::{FetchParts, FetchPlan, FetchThread};
 use peer_fill::{FillSeat, Pool};
+use peer_origin::Wires;
 use peer_runtime::{Network, OwnWaker, PollWakers};
 use peer_site::FillGate;
 use peer_source::Source;
@@ -39,7 +40,7 @@ pub fn next_fetcher<'a>(
 
 /// Fills jobs until the pool was stopped, or its waker closed, and there is none: by fetches, where it is given what that
 /// needs, and else by calls of the source.
-pub fn run_filler<S: Source, L: Ledger, H: Network>(
+pub fn run_filler<S: Source, L: Ledger, H: Network + Wires>(
     rt: &H,
     alloc: Global,
     pool: &Pool<S, L>,

@@ -15,6 +15,7 @@ use crate::threads::use_threads;
 use peer_fetch::FetchPlan;
 use peer_fill::{MAX_SEATS, OpenFault, Opened, Pool, Report, Seats};
 use peer_known::{Known, Relation};
+use peer_origin::Wires;
 use peer_runtime::Host;
 use peer_site::Site;
 use peer_source::Source;
@@ -39,7 +40,7 @@ pub enum ServerFault {
 }
 
 // Serves over a pool that was opened, with what the system gave. None where memory or a thread was refused.
-fn serve_parts<S: Source + Send + Sync, L: Ledger + Send + Sync, H: Host>(
+fn serve_parts<S: Source + Send + Sync, L: Ledger + Send + Sync, H: Host + Wires>(
     rt: &H,
     alloc: Global,
     pool: &Pool<S, L>,
@@ -74,7 +75,7 @@ fn serve_parts<S: Source + Send + Sync, L: Ledger + Send + Sync, H: Host>(
 
 // Serves over a pool that was opened. None where memory, a thread or a descriptor was refused, or where the stop is another
 // server's.
-fn serve_seats<S: Source + Send + Sync, L: Ledger + Send + Sync, H: Host>(
+fn serve_seats<S: Source + Send + Sync, L: Ledger + Send + Sync, H: Host + Wires>(
     rt: &H,
     alloc: Global,
     pool: &Pool<S, L>,
@@ -92,7 +93,7 @@ fn serve_seats<S: Source + Send + Sync, L: Ledger + Send + Sync, H: Host>(
 }
 
 // Serves over a pool that was opened, and closes it.
-fn serve_opened<S: Source + Send + Sync, L: Ledger + Send + Sync, H: Host>(
+fn serve_opened<S: Source + Send + Sync, L: Ledger + Send + Sync, H: Host + Wires>(
     rt: &H,
     alloc: Global,
     opened: Opened<S, L>,
@@ -113,7 +114,7 @@ fn serve_opened<S: Source + Send + Sync, L: Ledger + Send + Sync, H: Host>(
 }
 
 // Opens a pool of this ledger, serves, and closes it.
-fn over_pool<S: Source + Send + Sync, L: Ledger + Send + Sync, H: Host>(
+fn over_pool<S: Source + Send + Sync, L: Ledger + Send + Sync, H: Host + Wires>(
     rt: &H,
     alloc: Global,
     source: S,
@@ -142,7 +143,7 @@ fn over_pool<S: Source + Send + Sync, L: Ledger + Send + Sync, H: Host>(
 }
 
 // Serves under a name of the source's answers, so that what the type of the server's source allows is what this source may answer.
-fn serve_known<S: Source + Send + Sync, W: Relation + Send + Sync, H: Host>(
+fn serve_known<S: Source + Send + Sync, W: Relation + Send + Sync, H: Host + Wires>(
     rt: &H,
     alloc: Global,
     source: S,
@@ -162,7 +163,7 @@ fn serve_known<S: Source + Send + Sync, W: Relation + Send + Sync, H: Host>(
 /// clients that it has. Where there is a plan, threads that fill fetch the values of its groups, each with hundreds under
 /// way. They call the source for all others, and so do loops that fill, for all groups. What its clients get are answers that this
 /// very source may give: it is served under a name of these (`Known`).
-pub fn serve_fetching<S: Source + Send + Sync, H: Host>(
+pub fn serve_fetching<S: Source + Send + Sync, H: Host + Wires>(
     rt: &H,
     alloc: Global,
     source: S,
@@ -186,7 +187,7 @@ pub fn serve_loops<S: Source + Send + Sync, H>(
     settings: &Settings<'_>,
 ) -> Result<Report, ServerFault>
 where
-    H: Net<Listener = TcpListener, Stream = TcpStream> + Threads + Wait + Clock + Sync,
+    H: Net<Listener = TcpListener, Stream = TcpStream> + Threads + Wait + Clock + Sync + Wires,
     ensures { ServesWith (fill_seats settings.now) settings.now.loops (S.count source) result }
 {
     serve_fetching(rt, alloc, source, listener, settings, None)

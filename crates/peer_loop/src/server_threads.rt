@@ -16,7 +16,8 @@ use crate::starting::{FillHandle, LoopHandle, spawn_filler, spawn_loop};
 use crate::work::{AllWork, FillWork, ThreadParts};
 use peer_clients::LoopWork;
 use peer_fill::{Pool, Seats, join_seats, pop_seat};
-use peer_runtime::{Host, Wires};
+use peer_origin::Wires;
+use peer_runtime::Host;
 use peer_site::{LoopSite, Site};
 use peer_source::Source;
 use std::alloc::Global;
@@ -81,7 +82,7 @@ impl<'a, S: Source + Send + Sync, L: Ledger + Send + Sync> ServerThreads<'a, S, 
     }
 
     // Starts the thread of a loop. None where there is none for it to be handed, or where memory or a thread was refused.
-    fn start_loop<E, H: Host>(&mut self, scope: &Scope<'a, E>, rt: &'a H) -> Option<()>
+    fn start_loop<E, H: Host + Wires>(&mut self, scope: &Scope<'a, E>, rt: &'a H) -> Option<()>
         requires { AreStarting H.carried self.old }
         ensures { IfSome result (λ _. KeepAll H.carried self.old self.new) }
     {
@@ -100,7 +101,7 @@ impl<'a, S: Source + Send + Sync, L: Ledger + Send + Sync> ServerThreads<'a, S, 
     }
 
     // Starts a thread that fills.
-    fn start_filler<E, H: Host>(&mut self, scope: &Scope<'a, E>, rt: &'a H) -> Option<()>
+    fn start_filler<E, H: Host + Wires>(&mut self, scope: &Scope<'a, E>, rt: &'a H) -> Option<()>
         requires { AreStarting H.carried self.old }
         ensures { IfSome result (λ _. KeepAll H.carried self.old self.new) }
     {
@@ -124,7 +125,7 @@ impl<'a, S: Source + Send + Sync, L: Ledger + Send + Sync> ServerThreads<'a, S, 
     }
 
     // Starts the next thread: one that fills, where one is left, and else that of a loop.
-    fn start_next<E, H: Host>(&mut self, scope: &Scope<'a, E>, rt: &'a H) -> Option<()>
+    fn start_next<E, H: Host + Wires>(&mut self, scope: &Scope<'a, E>, rt: &'a H) -> Option<()>
         requires { AreStarting H.carried self.old }
         ensures { IfSome result (λ _. KeepAll H.carried self.old self.new) }
     {
@@ -136,7 +137,7 @@ impl<'a, S: Source + Send + Sync, L: Ledger + Send + Sync> ServerThreads<'a, S, 
     }
 
     /// Starts the threads that fill, and then the loops. None where memory or a thread was refused.
-    pub fn start<E, H: Host>(&mut self, scope: &Scope<'a, E>, rt: &'a H) -> Option<()>
+    pub fn start<E, H: Host + Wires>(&mut self, scope: &Scope<'a, E>, rt: &'a H) -> Option<()>
         requires { AreNew H.carried self.old }
         ensures { IfSome result (λ _. KeepAll H.carried self.old self.new) }
     {
@@ -149,7 +150,7 @@ impl<'a, S: Source + Send + Sync, L: Ledger + Send + Sync> ServerThreads<'a, S, 
     }
 
     /// Waits for all threads, and gives all seats back. The loops end by themselves, and the others are told to.
-    pub fn join<H: Host>(self, rt: &H) -> Seats<S, L>
+    pub fn join<H: Host + Wires>(self, rt: &H) -> Seats<S, L>
         requires { AreStarting H.carried self }
         ensures { HaveParts self.entry.pool.now (all_conns self.entry) (all_fills self.entry) result }
     {

@@ -11,6 +11,7 @@ use crate::filler::run_filler;
 use crate::work::FillWork;
 use peer_clients::{LoopSeats, LoopWork, run_loop};
 use peer_fill::{FillSeat, Keeps, Pool};
+use peer_origin::Wires;
 use peer_runtime::Host;
 use peer_source::Source;
 use std::alloc::Global;
@@ -45,7 +46,7 @@ pub fn spawn_loop<'s, E, S: Source + Send + Sync, L: Ledger + Send + Sync, H: Ho
 }
 
 /// Starts a thread that fills. None where it was refused.
-pub fn spawn_filler<'s, E, S: Source + Send + Sync, L: Ledger + Send + Sync, H: Host>(
+pub fn spawn_filler<'s, E, S: Source + Send + Sync, L: Ledger + Send + Sync, H: Host + Wires>(
     scope: &Scope<'s, E>,
     rt: &'s H,
     alloc: Global,

@@ -8,6 +8,7 @@ use crate::acceptor::Acceptor;
 use crate::server_threads::ServerThreads;
 use crate::work::{AllWork, ThreadParts};
 use peer_fill::{Pool, Seats};
+use peer_origin::Wires;
 use peer_runtime::Host;
 use peer_source::Source;
 use std::alloc::Global;
@@ -17,7 +18,7 @@ use std::thread::Scope;
 
 // Starts the threads, accepts clients once all of them run, and joins all. None where a thread or memory was refused: then no
 // client was accepted, and those that were started end.
-fn serve_scoped<'s, E, S: Source + Send + Sync, L: Ledger + Send + Sync, H: Host>(
+fn serve_scoped<'s, E, S: Source + Send + Sync, L: Ledger + Send + Sync, H: Host + Wires>(
     scope: &Scope<'s, E>,
     rt: &'s H,
     alloc: Global,
@@ -40,7 +41,7 @@ fn serve_scoped<'s, E, S: Source + Send + Sync, L: Ledger + Send + Sync, H: Host
 }
 
 // The same, in a scope of its own.
-fn serve_handed<S: Source + Send + Sync, L: Ledger + Send + Sync, H: Host>(
+fn serve_handed<S: Source + Send + Sync, L: Ledger + Send + Sync, H: Host + Wires>(
     rt: &H,
     alloc: Global,
     pool: &Pool<S, L>,
@@ -64,7 +65,7 @@ fn serve_handed<S: Source + Send + Sync, L: Ledger + Send + Sync, H: Host>(
 
 /// Each loop serves clients in a thread of its own, and each seat that fills does so in another, unless the loops fill. This
 /// thread accepts clients. None where a thread or memory was refused: then no client was accepted.
-pub fn use_threads<S: Source + Send + Sync, L: Ledger + Send + Sync, H: Host>(
+pub fn use_threads<S: Source + Send + Sync, L: Ledger + Send + Sync, H: Host + Wires>(
     rt: &H,
     alloc: Global,
     pool: &Pool<S, L>,

@@ -5,3 +5,4 @@ pub mod Origins
 pub mod Endpoints
 pub mod Targets
 pub mod Texts
+pub mod Wires

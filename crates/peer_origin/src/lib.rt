@@ -1,5 +1,5 @@
 //! HTTP origins: where each is, the request for a key, what its answers may be, and a source that names them. The value of a key
-//! is the body of `GET prefix key`, by the prefix of its group.
+//! is the body of `GET prefix key`, by the prefix of its group. A network says what its connections carried (`Wires`).
 //!
 //! It stands on the sources of `peer_source` and on the requests of `peer_http`. It promises the request for a key, the number of
 //! each group and its endpoint, and that an answer is a value within the limit or one of the texts of `FetchFault`. What a fetch is
@@ -16,6 +16,7 @@ mod requests;
 mod settings;
 mod source;
 mod target;
+mod wires;
 
 pub use addresses::{Addresses, is_to_itself};
 pub use endpoint::{Endpoint, EndpointFault};
@@ -26,3 +27,4 @@ pub use origin::Origin;
 pub use requests::request;
 pub use settings::FetchSettings;
 pub use source::OriginSource;
+pub use wires::Wires;

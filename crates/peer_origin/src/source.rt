@@ -6,7 +6,7 @@ ghost use Rattle.peer_origin.specs.Origins.{IsOriginAnswer, number_from, origin_
 use crate::endpoint::Endpoint;
 use crate::fault::{FetchFault, get_fault};
 use crate::origin::Origin;
-use peer_runtime::Wires;
+use crate::wires::Wires;
 use peer_source::{GetResult, GroupId, Source};
 use peer_view::AllocSink;
 use std::alloc::{AllocError, Global};

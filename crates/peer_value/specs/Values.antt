@@ -73,9 +73,10 @@ abbrev pub IsFailureOf : Fetching → Failure → Type 0
 IsFailureOf f fail.Silent = Unit {0}
 IsFailureOf f (fail.Fetch why) = IfStatus why (TellsStatus f)
 
--- the answer of a fetch: its value is one that the fetch found, it has none for the status of the reply alone, and another request
+-- the answer of a fetch: the whole request was sent, its value is one that the fetch found, it has none for the status of the reply alone, and another request
 -- may follow where the answer says so
 pub record IsAnswerOf (f : Fetching) (a : fetched.Answer) : Type 0 where
+  pub sent : IsSent f
   pub keeps : IsTrue a.keeps → IsFree f
   pub value : IfOk a.value (IsValueOf f)
   pub status : IfErr a.value (IsStatusOf f.receiving.came.bytes)

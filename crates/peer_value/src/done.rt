@@ -11,8 +11,7 @@ ghost use Rattle.peer_value.specs.Values.{AnswersBy, IsToldBy, IsValueOf};
 
 use crate::fetching::Fetching;
 use peer_fill::TakenJob;
-use peer_origin::{Endpoint, FetchFault, get_fault};
-use peer_runtime::Wires;
+use peer_origin::{Endpoint, FetchFault, Wires, get_fault};
 use peer_source::{GetFault, Outcome, Source, too_long_text};
 use peer_view::ByteView;
 use std::alloc::Global;

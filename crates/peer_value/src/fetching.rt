@@ -9,7 +9,7 @@ ghost use Rattle.std.specs.Prelude.{◌≡◌, ◌≢◌, ◌+◌, ◌≤◌, �
 ghost use Rattle.std.specs.Prelude.{Err, IfErr, IfOk, IfSome, IsFalse, IsTrue, None};
 ghost use Rattle.std.proofs.Props.{props};
 ghost use Rattle.peer_view.specs.Sinks.{MAX_VALUE};
-ghost use Rattle.peer_http.specs.Requests.{Awaits};
+ghost use Rattle.peer_http.specs.Requests.{Awaits, IsOneRequest};
 ghost use Rattle.peer_origin.specs.declared.failure.Failure.TheVariants as fail;
 ghost use Rattle.peer_origin.specs.declared.fault.FetchFault.TheVariants as fault;
 ghost use Rattle.peer_value.specs.Fetchings.{GoesOnAnew};
@@ -44,6 +44,7 @@ pub struct Fetching {
     receiving: Receiving,
     ended: bool,
     first: Option<Silence>,
+    ghost asks: { ∥ IsOneRequest request.items ∥₁ },
     ghost sent_within: { sent ≤ length request.items },
     ghost most: { receiving.most ≡ MAX_VALUE },
     ghost heard: { receiving.came.bytes ≢ [] → length request.items ≤ sent } by { Prim.hlevel props },
@@ -82,7 +83,8 @@ impl Fetching {
 
     /// Nothing of the request was sent.
     pub fn new(alloc: Global, asked: Request) -> Fetching
-        requires { Awaits asked.client }
+        requires awaits { Awaits asked.client }
+        requires one { ∥ IsOneRequest asked.bytes.items ∥₁ }
         ensures request { result.request.items ≡ asked.bytes.items }
         ensures sent { result.sent ≡ 0 }
         ensures came { result.receiving.came.bytes ≡ [] }

@@ -3,9 +3,10 @@
 use super::asking::{Plan, Texts};
 use super::lookup::{LOOPBACK, TWO_ADDRESSES};
 use super::running::{Groups, Seen, Setting, patient, see_over};
+use super::scripted::Scripted;
 use peer_fetch::FetchThreadSettings;
 use peer_fill::Report;
-use peer_origin::FetchSettings;
+use peer_origin::{FetchSettings, Wires};
 use peer_stats::FailureCounts;
 use std::alloc::Global;
 use std::marker::Brand;
@@ -107,6 +108,9 @@ const CLOSING: Texts<'static> = &[
 ];
 
 // Values from an origin whose first address refuses.
+// What a scripted network gives for each key.
+const SCRIPTED: Texts<'static> = &[(b"plain", b"script"), (b"chunked", b"script")];
+
 const PLAIN: Texts<'static> = &[(b"plain", b"plain"), (b"chunked", b"chunked")];
 
 // Nothing was counted.
@@ -221,7 +225,7 @@ fn brisk() -> FetchThreadSettings {
 }
 
 // What is seen of a setting, and the report of its pool.
-fn see<H: Net<Listener = TcpListener, Stream = TcpStream> + Threads + Wait + Clock + Sync>(
+fn see<H: Net<Listener = TcpListener, Stream = TcpStream> + Threads + Wait + Clock + Sync + Wires>(
     rt: &H,
     alloc: Global,
     setting: Setting<'_>,
@@ -230,12 +234,9 @@ fn see<H: Net<Listener = TcpListener, Stream = TcpStream> + Threads + Wait + Clo
 }
 
 // Whether a client is answered as it is to be, each key leads a call, and the origin sees this load, if it is looked at.
-fn is_right<H: Net<Listener = TcpListener, Stream = TcpStream> + Threads + Wait + Clock + Sync>(
-    rt: &H,
-    alloc: Global,
-    setting: Setting<'_>,
-    load: Option<Load>,
-) -> bool {
+fn is_right<
+    H: Net<Listener = TcpListener, Stream = TcpStream> + Threads + Wait + Clock + Sync + Wires,
+>(rt: &H, alloc: Global, setting: Setting<'_>, load: Option<Load>) -> bool {
     match see(rt, alloc, setting) {
         Some((seen, report)) => {
             seen.answered.is_right()
@@ -331,11 +332,9 @@ fn each_service_is_asked_as_it_is_to_be(rt: HostRuntime) -> Result<(), Fail> {
 }
 
 // What is counted of a client's values that were not fetched.
-fn failures_of<H: Net<Listener = TcpListener, Stream = TcpStream> + Threads + Wait + Clock + Sync>(
-    rt: &H,
-    alloc: Global,
-    setting: Setting<'_>,
-) -> Option<FailureCounts> {
+fn failures_of<
+    H: Net<Listener = TcpListener, Stream = TcpStream> + Threads + Wait + Clock + Sync + Wires,
+>(rt: &H, alloc: Global, setting: Setting<'_>) -> Option<FailureCounts> {
     match see(rt, alloc, setting) {
         Some((seen, _)) => Some(seen.failures),
         None => None,
@@ -367,4 +366,12 @@ fn each_value_that_is_not_fetched_is_counted_by_why(rt: HostRuntime) {
     // Those that wait are given up in their time too, but for the few that had room meanwhile.
     let of_hung = failures_of(&rt, rt.alloc(), of_hung(40, &LATE[..1], hasty()));
     assert!(rt; of_hung.is_some_and(|counts| counts.late >= 30));
+}
+
+#[test]
+fn values_are_what_the_network_gives(rt: HostRuntime) {
+    let alloc = rt.alloc();
+    let scripted = Scripted { system: rt };
+    let setting = of_texts(SCRIPTED, patient());
+    assert!(scripted.system; is_right(&scripted, alloc, setting, Load::in_turn(2)));
 }

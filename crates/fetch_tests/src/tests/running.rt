@@ -8,7 +8,7 @@ use super::lookup::endpoint_of;
 use super::origin::{Told, serve};
 use peer_fetch::{FetchParts, FetchPlan, FetchThread, FetchThreadSettings};
 use peer_fill::{ConnSeat, FillSeat, NoGate, Pool, Report, Seats, pop_seat};
-use peer_origin::{Endpoint, FetchSettings, Origin, OriginSource};
+use peer_origin::{Endpoint, FetchSettings, Origin, OriginSource, Wires};
 use peer_runtime::{Host, Network, PollWaker, PollWakers};
 use peer_source::Source;
 use peer_stats::{Counters, FailureCounts, FailureSlots};
@@ -96,7 +96,7 @@ const UNANSWERED: Answered = Answered {
 };
 
 // Runs a fetch thread beside an origin and a client.
-fn run_all<S: Source + Send + Sync, L: Ledger + Send + Sync, H: Host>(
+fn run_all<S: Source + Send + Sync, L: Ledger + Send + Sync, H: Host + Wires>(
     rt: &H,
     alloc: Global,
     pool: &Pool<S, L>,
@@ -131,7 +131,7 @@ fn run_all<S: Source + Send + Sync, L: Ledger + Send + Sync, H: Host>(
 }
 
 // Runs a fetch thread with the seats of these lists.
-fn use_lists<S: Source + Send + Sync, L: Ledger + Send + Sync, H: Host>(
+fn use_lists<S: Source + Send + Sync, L: Ledger + Send + Sync, H: Host + Wires>(
     rt: &H,
     alloc: Global,
     pool: &Pool<S, L>,
@@ -154,7 +154,7 @@ fn use_lists<S: Source + Send + Sync, L: Ledger + Send + Sync, H: Host>(
 }
 
 // Runs a fetch thread with a pool's seats, and closes the pool.
-fn run_opened<S: Source + Send + Sync, L: Ledger + Send + Sync, H: Host>(
+fn run_opened<S: Source + Send + Sync, L: Ledger + Send + Sync, H: Host + Wires>(
     rt: &H,
     alloc: Global,
     opened: (Pool<S, L>, Seats<S, L>),
@@ -225,7 +225,7 @@ fn parts_of<H: Net>(
 }
 
 // What is seen of a setting at the endpoints of these origins, and what was counted of values that were not fetched.
-fn see_at<L: Ledger + Send + Sync, H: Host>(
+fn see_at<L: Ledger + Send + Sync, H: Host + Wires>(
     rt: &H,
     alloc: Global,
     origins: Vec<Origin>,
@@ -257,7 +257,7 @@ fn see_at<L: Ledger + Send + Sync, H: Host>(
 }
 
 /// What is seen of a setting, and the report of its pool.
-pub fn see_over<L: Ledger + Send + Sync, H: Host>(
+pub fn see_over<L: Ledger + Send + Sync, H: Host + Wires>(
     rt: &H,
     alloc: Global,
     setting: Setting<'_>,

@@ -7,7 +7,7 @@ use super::running::{Prepared, patient, plan_of, prepare};
 use peer_fetch::FetchPlan;
 use peer_fill::{CachePlan, Caching, Report};
 use peer_loop::{Fillers, Settings, Stop, serve_fetching};
-use peer_origin::OriginSource;
+use peer_origin::{OriginSource, Wires};
 use peer_runtime::{Host, Limits, Network};
 use peer_source::Source;
 use peer_stats::Counters;
@@ -68,7 +68,7 @@ fn ask_all<H: Network>(rt: &H, alloc: Global, address: SocketAddr) -> Option<boo
 }
 
 // Serves while the clients ask.
-fn serve_clients<S: Source + Send + Sync, H: Host + AllocGlobal>(
+fn serve_clients<S: Source + Send + Sync, H: Host + AllocGlobal + Wires>(
     rt: &H,
     source: S,
     listener: TcpListener,
@@ -93,7 +93,7 @@ fn serve_clients<S: Source + Send + Sync, H: Host + AllocGlobal>(
 
 // Serves in front of an origin that holds its replies back until as many requests are open as there are clients. The sockets are the
 // origin's, and the server's with its address.
-fn serve_held<S: Source + Send + Sync, H: Host + AllocGlobal>(
+fn serve_held<S: Source + Send + Sync, H: Host + AllocGlobal + Wires>(
     rt: &H,
     source: S,
     sockets: (TcpListener, TcpListener, SocketAddr),
@@ -135,7 +135,8 @@ fn serve_prepared<
         + Threads
         + Wait
         + Clock
-        + Sync,
+        + Sync
+        + Wires,
 >(rt: &'x H, outside: &'x Outside) -> Option<bool> {
     let seed = RandomState::new(rt).ok()?;
     let server = TcpListener::bind(rt, "127.0.0.1:0").ok()?;

@@ -9,7 +9,7 @@ use crate::link::{Link, Way};
 use crate::opening::{System, open};
 use mio::Token;
 use mio::net::TcpStream;
-use peer_origin::FetchFault;
+use peer_origin::{FetchFault, Wires};
 use peer_runtime::Network;
 use peer_source::Source;
 use peer_value::{Done, UnderWay};
@@ -36,7 +36,7 @@ fn open_next<H: Network>(
     None
 }
 
-impl<'a, S: Source, H: Network> Fetcher<'a, S, H> {
+impl<'a, S: Source, H: Network + Wires> Fetcher<'a, S, H> {
     ghost use Rattle.std.specs.Prelude.{IfSome};
     ghost use Rattle.peer_value.specs.UnderWays.{IsDoneOn};
 

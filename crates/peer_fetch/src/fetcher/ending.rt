@@ -5,12 +5,12 @@
 
 use super::{Fetcher, Place};
 use crate::link::Reusable;
-use peer_origin::FetchFault;
+use peer_origin::{FetchFault, Wires};
 use peer_runtime::Network;
 use peer_source::Source;
 use peer_value::Event as Befell;
 
-impl<'a, S: Source, H: Network> Fetcher<'a, S, H> {
+impl<'a, S: Source, H: Network + Wires> Fetcher<'a, S, H> {
     /// Notes what befell a connection or a value at an address.
     pub(super) fn note_event(&mut self, place: Place, befell: Befell) {
         let now = self.connections.now();

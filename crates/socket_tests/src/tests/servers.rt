@@ -5,6 +5,7 @@ use super::calls::{Calls, Waiting};
 use super::plans::{Case, Ended, Kind, Plan};
 use peer_fill::{CachePlan, Caching, OpenFault, Report};
 use peer_loop::{Stop, serve_loops};
+use peer_origin::Wires;
 use peer_socket::{peer_server, serve_within};
 use peer_stats::Counters;
 use std::hash::RandomState;
@@ -93,7 +94,9 @@ fn of_loops(answered: Result<Report, peer_loop::ServerFault>) -> Ended {
 }
 
 // Serves as the plan says.
-fn serve<H: Net<Listener = TcpListener, Stream = TcpStream> + Threads + Wait + Clock + Sync>(
+fn serve<
+    H: Net<Listener = TcpListener, Stream = TcpStream> + Threads + Wait + Clock + Sync + Wires,
+>(
     rt: &H,
     listener: TcpListener,
     seed: RandomState,
@@ -147,7 +150,9 @@ fn is_seen_by_clients<
 }
 
 // How a server ended that serves at this listener while its clients run, and whether these saw what they are to see.
-fn run_both<H: Net<Listener = TcpListener, Stream = TcpStream> + Threads + Wait + Clock + Sync>(
+fn run_both<
+    H: Net<Listener = TcpListener, Stream = TcpStream> + Threads + Wait + Clock + Sync + Wires,
+>(
     rt: &H,
     (listener, address): (TcpListener, SocketAddr),
     seed: RandomState,
@@ -179,10 +184,9 @@ fn listen<H: Net<Listener = TcpListener, Stream = TcpStream>>(
 }
 
 /// Whether the clients of a server see what they are to see, and it ends as it is to end.
-pub fn is_met<H: Net<Listener = TcpListener, Stream = TcpStream> + Threads + Wait + Clock + Sync>(
-    rt: &H,
-    case: Case<'_>,
-) -> bool
+pub fn is_met<
+    H: Net<Listener = TcpListener, Stream = TcpStream> + Threads + Wait + Clock + Sync + Wires,
+>(rt: &H, case: Case<'_>) -> bool
 where
     H: AllocGlobal + RandomSource,
 {

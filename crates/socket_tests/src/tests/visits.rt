@@ -4,6 +4,7 @@ use super::actions::Actions;
 use super::clients::{connect, drips_in_vain, is_answered, is_answered_last, receives, send};
 use super::plans::{Expect, Kind, case_of, plan_of};
 use super::servers::is_met;
+use peer_origin::Wires;
 use peer_runtime::{Limits, Network};
 use std::net::{Net, SocketAddr, TcpListener, TcpStream};
 use std::random::RandomSource;
@@ -92,7 +93,7 @@ pub fn all_find<H: Network + AllocGlobal>(rt: &H, address: SocketAddr, visits: &
 /// Whether each of these clients finds what it is to find at a server in threads and at one on loops, with one connection within
 /// these limits, which each of them has in turn, and whether each server counts so many requests.
 pub fn are_found<
-    H: Net<Listener = TcpListener, Stream = TcpStream> + Threads + Wait + Clock + Sync,
+    H: Net<Listener = TcpListener, Stream = TcpStream> + Threads + Wait + Clock + Sync + Wires,
 >(rt: &H, limits: Limits, visits: &[Visit], asked: u64) -> bool
 where
     H: AllocGlobal + RandomSource,

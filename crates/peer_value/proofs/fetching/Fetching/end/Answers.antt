@@ -10,6 +10,7 @@ returns-in-Ok-clause-answer c =
     let new = c.end.new.self in
     let r = c.in-Ok.reply in
     record {
+      sent = c.requires.whole;
       keeps = λ keeps. (r, subst (λ t. MayAskAgain t new.client r) (sym c.in-Ok.ensures.came) (c.in-Ok.ensures.keeps (subst IsTrue c.answer_of.ensures.keeps keeps)));
       value = answers_at_end f.request.items f.sent new.came.bytes f.first r.status r.value.items
           c.requires.whole (subst (λ m. length r.value.items ≤ m) f.most c.in-Ok.ensures.within) c.answer_of.result.value c.answer_of.ensures.value

@@ -12,6 +12,7 @@ returns-in-Ok-Some-clause-answer c =
     let reply = subst (λ x. IfSome x (λ r. ∥ IsStanding new.came.bytes r.status r.value.items ∥₁)) given.field-0-is given.ensures.reply in
     let asks = subst (λ x. IfSome x (λ r. IsTrue r.keeps → MayAskAgain new.came.bytes new.client r)) given.field-0-is given.ensures.keeps in
     record {
+      sent = c.requires.whole;
       keeps = λ keeps. (given.reply, asks (subst IsTrue c.answer_of.ensures.keeps keeps));
       value = answers_standing f.request.items f.sent new.came.bytes f.first given.reply.status given.reply.value.items
           c.requires.whole (subst (λ m. length given.reply.value.items ≤ m) (given.ensures.most ∙ f.most) within) f.ended c.answer_of.result.value c.answer_of.ensures.value reply;

@@ -1,14 +1,15 @@
 //! What connections carried, which the network says of them.
 //!
-//! It stands on the streams of `mio`. It promises nothing of the system: of its sockets no clause says what they sent or gave.
+//! It stands on the streams of `mio`, noted (`Wire`), and on what a whole request and a whole reply are. It promises nothing of the
+//! system: of its sockets no clause says what they sent or gave.
 ghost use Rattle.std.specs.Prelude.{◌≡◌, ◌<◌, ◌++◌, ◌||◌, ◌==◌, ℕ, List, Bool, length, take, IfOk, OnErr};
 ghost use Rattle.std.specs.Io.{ReadsAtMost, WritesAtMost};
 ghost use Rattle.peer_runtime.specs.Wires.{Carried, IsBlank, IsSameCame, IsSameSent};
+ghost use Rattle.peer_origin.specs.Wires.{IsOver};
 
-use crate::wire::Wire;
 use mio::net::TcpStream;
+use peer_runtime::Wire;
 use std::io;
-use std::net::{Net, TcpListener, TcpStream as StdStream};
 
 /// A network, which says of its connections what they carried. Its calls alone say so.
 pub trait Wires {
@@ -20,8 +21,9 @@ pub trait Wires {
         ensures blank { IsBlank result }
         ensures carried { Carried carried result };
 
-    /// Another use of a connection begins: nothing was sent in it, and nothing came.
+    /// Another use of a connection begins, once the last one is over: nothing was sent in it, and nothing came.
     fn begin(&self, wire: &mut Wire)
+        requires over { IsOver wire.old }
         ensures blank { IsBlank wire.new }
         ensures carried { Carried carried wire.new };
 
@@ -46,8 +48,8 @@ pub trait Wires {
         ensures carried { Carried carried wire.new };
 }
 
-// What the system's sockets carried no clause tells.
-impl<H: Net<Listener = TcpListener, Stream = StdStream>> Wires for H {
+// What the system's sockets carried no clause tells. Of any other network this says nothing.
+impl Wires for HostRuntime {
     ghost carried = { λ sent came ended. Unit {0} };
 
     fn wire(&self, stream: TcpStream) -> Wire {

@@ -1,6 +1,0 @@
-use mathlib.Core.Logic.{∥∥₁_map}
-use Rattle.std.proofs.Common.{◌∙◌}
-use Rattle.runtime_tests.proofs.tests.scripted.ScriptedWires.write.Goals as goal
-
-pub returns-clause-carried : goal.returns-clause-carried
-returns-clause-carried c = ∥∥₁_map c.requires (λ x. (x.0, c.note_sent.ensures.came.0 ∙ x.1))

@@ -1,3 +1,0 @@
-//! Networks that are tried.
-
-mod scripted;
