@@ -9,12 +9,13 @@ connections are counted as they come and go, and by why they ended; each failure
 a reply of another status than 200 begins and its rest is late, and is told on standard error, none twice: with its time, group,
 service and last key, as text or as JSON. So is a service that is well again, a group that is not there, that all connections are
 taken, and what an end waits for; and where there are too many lines, how many were left out. What is counted of each
-group adds up to what is counted of all, also where a name has quotes, newlines or bytes above 7F; each reply is counted by its
-status; limits are those of the flags, and what is told of the process is so; and `/readyz` says how far the server is. `--loops`,
+group adds up to what is counted of all, also where a name has quotes, newlines or bytes above 7F; how long values are under way, wait
+until they are, have clients wait, and turns of loops take, is told by histograms that add up; each reply is counted by its status; limits are those of the flags, and what is told of the process is so; and `/readyz` says how far the server is. `--loops`,
 `--workers` and `--fetchers` are as many threads, and each fetcher has `--under-way` values; who has nothing to do takes no
 processor. No more connections are open than by `--connections`, and where all are taken, silent clients are let go until a
 sixteenth is free, and those who came last are not the next to go; where the system gives no more files, silent clients are let go
-too, and accepts that failed are counted. `--timeout` is how long a value may take; a value above `--cache` is not kept, and one
+too, and accepts that failed are counted. `--timeout` is how long a value may take; a service sees the fields
+of the group that is asked for, and of no other, and nothing says their values; a value above `--cache` is not kept, and one
 below it is; which keys share a shard goes by a seed of each server's own; and above `--memory` a client is asked for one value at a
 time, until who holds so much has left.
 
@@ -198,10 +199,81 @@ def groups_add_up():
         joined = counts[f'group_asks_total{{group="{NAMES[-1]}",found="joined"}}']
         pairs = [("asks_total", "asked_total"), ("calls_total", "calls_total"), ("rehits_total", "rehits_total")]
         equal = all(sums(counts, "group_" + one) == counts[all_] for one, all_ in pairs)
+        equal &= sums(counts, "fetch_duration_seconds_count") == counts["calls_total"] == counts["queue_duration_seconds_count"]
         status = counts['origin_failures_total{kind="status"}']
         failed = sums(counts, "group_origin_failures_total") == status == own[-1]
         right = own[:-1] == [1, 2, 3] and own[-1] + joined == 8 and counts["hits_total"] == 6
         return right and equal and failed and sums(counts, "group_cache_entries") == 6
+
+
+def in_seconds(counts, name, labels=""):
+    """What a histogram of the page says: how many there are, all their seconds, and how many are within each bound."""
+    alone, before = (f"{{{labels}}}", labels + ",") if labels else ("", "")
+    begin = f'{name}_bucket{{{before}le="'
+    within = {float(key.removeprefix(begin)[:-2]): number for key, number in counts.items() if key.startswith(begin)}
+    return counts[f"{name}_count{alone}"], counts[f"{name}_sum{alone}"], within
+
+
+def adds_up(count, seconds, within):
+    """Whether each bound has those of the lower ones too, the last one has all, and the sum is within what the bounds say."""
+    bounds = sorted(within)
+    numbers = [within[bound] for bound in bounds]
+    own = [number - before for number, before in zip(numbers, [0] + numbers)]
+    least = sum(number * bound for number, bound in zip(own, [0] + bounds))
+    most = sum(number * bound for number, bound in zip(own, bounds) if number)
+    return numbers == sorted(numbers) and bounds[-1] == float("inf") and numbers[-1] == count and least <= seconds <= most
+
+
+def serves_late(seconds):
+    """A service that answers so many seconds late."""
+
+    def serve(stream):
+        stream.recv(10000)
+        time.sleep(seconds)
+        stream.sendall(HEAD + b"1\r\n\r\nv")
+
+    return Service(serve)
+
+
+def times_are_told():
+    group = 'group="slow"'
+    # Of two values that may be under way one is left to the other service.
+    words = ("--fetchers", "1", "--under-way", "2", "--loops", "1", "slow=" + serves_late(0.3).url, "other=" + Service(hangs).url)
+    with Counted(*words) as server, ThreadPoolExecutor(3) as threads:
+        none = [in_seconds(server.counts(), *one)[0] for one in (("queue_duration_seconds",), ("wait_duration_seconds", group))]
+        right = list(threads.map(lambda key: server.ask(f"slow/{key}").endswith(b"v"), "aab"))
+        again = server.ask("slow/a").endswith(b"v")
+        counts = server.counts()
+        fetch, wait = (in_seconds(counts, f"{what}_duration_seconds", group) for what in ("fetch", "wait"))
+        queue = in_seconds(counts, "queue_duration_seconds")
+        # Two values one after the other, the second of which waits for the first; three clients, two of which wait for one value.
+        fetched = fetch[0] == 2 and 0.6 <= fetch[1] < 2 and fetch[2][0.25] == 0 and fetch[2][2.5] == 2
+        waited = wait[0] == 3 and 0.9 <= wait[1] < 4 and wait[2][0.25] == 0
+        queued = queue[0] == 2 and 0.25 <= queue[1] < 2 and queue[2][0.1] == 1
+        return none == [0, 0] and all(right) and again and fetched and waited and queued and all(adds_up(*one) for one in (fetch, wait, queue))
+
+
+def a_value_that_is_given_up_is_told():
+    with Counted("--timeout", "0.3", "late=" + Service(hangs).url) as server:
+        server.ask("late/k")
+        fetch = in_seconds(server.counts(), "fetch_duration_seconds", 'group="late"')
+        return fetch[0] == 1 and 0.3 <= fetch[1] < 2 and adds_up(*fetch)
+
+
+def turns_are_told():
+    with Counted("--demo", "--loops", "2") as server:
+        request = get("echo/k")
+        with socket.create_connection(server.address, PATIENCE) as stream:
+            # More than a client is given in one turn, so that the loop does not wait behind it.
+            threading.Thread(target=stream.sendall, args=(request * 5000,)).start()
+            came = 0
+            while came < 5000 * len(b"HTTP/1.1 200 OK\r\nContent-Type: application/x-protobuf\r\nContent-Length: 3\r\n\r\nxxx"):
+                more = len(stream.recv(1 << 20))
+                if not more:
+                    return False
+                came += more
+        turns = [in_seconds(server.counts(), "loop_turn_duration_seconds", f'loop="{loop}"') for loop in (0, 1)]
+        return sum(one[0] for one in turns) > 0 and all(adds_up(*one) for one in turns)
 
 
 def send(address, head):
@@ -628,6 +700,34 @@ def hits_of(*words):
         return hits if server.says(cache_bytes=hits * ENTRY) else None
 
 
+def requests_have_the_fields_of_their_group():
+    heads = []
+
+    def keeps(stream):
+        while head := stream.recv(10000):
+            heads.append(head)
+            stream.sendall(HEAD + b"1\r\n\r\nv")
+
+    service = Service(keeps)
+    with tempfile.TemporaryDirectory() as folder:
+        token, config = os.path.join(folder, "token"), os.path.join(folder, "front.toml")
+        with open(token, "w", encoding="utf-8") as file:
+            file.write("hush hush\n")
+        with open(config, "w", encoding="utf-8") as file:
+            file.write(f"""[groups.a]\nurl = "{service.url}a/"\nheader = ["Authorization:  Bearer @{token} ", "x-team: red"]\n"""
+                       f"""[groups.b]\nurl = "{service.url}b/"\n[groups.c]\nurl = "{service.url}c/"\nheader = ["x-team: blue"]\n""")
+        with Counted("--config", config) as server:
+            os.remove(token)
+            fields = {"a": "Authorization: Bearer hush hush\r\nx-team: red\r\n", "b": "", "c": "x-team: blue\r\n"}
+            for key in range(3):
+                for group in fields:
+                    server.ask(f"{group}/{key}")
+            told = server.said() + server.get("/metrics")[1]
+    asked = f"HTTP/1.1\r\nhost: 127.0.0.1:{service.port}\r\nuser-agent: peer_front\r\n"
+    wanted = [f"GET /{group}/{key} {asked}{fields[group]}\r\n".encode() for key in range(3) for group in fields]
+    return heads == wanted and service.connections < 9 and "hush" not in told
+
+
 def values_within_the_cache_are_kept():
     caches = [str(ENTRY), str(ENTRY - 1), "0"]
     return [hits_of(), *(hits_of("--cache", cache) for cache in caches)] == [1, 1, 0, 0]
@@ -704,6 +804,9 @@ run_rows(
     [
         asks_are_told_apart,
         groups_add_up,
+        times_are_told,
+        a_value_that_is_given_up_is_told,
+        turns_are_told,
         replies_are_counted_by_their_status,
         connections_come_and_go,
         ends_are_counted_by_why,
@@ -726,6 +829,7 @@ run_rows(
         who_has_nothing_to_do_takes_no_processor,
         no_more_connections_than_by_the_flag,
         a_value_is_late_by_the_flag,
+        requests_have_the_fields_of_their_group,
         values_within_the_cache_are_kept,
         each_server_deals_keys_out_by_a_seed_of_its_own,
         above_the_memory_one_value_is_asked_for,

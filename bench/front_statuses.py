@@ -176,11 +176,26 @@ def groups_file(count):
     return LINES + "".join(f'[groups.g{number:02}]\nurl = "{URL}"\n' for number in range(count))
 
 
-GROUP_KEY = "a group has no such key: url and table are those it may have"
+GROUP_KEY = "a group has no such key: url, table and header are those it may have"
 NO_NAME = "the name of a group has no = and no slash, and is not empty"
 ONE_SOURCE = "url or table is needed, and not both"
 WORD = "a text or a whole number is needed"
 SERVED_ALREADY = "a group of this name is served already"
+TEXTS = 'a list of texts is needed, such as ["Authorization: Bearer @FILE"]'
+NO_VALUE = "its value has a byte that may not stand there"
+OWN_FIELD = "a field of this name is sent already, or is one of the connection"
+# What no line may have: it stands in values of fields alone.
+SECRET = "hush-hush"
+AT_URL = GROUP + f'url = "{URL}"\n'
+TOKEN, NO_TOKEN, LONG_TOKEN = table(f"{SECRET}\r\n".encode()), table(b"\n"), table(SECRET.encode() * 911)
+TWO_TOKENS = table(f"{SECRET}\n{SECRET}\n".encode())
+
+
+def headers_file(*headers):
+    """A file with a group whose requests have these fields, its key in line 5."""
+    return AT_URL + "header = [" + ", ".join(f'"{header}"' for header in headers) + "]\n"
+
+
 BAD_FILES = [
     (LINES + "loops 4\n", "line 2: key with no value, expected `=`"),
     (LINES + "loops = 4\nloops = 4\n", "line 3: duplicate key"),
@@ -233,6 +248,26 @@ BAD_FILES = [
     (LINES + f'[groups.shapes]\ntable = "{GOOD}"\n', "line 3: groups.shapes.table has no such group"),
     (GROUP + f'table = "{GOOD}"\n[groups.g]\ntable = "{TWICE}"\n',
      "line 6: groups.g.table: one table is served, and another one stands elsewhere in the file"),
+    (AT_URL + f'header = "Authorization: {SECRET}"\n', f"line 5: groups.colors.header: {TEXTS}"),
+    (AT_URL + f'header = ["Authorization: {SECRET}", 1]\n', f"line 5: groups.colors.header: {TEXTS}"),
+    (AT_URL + "[groups.colors.header]\n", f"line 5: groups.colors.header: {TEXTS}"),
+    (headers_file(SECRET), 'line 5: groups.colors.header: field 1: a name, a colon and a value are needed, such as "Authorization: Bearer @FILE"'),
+    (headers_file("A: " + SECRET, "B b: " + SECRET), "line 5: groups.colors.header: field 2: its name is no token of letters, digits and !#$%&'*+-.^_`|~"),
+    (headers_file(f"A: {SECRET}\\r\\nB: {SECRET}"), f"line 5: groups.colors.header: field 1: {NO_VALUE}"),
+    (headers_file(f"A: {SECRET}\\u0000"), f"line 5: groups.colors.header: field 1: {NO_VALUE}"),
+    *((headers_file(f"{name}: {SECRET}"), f"line 5: groups.colors.header: field 1: {OWN_FIELD}") for name in (
+        "Host", "user-agent", "Content-Length", "TRANSFER-ENCODING", "Connection", "Keep-Alive", "Proxy-Connection", "TE", "Trailer",
+        "Upgrade", "Expect")),
+    (headers_file("A: @"), "line 5: groups.colors.header: field 1: the name of a file is needed after @"),
+    (headers_file(*["A: " + SECRET] * 17), "line 5: groups.colors.header: there are more than 16 fields"),
+    (GROUP + f'header = ["A: {SECRET}"]\ntable = "{GOOD}"\n', "line 4: groups.colors.header: this is for a group with url"),
+    (headers_file(f"A: {SECRET} @/nothing/here"), "line 5: groups.colors.header /nothing/here: "),
+    (headers_file("A: @/"), "line 5: groups.colors.header /: "),
+    (headers_file(f"A: {SECRET} @{LONG_TOKEN}"), f"line 5: groups.colors.header {LONG_TOKEN}: it has more than 8 KiB"),
+    (headers_file(f"A: {SECRET} @{NO_TOKEN}"), f"line 5: groups.colors.header {NO_TOKEN}: it has nothing"),
+    (headers_file(f"A: {SECRET} @{TWO_TOKENS}"),
+     f"line 5: groups.colors.header {TWO_TOKENS}: it has a byte that may not stand in the value of a field"),
+    (headers_file(*["A: " + SECRET * 110] * 9), "line 5: groups.colors.header has more than 8 KiB in all"),
     (groups_file(65), f"line 131: groups.g64.url {URL}: there are more than 64 groups"),
     (LINES + "#" * 65_536 + "\n", "it has more than 64 KiB"),
 ]
@@ -246,6 +281,9 @@ CHECKED = [
      "would serve at :1, with 2 caches of 1 GiB, about N entries of 100 bytes in each:\ncolors\nb\n"),
     (f'listen = ":1"\ntimeout = "1.5s"\n[groups.b]\nurl = "{URL}"\n', ["a=" + URL, "--timeout", "2", "b=" + URL + "v/"],
      "would serve at :1, with 2 caches of 64 MiB, about N entries of 100 bytes in each:\na\nb\n"),
+    (headers_file(f"Authorization: Bearer {SECRET}", f"X-Token: {SECRET} @{TOKEN}", *["A: " + SECRET * 110] * 8) + f'[groups.b]\nurl = "{URL}"\n', [],
+     "would serve at 127.0.0.1:0, with 2 caches of 64 MiB, about N entries of 100 bytes in each:\nb\ncolors\n  header Authorization, X-Token"
+     + ", A" * 8 + "\n"),
     (groups_file(64), [], "would serve at 127.0.0.1:0, with 64 caches of 64 MiB, about N entries of 100 bytes in each:\n"
      + "".join(f"g{i:02}\n" for i in range(64))),
 ]
@@ -435,7 +473,7 @@ for words, text in STARTS:
 for text, wanted in BAD_FILES:
     path = table(text if isinstance(text, bytes) else text.encode())
     ended, told = ended_at_once(["--config", path])
-    if not ended or not told.startswith(f"peer_front: --config {path}: {wanted}") or not told.endswith("\n"):
+    if not ended or not told.startswith(f"peer_front: --config {path}: {wanted}") or not told.endswith("\n") or SECRET in told:
         failures += 1
         print("file", repr(text[:200]), "status", ended, "told", repr(told), "wanted", repr(wanted))
 

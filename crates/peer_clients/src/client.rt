@@ -21,13 +21,21 @@ use peer_exchange::{End, Exchange};
 use peer_runtime::{Limits, Readiness};
 use peer_site::{Activity, Occupancy, Standing};
 use peer_source::Source;
-use peer_stats::Closing;
+use peer_stats::{Closing, GroupTimes};
 use std::io;
 use std::marker::PhantomData;
 use std::net::Shutdown;
 use std::sync::Wait;
 use std::sync::ledger::Ledger;
 use std::time::Duration;
+
+// The wait of a client for the value of its first ticket: for the fill of which flight, of which group, and since when.
+#[derive(Clone, Copy)]
+struct ValueWait {
+    flight: u64,
+    group: usize,
+    since: Duration,
+}
 
 /// A stream and its connection, and when something came or went last.
 #[derive(Drop)]
@@ -48,6 +56,7 @@ pub struct Client<'a, S: Source, F: Facts<S>> {
     /// Whether it is on the list of those that are to have a turn.
     pub is_ready: bool,
     activity: Activity,
+    wait: Option<ValueWait>,
     ghost source: { F.source ≡ Some exchange.names },
 }
 
@@ -71,6 +80,7 @@ impl<'a, S: Source, F: Facts<S>> Client<'a, S, F> {
             counted: 0,
             is_ready: false,
             activity: Activity::new(now),
+            wait: None,
         }
     }
 
@@ -183,6 +193,31 @@ impl<'a, S: Source, F: Facts<S>> Client<'a, S, F> {
             occupancy.recount(self.counted, counted);
             self.counted = counted;
         }
+    }
+
+    // The wait that begins now, where the first ticket waits for a fill.
+    fn wait_from(&self, now: Duration) -> Option<ValueWait> {
+        let flight = self.awaits()?;
+        let group = self.exchange.first_group()?.number;
+        Some(ValueWait {
+            flight,
+            group,
+            since: now,
+        })
+    }
+
+    /// Counts its wait for a value where it is over behind a turn, and notes where another one begins.
+    pub fn count_wait(&mut self, now: Duration, waits: &GroupTimes) {
+        let begins = self.wait_from(now);
+        if let (Some(wait), Some(next)) = (self.wait, begins) {
+            if wait.flight == next.flight {
+                return;
+            }
+        }
+        if let Some(wait) = self.wait {
+            waits.count(wait.group, now.saturating_sub(wait.since));
+        }
+        self.wait = begins;
     }
 
     /// What it holds is let go.

@@ -22,6 +22,9 @@ use std::time::{Clock, Duration, Instant};
 // The number of its first turn: another than that of sleep.
 const FIRST_TURN: u64 = ASLEEP + 1;
 
+// From when on a turn is told that took longer than the wait behind it could: the system ends a wait some milliseconds late.
+const LATE_MILLIS: u64 = 10;
+
 /// What a loop waits by.
 #[derive(Drop)]
 pub struct Waits {
@@ -111,12 +114,31 @@ impl<'a, S: Source, F: Facts<S>> EventLoop<'a, S, F> {
         }
     }
 
-    // Tells the time. Where clients may be let go by it, all that is there is noted before: of those who asked while the loop
+    // Counts how long the turn took that ends now. The clock is read once a turn: of one behind which the loop could wait so
+    // long, that is known only where it took much longer.
+    fn count_turn(&self, now: Duration, waited: Option<Duration>) {
+        let Some(waited) = waited else {
+            return;
+        };
+        let took = self.turns.since_turn(now).saturating_sub(waited);
+        if waited.is_zero() || took >= Duration::from_millis(LATE_MILLIS) {
+            self.turns.site.slot().count_turn(took);
+        }
+    }
+
+    // Tells the time, behind a wait of so long at most. Where clients may be let go by it, all that is there is noted before: of those who asked while the loop
     // stood still it need not have been told.
-    fn tell_time<H: Clock>(&mut self, rt: &H, begun: Option<Instant>, waits: &mut Waits) {
+    fn tell_time<H: Clock>(
+        &mut self,
+        rt: &H,
+        begun: Option<Instant>,
+        waited: Option<Duration>,
+        waits: &mut Waits,
+    ) {
         let Some(now) = begun.and_then(|begun| begun.elapsed(rt).ok()) else {
             return;
         };
+        self.count_turn(now, waited);
         if self.turns.is_tick(now) {
             self.note_all(waits);
         }
@@ -233,7 +255,7 @@ impl<'a, S: Source, F: Facts<S>> EventLoop<'a, S, F> {
         // Before streams are taken: behind the look none is given, and a loop without clients may have slept for longer than a client
         // may be silent.
         let stops = self.turns.is_to_stop();
-        self.tell_time(rt, begun, waits);
+        self.tell_time(rt, begun, time, waits);
         self.turns.take_streams(rt, waits.poll.registry(), seat);
         if stops {
             self.stop(rt, seat, waits);

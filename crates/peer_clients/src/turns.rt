@@ -159,6 +159,7 @@ impl<'a, S: Source, F: Facts<S>> Turns<'a, S, F> {
         let client = self.clients.each.get_mut(key)?;
         let state = client.turn(rt, seat, self.now, self.site.shared.occupancy);
         client.count_held(self.site.shared.occupancy);
+        client.count_wait(self.now, self.site.shared.counters.waits());
         Some(state)
     }
 
@@ -273,6 +274,11 @@ impl<'a, S: Source, F: Facts<S>> Turns<'a, S, F> {
         }
         self.push_left(rt, seat);
         self.serve_ready(rt, seat);
+    }
+
+    /// How long ago the last turn began, by then.
+    pub fn since_turn(&self, now: Duration) -> Duration {
+        now.saturating_sub(self.now)
     }
 
     /// How long it is until the next tick.

@@ -1,6 +1,7 @@
 //! A key of a file, and what stands for it.
 
 use crate::fault::EntryFault;
+use crate::header::Header;
 use crate::place::GROUPS;
 use peer_flags::{FlagKind, kind_of};
 use std::alloc::{AllocError, Global};
@@ -13,7 +14,9 @@ pub enum Given {
     Word(String),
     Switch(bool),
     Table,
-    /// A list, a date, or a number that is not whole.
+    /// A list of texts.
+    Texts(Vec<String>),
+    /// Another list, a date, or a number that is not whole.
     Other,
 }
 
@@ -26,6 +29,34 @@ pub struct Entry {
     pub is_overridden: bool,
 }
 
+// The most fields of the requests of a group.
+const MAX_FIELDS: usize = 16;
+
+// The texts of a list, if it has nothing else.
+fn texts_of(alloc: Global, values: &[Value]) -> Result<Given, AllocError> {
+    let mut texts = Vec::new(alloc);
+    for value in values {
+        let Value::String(text) = value else {
+            return Ok(Given::Other);
+        };
+        texts.push(String::from_str(alloc, text.as_str())?)?;
+    }
+    Ok(Given::Texts(texts))
+}
+
+// Why these are no fields of requests, if they are none.
+fn headers_fault(texts: &[String]) -> Option<EntryFault> {
+    if texts.len() > MAX_FIELDS {
+        return Some(EntryFault::Fields);
+    }
+    for index in 0..texts.len() {
+        if let Err(fault) = Header::of(texts[index].as_str()) {
+            return Some(EntryFault::Header(index.saturating_add(1), fault));
+        }
+    }
+    None
+}
+
 impl Entry {
     // The entry of a key and its value.
     fn of(alloc: Global, key: &str, value: &Value) -> Result<Entry, AllocError> {
@@ -34,6 +65,7 @@ impl Entry {
             Value::Integer(number) => Given::Word(number.to_string(alloc)?),
             Value::Boolean(is_on) => Given::Switch(*is_on),
             Value::Table(_) => Given::Table,
+            Value::Array(values) => texts_of(alloc, values.as_slice())?,
             _ => Given::Other,
         };
         let key = String::from_str(alloc, key)?;
@@ -48,6 +80,14 @@ impl Entry {
     pub fn word(&self) -> Option<&str> {
         match &self.given {
             Given::Word(word) => Some(word.as_str()),
+            _ => None,
+        }
+    }
+
+    /// The texts that stand for the key, if they do.
+    pub fn texts(&self) -> Option<&[String]> {
+        match &self.given {
+            Given::Texts(texts) => Some(texts.as_slice()),
             _ => None,
         }
     }
@@ -75,6 +115,12 @@ impl Entry {
     /// Why it can be no key of a group, if it cannot.
     pub(crate) fn group_fault(&self) -> Option<EntryFault> {
         let key = self.key.as_str();
+        if key == "header" {
+            return match self.texts() {
+                Some(texts) => headers_fault(texts),
+                None => Some(EntryFault::Texts),
+            };
+        }
         if key != "url" && key != "table" {
             Some(EntryFault::GroupKey)
         } else if self.word().is_none() {
@@ -82,6 +128,11 @@ impl Entry {
         } else {
             None
         }
+    }
+
+    /// Whether it is a key of a group whose values a service has, and of no other.
+    pub(crate) fn is_for_services(&self) -> bool {
+        self.key.as_str() == "header"
     }
 }
 

@@ -1,5 +1,6 @@
 //! Files that cannot be used.
 
+use crate::header::HeaderFault;
 use crate::place::Place;
 use std::fmt;
 use std::fmt::{Display, Formatter};
@@ -39,8 +40,17 @@ pub enum EntryFault {
     Group,
     #[error("the name of a group has no = and no slash, and is not empty")]
     Name,
-    #[error("a group has no such key: url and table are those it may have")]
+    #[error("a group has no such key: url, table and header are those it may have")]
     GroupKey,
+    #[error("a list of texts is needed, such as [\"Authorization: Bearer @FILE\"]")]
+    Texts,
+    #[error("there are more than 16 fields")]
+    Fields,
+    /// One of the fields, by its number.
+    #[error("field {0}: {1}")]
+    Header(usize, HeaderFault),
+    #[error("this is for a group with url")]
+    ForServices,
     #[error("url or table is needed, and not both")]
     OneSource,
     #[error("one table is served, and another one stands elsewhere in the file")]

@@ -36,16 +36,23 @@ impl Group {
         word_in(self.entries.as_slice(), "table")
     }
 
+    /// The fields that its requests have besides the usual ones, if some stand here.
+    pub fn headers(&self) -> Option<&[String]> {
+        for entry in self.entries.iter() {
+            if entry.key.as_str() == "header" {
+                return entry.texts();
+            }
+        }
+        None
+    }
+
     /// Notes whether a command line names its URL, or a table.
     pub(crate) fn note_given(&mut self, matches: &ArgMatches<'_>) {
         let has_url = is_given_group(matches, self.name.as_str());
         let has_table = is_given(matches, "table");
         for entry in self.entries.iter_mut() {
-            entry.is_overridden = if entry.key.as_str() == "url" {
-                has_url
-            } else {
-                has_table
-            };
+            let key = entry.key.as_str();
+            entry.is_overridden = key == "url" && has_url || key == "table" && has_table;
         }
     }
 
@@ -69,6 +76,21 @@ impl Group {
         }
     }
 
+    // A key that a group in a table has not, if it is one and has such a key.
+    fn for_services(&self) -> Option<BadEntry<'_>> {
+        let name = self.name.as_str();
+        self.table()?;
+        for entry in self.entries.iter() {
+            if entry.is_for_services() {
+                return Some(BadEntry {
+                    place: Place::OfGroup(name, entry.key.as_str()),
+                    fault: EntryFault::ForServices,
+                });
+            }
+        }
+        None
+    }
+
     /// What cannot be used in it, if something cannot.
     pub(crate) fn bad_entry(&self) -> Option<BadEntry<'_>> {
         let name = self.name.as_str();
@@ -85,7 +107,7 @@ impl Group {
                 place: Place::Group(name),
                 fault,
             }),
-            None => None,
+            None => self.for_services(),
         }
     }
 }

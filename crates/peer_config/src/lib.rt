@@ -9,6 +9,7 @@ mod entry;
 mod fault;
 mod given;
 mod group;
+mod header;
 mod place;
 mod words;
 
@@ -16,5 +17,6 @@ pub use config::Config;
 pub use entry::{Entry, Given};
 pub use fault::{BadEntry, EntryFault, NoConfig};
 pub use group::Group;
+pub use header::{Header, HeaderFault};
 pub use place::{Place, line_of};
 pub use words::words_of;

@@ -1,6 +1,7 @@
 -- What would let an exchange go on.
 use Rattle.std.specs.Prelude.{◌≡◌, ℕ, Option, None, Some, true, false, ◌&&◌, not, ◌==◌, List, [], ◌∷◌, length}
 use Rattle.std.specs.VecDeque.{deque_len}
+use Rattle.peer_flight.specs.Claims.{claim_place}
 use Rattle.peer_flight.specs.declared.claim.Claim.TheVariants.{Pending}
 use Rattle.peer_wish.specs.declared.ticket.Body.{Body}
 use Rattle.peer_wish.specs.declared.ticket.Body.TheVariants.{Claim}
@@ -29,6 +30,16 @@ flight_number _ = None
 abbrev pub first_flight : {S : Type 0} → List (Ticket S) → Option ℕ
 first_flight [] = None
 first_flight (t ∷ ts) = flight_number t.body
+
+-- the group that a ticket's body asks for, where it gets a value
+abbrev pub group_of : {S : Type 0} → Body S → Option ℕ
+group_of (Claim claim) = Some (claim_place claim).group
+group_of _ = None
+
+-- that of the first ticket
+abbrev pub first_group : {S : Type 0} → List (Ticket S) → Option ℕ
+first_group [] = None
+first_group (t ∷ ts) = group_of t.body
 
 -- nothing would
 abbrev pub no_rest : Rest

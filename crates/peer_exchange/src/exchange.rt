@@ -12,7 +12,7 @@ use crate::intake::GivenUp;
 use crate::reply_counts::ReplyCounts;
 use crate::rest::Rest;
 use peer_fill::{ConnSeat, Pool};
-use peer_source::{FunctionalSource, Names, Source};
+use peer_source::{FunctionalSource, GroupId, Names, Source};
 use peer_view::History;
 use peer_wish::End;
 use std::alloc::Global;
@@ -42,7 +42,7 @@ fn and_first(history: &History, n: usize, first: &[u8], second: &[u8]) -> Histor
 }
 
 impl<'p, S: Source> Exchange<'p, S> {
-    ghost use Rattle.std.specs.Prelude.{◌≡◌, ◌≤◌, ◌+◌, true, [], ◌++◌, length, min, take, Some, IfErr, IfOk, IfSome, OnOk};
+    ghost use Rattle.std.specs.Prelude.{◌≡◌, ◌≤◌, ◌+◌, true, [], ◌++◌, length, min, option_map, take, Some, IfErr, IfOk, IfSome, OnOk};
     ghost use Rattle.peer_fill.specs.Claiming.{KeepsSeat};
     ghost use Rattle.peer_fill.specs.Pools.{source_of, IsConnSeatOf};
     ghost use Rattle.peer_fill.specs.Seats.{asks_of, left_of};
@@ -56,7 +56,7 @@ impl<'p, S: Source> Exchange<'p, S> {
     ghost use Rattle.peer_exchange.specs.Histories.{Came, KeepsHistories};
     ghost use Rattle.peer_exchange.specs.Holdings.{Holds};
     ghost use Rattle.peer_exchange.specs.Intakes.{GoesOn, IsGivenUpFor, told};
-    ghost use Rattle.peer_exchange.specs.Rests.{RestsAt, first_flight, rest_of};
+    ghost use Rattle.peer_exchange.specs.Rests.{RestsAt, first_flight, first_group, rest_of};
 
     /// No byte came, and none was sent. It takes no memory yet.
     pub fn new(alloc: Global, names: Names<'p, S>) -> Exchange<'p, S>
@@ -227,6 +227,13 @@ impl<'p, S: Source> Exchange<'p, S> {
         ensures { IfSome result (λ number. first_flight self.now.state.waiting.items ≡ Some number) }
     {
         self.state.awaits()
+    }
+
+    /// The group that the first ticket asks for, none where no ticket waits, or the first gets no value.
+    pub fn first_group(&self) -> Option<GroupId>
+        ensures { option_map (λ group. group.number) result ≡ first_group self.now.state.waiting.items }
+    {
+        self.state.first_group()
     }
 
     /// How many bytes it holds for the client, beside those that came and are not judged: those that are to be sent, and

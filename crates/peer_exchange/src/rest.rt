@@ -6,7 +6,7 @@ ghost use Rattle.std.specs.Prelude.{◌≡◌};
 use crate::exchange_state::ExchangeState;
 use crate::intake::{GivenUp, Stage};
 use peer_flight::Claim;
-use peer_source::{FunctionalSource, Source};
+use peer_source::{FunctionalSource, GroupId, Source};
 use peer_wish::{Body, End};
 
 /// What would let an exchange go on, once what it holds was judged. Where it is nothing, the exchange is over.
@@ -23,9 +23,9 @@ pub struct Rest {
 }
 
 impl<S: Source> ExchangeState<S> {
-    ghost use Rattle.std.specs.Prelude.{◌≡◌, ℕ, List, [], Option, Some, IfSome};
+    ghost use Rattle.std.specs.Prelude.{◌≡◌, ℕ, List, [], Option, Some, IfSome, option_map};
     ghost use Rattle.peer_wish.specs.Allowed.{allows};
-    ghost use Rattle.peer_exchange.specs.Rests.{first_flight, rest_of};
+    ghost use Rattle.peer_exchange.specs.Rests.{first_flight, first_group, rest_of};
     ghost use Rattle.peer_exchange.specs.ExchangeEnds.{IsEndAt, SaysEnd};
 
     /// What would let it go on, once what is held was judged.
@@ -51,6 +51,16 @@ impl<S: Source> ExchangeState<S> {
         match flight.look(&mut note) {
             Some(_) => None,
             None => Some(flight.number()),
+        }
+    }
+
+    /// The group that the first ticket asks for, none where no ticket waits, or the first gets no value.
+    pub(crate) fn first_group(&self) -> Option<GroupId>
+        ensures { option_map (λ group. group.number) result ≡ first_group self.now.waiting.items }
+    {
+        match &self.waiting.front()?.body {
+            Body::Claim(claim) => Some(claim.group()),
+            Body::Fault(_) => None,
         }
     }
 

@@ -86,6 +86,11 @@ impl<'a, S: Source, H: Network + Wires> Fetcher<'a, S, H> {
         self.shares.total() == 0 && self.waiting.count() == 0
     }
 
+    /// How late it is, since the thread began, by the last look at the clock.
+    pub fn now(&self) -> Duration {
+        self.connections.now()
+    }
+
     /// How many values wait.
     pub fn waiting_count(&self) -> usize {
         self.waiting.count()
@@ -138,6 +143,8 @@ impl<'a, S: Source, H: Network + Wires> Fetcher<'a, S, H> {
     fn start(&mut self, system: &System<'_, H>, under: UnderWay<'a, S>) -> Option<Done<'a, S>>
         ensures { IfSome result (IsDoneOn H.carried) }
     {
+        let mut under = under;
+        under.note_begun(self.connections.now());
         let number = under.number();
         if self.read_addresses(system, &under).is_err() {
             return Some(under.done(Err(FetchFault::Memory)));
@@ -173,7 +180,7 @@ impl<'a, S: Source, H: Network + Wires> Fetcher<'a, S, H> {
         let service = self.shares.service(at.number());
         let has_room = self.shares.has_room(service);
         let due = now.saturating_add(self.time_of(has_room));
-        match UnderWay::begin(self.alloc, at, job, due) {
+        match UnderWay::begin(self.alloc, at, job, now, due) {
             Ok(under) if has_room => self.start(system, under),
             Ok(under) => self.waiting.push(service, under),
             Err(done) => Some(done),

@@ -13,7 +13,7 @@ ghost use Rattle.peer_fetch.specs.Fetchers.{MayTakeJob};
 ghost use Rattle.peer_fetch.specs.Threads.{Allows, IsLaterSeat};
 
 use crate::fetcher::Fetcher;
-use crate::noted::note_done;
+use crate::noted::{note_done, note_times};
 use crate::opening::System;
 use crate::settings::FetchPlan;
 use peer_fill::{FillSeat, Gate, Pool, TakenJob};
@@ -23,6 +23,7 @@ use peer_source::{Outcome, Source};
 use peer_value::Done;
 use std::alloc::Global;
 use std::sync::ledger::Ledger;
+use std::time::Duration;
 
 // How many jobs are taken in one turn.
 const JOBS_OF_TURN: usize = 1024;
@@ -57,12 +58,13 @@ fn fill<'a, S: Source, L: Ledger, G: Gate, H: Network + Wires>(
     }
 }
 
-// Fills the flight of a job whose value was fetched, or was not, and notes which.
+// Fills the flight of a job whose value was fetched, or was not, by now, and notes which.
 fn fill_done<'a, S: Source, L: Ledger, G: Gate, H: Network + Wires>(
     rt: &H,
     jobs: &Jobs<'_, 'a, S, L, G>,
     seat: &mut FillSeat<S, L>,
     done: Option<Done<'a, S>>,
+    now: Duration,
 )
     requires seat { IsFillSeatOf jobs.now.pool.now seat.old }
     requires answers { Allows H.carried (S.answers (source_of jobs.now.pool.now)) jobs.now.plan }
@@ -74,8 +76,10 @@ fn fill_done<'a, S: Source, L: Ledger, G: Gate, H: Network + Wires>(
     };
     let fault = done.fault();
     let endpoint = done.endpoint();
+    let times = done.times();
     let (job, outcome) = done.settle::<H>(jobs.alloc);
     note_done(rt, jobs.plan.failures, &job, fault);
+    note_times(jobs.plan.times, &job, times, now);
     fill(rt, jobs, seat, endpoint, job, outcome);
 }
 
@@ -98,7 +102,7 @@ fn take_job<'a, S: Source, L: Ledger, G: Gate, H: Network + Wires>(
     match jobs.plan.endpoints.of(group) {
         Some(at) => {
             let done = fetcher.begin(system, at, job);
-            fill_done(system.rt, jobs, seat, done);
+            fill_done(system.rt, jobs, seat, done, fetcher.now());
         }
         None => jobs
             .pool
@@ -144,7 +148,7 @@ pub fn serve_waiting<'a, S: Source, L: Ledger, G: Gate, H: Network + Wires>(
             return;
         };
         let done = fetcher.go_on(system, under);
-        fill_done(system.rt, jobs, seat, done);
+        fill_done(system.rt, jobs, seat, done, fetcher.now());
     }
 }
 
@@ -164,6 +168,6 @@ pub fn serve_ready<'a, S: Source, L: Ledger, G: Gate, H: Network + Wires>(
             return;
         };
         let done = fetcher.turn(system, key);
-        fill_done(system.rt, jobs, seat, done);
+        fill_done(system.rt, jobs, seat, done, fetcher.now());
     }
 }

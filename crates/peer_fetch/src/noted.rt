@@ -3,8 +3,10 @@
 use peer_fill::TakenJob;
 use peer_origin::FetchFault;
 use peer_source::Source;
-use peer_stats::{FailureSlots, KeyStart, LastFailure, OriginFailure};
+use peer_stats::{FailureSlots, FetchTimes, KeyStart, LastFailure, OriginFailure};
+use peer_value::Times;
 use std::sync::Wait;
+use std::time::Duration;
 
 // The status that a service answered, if it answered one.
 fn status_of(fault: FetchFault) -> Option<u16> {
@@ -38,5 +40,14 @@ pub fn note_done<S: Source, H: Wait>(
             };
             failures.note(rt, group, kind, last);
         }
+    }
+}
+
+/// Counts how long the value of a job waited until it was under way, or was given up, and how long it was under way.
+pub fn note_times<S: Source>(counts: &FetchTimes, job: &TakenJob<S>, times: Times, now: Duration) {
+    let until = times.begun.unwrap_or(now);
+    counts.count_queued(until.saturating_sub(times.taken));
+    if let Some(begun) = times.begun {
+        counts.count_under_way(job.group().number, now.saturating_sub(begun));
     }
 }

@@ -2,7 +2,7 @@
 ghost use Rattle.std.specs.Prelude.{◌≡◌};
 
 use peer_origin::FetchSettings;
-use peer_stats::FailureSlots;
+use peer_stats::{FailureSlots, FetchTimes};
 use peer_value::Endpoints;
 use std::time::Duration;
 
@@ -39,4 +39,6 @@ pub struct FetchPlan<'a> {
     pub settings: FetchThreadSettings,
     /// Where is noted why an origin gave no value.
     pub failures: &'a FailureSlots,
+    /// Where is counted how long values took.
+    pub times: &'a FetchTimes,
 }

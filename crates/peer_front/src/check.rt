@@ -5,26 +5,58 @@ use crate::exit::{DONE, Exit, OUT_OF_MEMORY, no_output, refuse};
 use crate::facts::served_groups;
 use peer_flags::Options;
 use peer_groups::FrontSource;
-use peer_origin::Wires;
+use peer_origin::{Endpoint, Wires};
+use peer_source::Source;
 use peer_stats::ServedGroup;
 use std::io;
 use std::io::Write;
+
+// The groups that would be served, and the endpoints of those that services have, from a number on.
+#[derive(Clone, Copy)]
+struct Asked<'a> {
+    groups: &'a [ServedGroup],
+    first: usize,
+    each: &'a [Endpoint],
+}
+
+// Writes the names of the fields that the requests of a group have besides the usual ones, and none of their values.
+fn write_fields<W: Write>(writer: &mut W, endpoint: &Endpoint) -> io::Result<()> {
+    let mut before = b"\n  header ".as_slice();
+    for field in endpoint.own.fields.iter() {
+        writer.write_all(before)?;
+        writer.write_all(field.name())?;
+        before = b", ".as_slice();
+    }
+    Ok(())
+}
+
+// Writes the name of the group with this number, and what is set of it.
+fn write_group<W: Write>(writer: &mut W, asked: &Asked<'_>, number: usize) -> io::Result<()> {
+    if let Some(group) = asked.groups.get(number) {
+        writer.write_all(group.name.as_slice())?;
+    }
+    if let Some(index) = number.checked_sub(asked.first) {
+        if let Some(endpoint) = asked.each.get(index) {
+            write_fields(writer, endpoint)?;
+        }
+    }
+    writer.write_all(b"\n")
+}
 
 // Says where and how these groups would be served.
 fn say_groups<H: AllocGlobal + Print>(
     rt: &H,
     options: &Options<'_>,
-    groups: &[ServedGroup],
+    asked: &Asked<'_>,
 ) -> io::Result<()> {
     println!(rt;
         "would serve at {}, with {}:",
         options.listen,
-        CachesSaid::of(options, groups.len())
+        CachesSaid::of(options, asked.groups.len())
     )?;
     let mut writer = io::writer(rt);
-    for group in groups {
-        writer.write_all(group.name.as_slice())?;
-        writer.write_all(b"\n")?;
+    for number in 0..asked.groups.len() {
+        write_group(&mut writer, asked, number)?;
     }
     writer.flush()
 }
@@ -36,10 +68,17 @@ pub fn say_checked<H: AllocGlobal + Print + Eprint + Wires + Sync>(
     source: &FrontSource<'_, H>,
     words: &[&str],
 ) -> Exit {
-    let Some(groups) = served_groups(rt.alloc(), source, words, options) else {
+    let services = source.first();
+    let groups = served_groups(rt.alloc(), source, words, options);
+    let (Some(groups), Ok(each)) = (groups, services.second().endpoints(rt.alloc())) else {
         return refuse(rt, &"out of memory", OUT_OF_MEMORY);
     };
-    match say_groups(rt, options, groups.as_slice()) {
+    let asked = Asked {
+        groups: groups.as_slice(),
+        first: services.first().group_count(),
+        each: each.as_slice(),
+    };
+    match say_groups(rt, options, &asked) {
         Ok(()) => DONE,
         Err(error) => no_output(rt, &error),
     }

@@ -96,8 +96,8 @@ pub fn check_entries<H: AllocGlobal + Eprint>(
 }
 
 impl<'a> ConfigFile<'a> {
-    // Says what is wrong at a place of it.
-    fn say<T: Display, H: AllocGlobal + Eprint>(&self, rt: &H, place: Place<'_>, why: &T) {
+    /// Says what is wrong at a place of it.
+    pub fn say<T: Display, H: AllocGlobal + Eprint>(&self, rt: &H, place: Place<'_>, why: &T) {
         let line = line_of(rt.alloc(), self.text, place);
         let _ = eprintln!(rt;
             "peer_front: --config {}: line {line}: {place} {why}",

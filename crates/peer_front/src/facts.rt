@@ -40,6 +40,7 @@ pub fn facts_of<'a>(
     let fetchers = if has_services { options.fetchers } else { 0 };
     ServerFacts {
         groups,
+        loops: options.loops,
         bounds: ServerBounds {
             connections: options.connections as u64,
             under_way: fetchers.saturating_mul(options.under_way) as u64,

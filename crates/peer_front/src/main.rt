@@ -13,6 +13,7 @@ mod facts;
 mod failing;
 mod files;
 mod grown;
+mod headers;
 mod listen;
 mod log;
 mod names;

@@ -214,7 +214,12 @@ fn serve<
     };
     let plan = if has_services {
         let fetch = fetch_settings(options);
-        let plan = fetched.plan(fetch, options.under_way, counters.failures());
+        let plan = fetched.plan(
+            fetch,
+            options.under_way,
+            counters.failures(),
+            counters.fetch_times(),
+        );
         say_prefixes(rt, words, plan.endpoints.each);
         Some(plan)
     } else {

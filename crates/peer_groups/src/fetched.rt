@@ -8,7 +8,7 @@ use crate::beside::Beside;
 use peer_fetch::{FetchPlan, FetchThreadSettings};
 use peer_origin::{Endpoint, FetchSettings, OriginSource, Wires};
 use peer_source::Source;
-use peer_stats::FailureSlots;
+use peer_stats::{FailureSlots, FetchTimes};
 use peer_value::Endpoints;
 use std::alloc::Global;
 
@@ -27,6 +27,7 @@ impl Fetched {
         fetch: FetchSettings,
         under_way: usize,
         failures: &'a FailureSlots,
+        times: &'a FetchTimes,
     ) -> FetchPlan<'a>
         ensures first { result.endpoints.first ≡ self.now.first }
         ensures each { result.endpoints.each.now ≡ self.now.each.items }
@@ -42,6 +43,7 @@ impl Fetched {
             },
             settings: FetchThreadSettings::new(fetch, under_way),
             failures,
+            times,
         }
     }
 }

@@ -1,6 +1,6 @@
 -- A reply, read as its bytes come.
 use mathlib.Core.Logic.{∥∥₁_map}
-use Rattle.std.proofs.Common.{Bool, true, false, true≢false, ◌≡◌, ◌≢◌, ℕ, ◌≤◌, ◌==◌, ◌&&◌, ◌↔◌, ◌∷◌, length, IsTrue, IfErr, IfOk, IfSome, List, [], ◌++◌, drop, Option, Some, None, Result, Ok, Err, sym, refl, ap, ◌∙◌, subst, subst₂, append_assoc, append-nil, arith}
+use Rattle.std.proofs.Common.{Bool, true, false, true≢false, ◌≡◌, ◌≢◌, ℕ, ◌==◌, ◌&&◌, ◌↔◌, ◌∷◌, length, IsTrue, List, [], ◌++◌, drop, Some, None, Ok, sym, refl, ap, ◌∙◌, subst, subst₂, append_assoc, append-nil, arith}
 use Rattle.http1.specs.declared.client.Client.{Client}
 use Rattle.http1.specs.declared.conn.Reading.TheVariants as Reads
 use Rattle.http1.specs.declared.decode.Decoder.{Decoder}

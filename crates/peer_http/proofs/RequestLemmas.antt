@@ -1,4 +1,4 @@
--- The request that the client of HTTP writes is the text for a host and a target, and the client behind it.
+-- The request that the client of HTTP writes, without fields of a group, and the client behind it.
 use Rattle.std.proofs.Common.{◌≡◌, ℕ, List, [], ◌∷◌, ◌++◌, codes, append_assoc, append-nil, ap, ◌∙◌, refl, subst, sym, Result, Ok, Err}
 use Rattle.http1.specs.declared.client.Client.{Client}
 use Rattle.http1.specs.declared.conn.BodySize.TheVariants.{Empty}
@@ -8,7 +8,8 @@ use Rattle.http1.specs.Client.{new_client, planned_request, after_request, reque
 use Rattle.http1.specs.Conn.{Plan, finish_text}
 use Rattle.http1.specs.Fields.{Header, known_fields}
 use Rattle.http1.specs.Text.{eq_ignore_case}
-use Rattle.peer_http.specs.Requests.{LIMITS, Awaits, crlf, request_for}
+use Rattle.peer_http.specs.Fields.{crlf}
+use Rattle.peer_http.specs.Requests.{LIMITS, Awaits, head_for}
 
 -- the fields of a request
 abbrev pub headers_for : List ℕ → List Header
@@ -29,7 +30,7 @@ nested a b c d = simp append_assoc
 all_nested : (g a h b u c d : List ℕ) → g ++ a ++ h ++ b ++ u ++ c ++ d ≡ g ++ (a ++ (h ++ (b ++ (u ++ (c ++ d)))))
 all_nested g a h b u c d = simp append_assoc
 
-pub written_is : (host target : List ℕ) → written_for host target ≡ request_for host target
+pub written_is : (host target : List ℕ) → written_for host target ≡ head_for host target ++ crlf
 unfolding print_request plan_fields known_fields eq_ignore_case
 written_is host target =
     let line : List ℕ = codes "GET " ++ target ++ codes " HTTP/1.1" ++ crlf in

@@ -1,5 +1,5 @@
 -- The reply that a text begins with: interim responses, and then the final one.
-use Rattle.std.specs.Prelude.{◌≡◌, ◌≢◌, ℕ, Bool, true, false, ◌<◌, ◌≤◌, List, [], ◌++◌, drop, length, map, take}
+use Rattle.std.specs.Prelude.{◌≡◌, ◌≢◌, ℕ, Bool, true, false, ◌<◌, ◌≤◌, List, [], ◌++◌, drop, map, take}
 use Rattle.std.specs.Prelude.{Result, Ok, Err}
 use Rattle.httparse.specs.Grammar.{Field, ResponseHead, status_code}
 use Rattle.httparse.specs.Spans.{header_bytes}

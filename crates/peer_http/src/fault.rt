@@ -34,6 +34,19 @@ pub(crate) enum Fault {
     Memory,
 }
 
+/// Why a name and a value are no field that may be added to a request.
+#[derive(Clone, Copy, Debug, PartialEq, Eq)]
+pub enum FieldFault {
+    /// The name is no token.
+    Name,
+    /// A field of this name is set by whoever sends the request, or is one of the connection.
+    Own,
+    /// The value has a byte that may not stand in one.
+    Value,
+    /// Memory was refused.
+    Memory,
+}
+
 /// What a fault within a reply is for the caller.
 pub(crate) fn reply_fault(fault: Fault) -> ReplyFault
     ensures silent { result ≢ told.Silent }

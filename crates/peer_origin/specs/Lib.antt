@@ -3,6 +3,7 @@ pub mod Fetches
 pub mod Kinds
 pub mod Origins
 pub mod Endpoints
+pub mod Settings
 pub mod Targets
 pub mod Texts
 pub mod Wires

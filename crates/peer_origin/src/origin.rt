@@ -1,10 +1,11 @@
 //! The origin of one group.
 ghost use Rattle.std.specs.Prelude.{◌≡◌, OnOk, bytes_eq};
 ghost use Rattle.std.specs.Bool.{OnFalse, OnTrue};
-ghost use Rattle.peer_origin.specs.Endpoints.{addresses_of, asked_at};
+ghost use Rattle.peer_origin.specs.Endpoints.{addresses_of, asked_at, own_of};
 
 use crate::endpoint::Endpoint;
-use std::alloc::AllocError;
+use crate::group_settings::GroupSettings;
+use std::alloc::{AllocError, Global};
 use std::sync::Arc;
 
 /// The origin of one group.
@@ -15,6 +16,9 @@ pub struct Origin {
 }
 
 impl Origin {
+    ghost use Rattle.std.specs.Arc.{arc_value};
+    ghost use Rattle.peer_origin.specs.Settings.{IsSetTo};
+
     /// The origin of a group of this name.
     pub fn new(name: Vec<u8>, endpoint: Endpoint) -> Origin
         ensures name { result.name ≡ name }
@@ -30,10 +34,18 @@ impl Origin {
         self.name == other.name
     }
 
+    /// Has these settings be those of its group.
+    pub fn set(&mut self, own: Arc<GroupSettings, Global>)
+        ensures { IsSetTo (arc_value own) self.old self.new }
+    {
+        self.endpoint.own = own;
+    }
+
     /// Where both are at one host, it has the addresses of the other one, whose name is then looked up for both at once.
     pub fn share_addresses(&mut self, other: &Origin) -> Result<(), AllocError>
         ensures name { self.new.name ≡ self.old.name }
         ensures asked { asked_at self.new.endpoint ≡ asked_at self.old.endpoint }
+        ensures settings { own_of self.new.endpoint ≡ own_of self.old.endpoint }
         ensures shared { OnOk result (OnTrue (bytes_eq self.old.endpoint.host.items other.now.endpoint.host.items)
             (addresses_of self.new.endpoint ≡ addresses_of other.now.endpoint)) }
         ensures own { OnFalse (bytes_eq self.old.endpoint.host.items other.now.endpoint.host.items)

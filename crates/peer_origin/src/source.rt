@@ -1,16 +1,21 @@
 //! The source over origins.
-ghost use Rattle.std.specs.Prelude.{◌≡◌, ◌+◌, ◌<◌, ◌≤◌, length, drop, option_map, slice_get};
+ghost use Rattle.std.specs.Arc.{arc_value};
+ghost use Rattle.std.specs.Prelude.{◌≡◌, ◌≢◌, ◌+◌, ◌<◌, ◌≤◌, ℕ, length, drop, option_map, slice_get, slice_index_or};
 ghost use Rattle.peer_origin.specs.Fetched.{AnswersFrom, answer_within, answered_at};
 ghost use Rattle.peer_origin.specs.Origins.{IsOriginAnswer, number_from, origin_limited, origin_numbered};
+ghost use Rattle.peer_origin.specs.Settings.{IsSetTo, SetsGroup};
+ghost use Rattle.peer_origin.specs.declared.origin.Origin.{Origin};
 
 use crate::endpoint::Endpoint;
 use crate::fault::{FetchFault, get_fault};
+use crate::group_settings::GroupSettings;
 use crate::origin::Origin;
 use crate::wires::Wires;
 use peer_source::{GetResult, GroupId, Source};
 use peer_view::AllocSink;
 use std::alloc::{AllocError, Global};
 use std::marker::PhantomData;
+use std::sync::Arc;
 
 /// A source of what origins answer on connections of a network, one for each group. It names the groups, and says what their
 /// values may be; threads of their own fetch these (`peer_fetch`).
@@ -58,6 +63,28 @@ fn find(origins: &[Origin], name: &[u8]) -> Option<GroupId>
         number += 1;
     }
     None
+}
+
+// Has these settings be those of the group of the origin at this index.
+fn set_at(origins: &mut [Origin], index: usize, own: Arc<GroupSettings, Global>)
+    requires { index < length origins.old }
+    ensures own { (d : Origin) → IsSetTo (arc_value own) (slice_index_or origins.old index d) (slice_index_or origins.new index d) }
+    ensures others { (k : ℕ) (d : Origin) → k ≢ index → slice_index_or origins.new k d ≡ slice_index_or origins.old k d }
+{
+    origins[index].set(own);
+}
+
+/// Has these settings be those of the group with this name. Whether there is such a group.
+pub fn set_group(origins: &mut [Origin], name: &[u8], own: Arc<GroupSettings, Global>) -> bool
+    ensures { SetsGroup name.now (arc_value own) origins.old origins.new }
+{
+    match find(origins, name) {
+        Some(group) => {
+            set_at(origins, group.number, own);
+            true
+        }
+        None => false,
+    }
 }
 
 impl<'a, H: Wires + Sync> Source for OriginSource<'a, H> {

@@ -21,6 +21,14 @@ abbrev pub hundredths_text : ℕ → List ℕ
 hundredths_text value =
     decimal (value / 100) ++ codes "." ++ (digit_char (value / 10 % 10) ∷ digit_char (value % 10) ∷ []) ++ codes "\n"
 
+-- the last three digits of a number
+abbrev pub three_digits : ℕ → List ℕ
+three_digits value = digit_char (value / 100 % 10) ∷ digit_char (value / 10 % 10) ∷ digit_char (value % 10) ∷ []
+
+-- so many microseconds, in seconds
+abbrev pub seconds_text : ℕ → List ℕ
+seconds_text micros = decimal (micros / 1000000) ++ codes "." ++ three_digits (micros / 1000) ++ three_digits micros ++ codes "\n"
+
 -- a number with its name
 abbrev pub sample_text : List ℕ → ℕ → List ℕ
 sample_text name value = name ++ codes " " ++ number_text value

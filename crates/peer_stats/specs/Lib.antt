@@ -2,8 +2,10 @@ pub mod Answers
 pub mod Families
 pub mod Groups
 pub mod Labels
+pub mod Latencies
 pub mod Looks
 pub mod Pages
 pub mod Starts
 pub mod States
 pub mod Sums
+pub mod Times

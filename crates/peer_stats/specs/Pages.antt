@@ -3,6 +3,7 @@ use Rattle.std.specs.Prelude.{ℕ, ◌-◌, List, [], ◌++◌, Bool, Option, So
 use Rattle.peer_stats.specs.Families.{bound_text, counter_text, family_text, gauge_text, hundredths_text, labelled_text}
 use Rattle.peer_stats.specs.Groups.{groups_text}
 use Rattle.peer_stats.specs.Labels.{label_text}
+use Rattle.peer_stats.specs.Latencies.{latencies_text}
 use Rattle.peer_stats.specs.declared.counts.LoopCounts.{LoopCounts}
 use Rattle.peer_stats.specs.declared.counts.FillerCounts.{FillerCounts}
 use Rattle.peer_stats.specs.declared.counts.AcceptCounts.{AcceptCounts}
@@ -15,6 +16,7 @@ use Rattle.peer_stats.specs.declared.numbers.Build.{Build}
 use Rattle.peer_stats.specs.declared.numbers.Numbers.{Numbers}
 use Rattle.peer_stats.specs.declared.numbers.ProcessCounts.{ProcessCounts}
 use Rattle.peer_stats.specs.declared.numbers.ServerBounds.{ServerBounds}
+use Rattle.peer_stats.specs.declared.times.LoopTurns.{LoopTurns}
 
 -- the version of the program, and the logic of its toolchain
 abbrev pub build_text : Build → List ℕ
@@ -143,6 +145,7 @@ counts_text c =
     ++ closes_text c.closes ++ replies_text c.replies ++ failures_text c.failures
 
 -- the whole page
-abbrev pub page_text : Numbers → List GroupCounts → Build → List ℕ
-page_text n groups build =
-    build_text build ++ counts_text n.counts ++ groups_text groups ++ bounds_text n.bounds ++ held_text n ++ some_process_text n.process
+abbrev pub page_text : Numbers → List GroupCounts → List LoopTurns → Build → List ℕ
+page_text n groups turns build =
+    build_text build ++ counts_text n.counts ++ groups_text groups ++ latencies_text n.counts.queued groups turns
+    ++ bounds_text n.bounds ++ held_text n ++ some_process_text n.process

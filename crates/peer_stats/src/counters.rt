@@ -1,5 +1,5 @@
 //! What all threads of a server share to count.
-ghost use Rattle.std.specs.Prelude.{◌≡◌, IfOk, map};
+ghost use Rattle.std.specs.Prelude.{◌≡◌, IfOk, length, map, min};
 
 use crate::counts::{
     AskCounts, CloseCounts, Counts, FillerCounts, GroupCounts, LoopCounts, ReplyCounts,
@@ -8,6 +8,8 @@ use crate::facts::ServedGroup;
 use crate::slots::{AcceptSlot, CacheSlot, FailureSlots, FillerSlot, LoopSlot, MAX_GROUPS};
 use crate::state::Stage;
 use crate::still::Looks;
+use crate::time_slots::{FetchTimes, GroupTimes};
+use crate::times::LoopTurns;
 use crossbeam_utils::CachePadded;
 use std::alloc::{AllocError, Global};
 use std::sync::atomic::AtomicU64;
@@ -38,6 +40,8 @@ pub struct Counters {
     groups: [CachePadded<CacheSlot>; MAX_GROUPS],
     accepts: CachePadded<AcceptSlot>,
     failures: CachePadded<FailureSlots>,
+    fetch_times: CachePadded<FetchTimes>,
+    waits: CachePadded<GroupTimes>,
     cache_bytes: CachePadded<AtomicU64>,
     untaken_bytes: CachePadded<AtomicU64>,
     stage: CachePadded<AtomicU64>,
@@ -52,6 +56,8 @@ impl Counters {
             groups: Default::default(),
             accepts: Default::default(),
             failures: Default::default(),
+            fetch_times: Default::default(),
+            waits: Default::default(),
             cache_bytes: Default::default(),
             untaken_bytes: Default::default(),
             stage: Default::default(),
@@ -81,6 +87,16 @@ impl Counters {
     /// Where the failures of origins are counted.
     pub fn failures(&self) -> &FailureSlots {
         &self.failures
+    }
+
+    /// Where is counted how long values take that are fetched.
+    pub fn fetch_times(&self) -> &FetchTimes {
+        &self.fetch_times
+    }
+
+    /// Where is counted how long clients wait for values.
+    pub fn waits(&self) -> &GroupTimes {
+        &self.waits
     }
 
     /// All caches together have so many bytes.
@@ -194,6 +210,8 @@ impl Counters {
                 failures: self.failures.read_group(number),
                 cache: self.of_group(number).read(),
                 limits: group.limits,
+                fetches: self.fetch_times.read_group(number),
+                waits: self.waits.read(number),
             })?;
         }
         Ok(groups)
@@ -210,6 +228,21 @@ impl Counters {
             failures: self.failures.read(),
             cache_bytes: self.cache_bytes.load(SeqCst),
             untaken_bytes: self.untaken_bytes.load(SeqCst),
+            queued: self.fetch_times.read_queued(),
         }
+    }
+
+    /// How long the turns of so many loops took, 16 at most, in the order of their numbers.
+    pub fn read_turns(&self, alloc: Global, loops: usize) -> Result<Vec<LoopTurns>, AllocError>
+        ensures { IfOk result (λ turns. length turns.items ≡ min loops 16) }
+    {
+        let mut all = Vec::new(alloc);
+        for number in 0..loops.min(MAX_SLOTS) {
+            all.push(LoopTurns {
+                number: number as u64,
+                turns: self.loops[number].read_turns(),
+            })?;
+        }
+        Ok(all)
     }
 }

@@ -4,6 +4,7 @@ ghost use Rattle.peer_stats.specs.Sums.{ask_sum, close_sum, failure_sum, filler_
 ghost use Rattle.peer_stats.specs.Sums.{failures_of};
 
 use crate::failure::OriginFailure;
+use crate::times::TimeCounts;
 
 /// What one loop has counted, or all of them, without what it counted of each group. Each but the last is what a getter of its
 /// seat gives.
@@ -112,6 +113,10 @@ pub struct GroupCounts<'n> {
     pub failures: FailureCounts,
     pub cache: CacheCounts,
     pub limits: CacheLimits,
+    /// How long its values were under way.
+    pub fetches: TimeCounts,
+    /// How long clients waited for its values.
+    pub waits: TimeCounts,
 }
 
 /// All that a server has counted, but for what it has of each group.
@@ -127,6 +132,8 @@ pub struct Counts {
     pub cache_bytes: u64,
     /// The bytes that clients have not taken, of those who hold many.
     pub untaken_bytes: u64,
+    /// How long values waited until they were under way.
+    pub queued: TimeCounts,
 }
 
 impl LoopCounts {

@@ -15,6 +15,8 @@ pub struct ServedGroup {
 pub struct ServerFacts<'a> {
     /// Its groups, in the order of their numbers.
     pub groups: &'a [ServedGroup],
+    /// How many loops it has.
+    pub loops: usize,
     pub bounds: ServerBounds,
     pub build: Build<'a>,
 }

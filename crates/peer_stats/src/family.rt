@@ -2,7 +2,7 @@
 ghost use Rattle.std.specs.Prelude.{◌≡◌, ◌++◌, codes, decimal, OnOk};
 ghost use Rattle.std.specs.Char.{digit_char};
 ghost use Rattle.peer_stats.specs.Families.{bound_text, counter_text, family_text, gauge_text, hundredths_text, labelled_text};
-ghost use Rattle.peer_stats.specs.Families.{number_text, sample_text};
+ghost use Rattle.peer_stats.specs.Families.{number_text, sample_text, seconds_text, three_digits};
 
 use crate::label::decimal_digit;
 use itoa::Buffer;
@@ -56,6 +56,28 @@ pub(crate) fn put_hundredths(page: &mut Vec<u8>, value: u64) -> Result<(), Alloc
     page.extend_from_slice(b".")?;
     page.push(decimal_digit((value / 10 % 10) as u8))?;
     page.push(decimal_digit((value % 10) as u8))?;
+    page.extend_from_slice(b"\n")?;
+    Ok(())
+}
+
+// Appends the last three digits of a number.
+fn put_three(page: &mut Vec<u8>, value: u64) -> Result<(), AllocError>
+    ensures { OnOk result (page.new.items ≡ page.old.items ++ three_digits value) }
+{
+    page.push(decimal_digit((value / 100 % 10) as u8))?;
+    page.push(decimal_digit((value / 10 % 10) as u8))?;
+    page.push(decimal_digit((value % 10) as u8))?;
+    Ok(())
+}
+
+/// Appends so many microseconds, in seconds, and the end of their line.
+pub(crate) fn put_seconds(page: &mut Vec<u8>, micros: u64) -> Result<(), AllocError>
+    ensures { OnOk result (page.new.items ≡ page.old.items ++ seconds_text micros) }
+{
+    page.extend_from_slice(Buffer::new().format(micros / 1_000_000).as_bytes())?;
+    page.extend_from_slice(b".")?;
+    put_three(page, micros / 1_000)?;
+    put_three(page, micros)?;
     page.extend_from_slice(b"\n")?;
     Ok(())
 }

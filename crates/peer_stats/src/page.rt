@@ -3,6 +3,7 @@ ghost use Rattle.std.specs.Prelude.{◌≡◌, ◌++◌, codes, IfOk, OnOk};
 ghost use Rattle.peer_stats.specs.Families.{counter_text, family_text, gauge_text, labelled_text};
 ghost use Rattle.peer_stats.specs.Groups.{groups_text};
 ghost use Rattle.peer_stats.specs.Labels.{label_text};
+ghost use Rattle.peer_stats.specs.Latencies.{latencies_text};
 ghost use Rattle.peer_stats.specs.Pages.{bounds_text, build_text, closes_text, connections_text, counts_text, failures_text};
 ghost use Rattle.peer_stats.specs.Pages.{fillers_text, held_text, loops_text, page_text, process_text, queued, queued_text};
 ghost use Rattle.peer_stats.specs.Pages.{ready_text, replies_text, some_process_text};
@@ -14,7 +15,9 @@ use crate::counts::{
 use crate::family::{put_bound, put_counter, put_family, put_gauge, put_hundredths, put_labelled};
 use crate::groups::put_groups;
 use crate::label::put_label;
+use crate::latencies::put_latencies;
 use crate::numbers::{Build, Numbers, ProcessCounts, ServerBounds};
+use crate::times::LoopTurns;
 use std::alloc::{AllocError, Global};
 
 // Appends what loops have counted.
@@ -468,19 +471,21 @@ fn put_counts(page: &mut Vec<u8>, counts: &Counts) -> Result<(), AllocError>
     Ok(())
 }
 
-/// The page with these numbers, and those of the groups.
+/// The page with these numbers, those of the groups, and how long the turns of the loops took.
 pub fn metrics_page(
     alloc: Global,
     numbers: &Numbers,
     groups: &[GroupCounts<'_>],
+    turns: &[LoopTurns],
     build: Build<'_>,
 ) -> Result<Vec<u8>, AllocError>
-    ensures { IfOk result (λ page. page.items ≡ page_text numbers.now groups.now build.entry) }
+    ensures { IfOk result (λ page. page.items ≡ page_text numbers.now groups.now turns.now build.entry) }
 {
     let mut page = Vec::new(alloc);
     put_build(&mut page, build)?;
     put_counts(&mut page, &numbers.counts)?;
     put_groups(&mut page, groups)?;
+    put_latencies(&mut page, &numbers.counts.queued, groups, turns)?;
     put_bounds(&mut page, &numbers.bounds)?;
     put_held(&mut page, numbers)?;
     put_some_process(&mut page, &numbers.process)?;

@@ -60,8 +60,16 @@ fn put_page(service: &StatsService<'_>, response: &mut Response) -> Result<(), A
     let groups = service
         .counters
         .read_groups(service.alloc, service.facts.groups)?;
-    let build = service.facts.build;
-    let page = metrics_page(service.alloc, &numbers, groups.as_slice(), build)?;
+    let turns = service
+        .counters
+        .read_turns(service.alloc, service.facts.loops)?;
+    let page = metrics_page(
+        service.alloc,
+        &numbers,
+        groups.as_slice(),
+        turns.as_slice(),
+        service.facts.build,
+    )?;
     response.add_header(
         header::CONTENT_TYPE,
         HeaderValue::from_static("text/plain; version=0.0.4; charset=utf-8"),

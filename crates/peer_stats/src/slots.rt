@@ -14,9 +14,12 @@ use crate::counts::{
 };
 use crate::failure::OriginFailure;
 use crate::last::{LastFailure, LastSlots};
+use crate::time_slots::TurnTimes;
+use crate::times::TimeCounts;
 use std::sync::Wait;
 use std::sync::atomic::Ordering::SeqCst;
 use std::sync::atomic::{AtomicBool, AtomicU64};
+use std::time::Duration;
 
 /// How many slots there are for groups: the most groups that a pool has.
 pub(crate) const MAX_GROUPS: usize = 64;
@@ -153,6 +156,7 @@ pub struct LoopSlot {
     replies: ReplySlot,
     closes: CloseSlot,
     turn: AtomicU64,
+    turn_times: TurnTimes,
 }
 
 impl LoopSlot {
@@ -217,6 +221,16 @@ impl LoopSlot {
     /// The number of the turn that the loop published.
     pub fn read_turn(&self) -> u64 {
         self.turn.load(SeqCst)
+    }
+
+    /// A turn of the loop took so long.
+    pub fn count_turn(&self, time: Duration) {
+        self.turn_times.count(time);
+    }
+
+    /// How long the turns of the loop took.
+    pub(crate) fn read_turns(&self) -> TimeCounts {
+        self.turn_times.read()
     }
 }
 

@@ -10,6 +10,7 @@ ghost use Rattle.peer_origin.specs.Texts.{text_of};
 ghost use Rattle.peer_value.specs.Values.{AnswersBy, IsToldBy, IsValueOf};
 
 use crate::fetching::Fetching;
+use crate::times::Times;
 use peer_fill::TakenJob;
 use peer_origin::{Endpoint, FetchFault, Wires, get_fault};
 use peer_source::{GetFault, Outcome, Source, too_long_text};
@@ -24,6 +25,7 @@ pub struct Done<'a, S: Source> {
     got: Result<Vec<u8>, FetchFault>,
     // The fetch. None where it could not begin, or not begin anew.
     by: Option<Fetching>,
+    times: Times,
     ghost asked: { IfSome by (λ f. f.request.items ≡ request_at endpoint.now job.place.key) } by { Prim.hlevel props },
     ghost found: { IfOk got (λ v. IsSomeAnd by (λ f. IsValueOf f v)) } by { Prim.hlevel props },
     ghost told: { ∥ IfErr got (IsToldBy by) ∥₁ },
@@ -83,16 +85,23 @@ impl<'a, S: Source> Done<'a, S> {
     }
 
     /// A job for which nothing was fetched from this endpoint, since its fetch could not begin, or not begin anew.
-    pub(crate) fn failed(endpoint: &'a Endpoint, job: TakenJob<S>, why: FetchFault) -> Done<'a, S>
+    pub(crate) fn failed(
+        endpoint: &'a Endpoint,
+        job: TakenJob<S>,
+        why: FetchFault,
+        times: Times,
+    ) -> Done<'a, S>
         requires { IsToldBy None why }
         ensures kept { (result.endpoint ≡ endpoint.entry) × (result.job ≡ job) }
         ensures fault { result.got ≡ Err why }
+        ensures times { result.times ≡ times }
     {
         Done {
             endpoint,
             job,
             got: Err(why),
             by: None,
+            times,
         }
     }
 
@@ -102,19 +111,29 @@ impl<'a, S: Source> Done<'a, S> {
         job: TakenJob<S>,
         got: Result<Vec<u8>, FetchFault>,
         by: Fetching,
+        times: Times,
     ) -> Done<'a, S>
         requires asked { by.request.items ≡ request_at endpoint.now job.place.key }
         requires found { IfOk got (IsValueOf by) }
         requires told { IfErr got (IsToldBy (Some by)) }
         ensures kept { (result.endpoint ≡ endpoint.entry) × (result.job ≡ job) }
         ensures got { (result.got ≡ got) × (result.by ≡ Some by) }
+        ensures times { result.times ≡ times }
     {
         Done {
             endpoint,
             job,
             got,
             by: Some(by),
+            times,
         }
+    }
+
+    /// When what befell it.
+    pub fn times(&self) -> Times
+        ensures { result ≡ self.now.times }
+    {
+        self.times
     }
 
     /// Why there is no value.

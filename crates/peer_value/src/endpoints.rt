@@ -3,6 +3,7 @@ ghost use Rattle.std.specs.Prelude.{◌≡◌, ◌↔◌, ◌+◌, ◌≤◌, If
 ghost use Rattle.peer_origin.specs.Endpoints.{asked_at};
 ghost use Rattle.peer_value.specs.Endpoints.{HasEndpoint, IsOfGroup};
 
+use peer_http::are_same;
 use peer_origin::Endpoint;
 use peer_source::GroupId;
 
@@ -33,11 +34,13 @@ impl<'a> Numbered<'a> {
         self.number
     }
 
-    /// Whether it is at this endpoint: the same host, and the same before a key.
+    /// Whether the same is asked at this endpoint: of the same host, with the same before a key, and with the same fields.
     pub fn is_at(&self, endpoint: &Endpoint) -> bool
         ensures { IsTrue result → asked_at self.now.endpoint.now ≡ asked_at endpoint.now }
     {
-        self.endpoint.host == endpoint.host && self.endpoint.prefix == endpoint.prefix
+        self.endpoint.host == endpoint.host
+            && self.endpoint.prefix == endpoint.prefix
+            && are_same(&self.endpoint.own.fields, &endpoint.own.fields)
     }
 }
 

@@ -15,6 +15,7 @@ mod endpoints;
 mod fetching;
 mod listed;
 mod shares;
+mod times;
 mod under_way;
 mod waiting;
 
@@ -24,5 +25,6 @@ pub use endpoints::{Endpoints, Numbered};
 pub use fetching::{Answer, Fetching};
 pub use listed::{Event, Listed};
 pub use shares::Shares;
+pub use times::Times;
 pub use under_way::UnderWay;
 pub use waiting::Waiting;

@@ -1,6 +1,7 @@
 //! A value under way, or one that waits to be: a job, the numbered endpoint of its origin, and the fetch.
 ghost use Rattle.std.specs.Prelude.{◌≡◌, ◌≢◌, ◌+◌, ◌≤◌, ◌↔◌, ◌⊎◌, ◌++◌, [], ◌∷◌, Some, false, true, drop, length};
-ghost use Rattle.std.specs.Prelude.{Err, IfErr, IfOk, IfSome, IsErr, IsTrue};
+ghost use Rattle.std.specs.Prelude.{Err, IfErr, IfOk, IfSome, IsErr, IsTrue, None};
+ghost use Rattle.peer_http.specs.Requests.{Awaits, IsOneRequest};
 ghost use Rattle.peer_origin.specs.declared.failure.Failure.TheVariants as fail;
 ghost use Rattle.peer_origin.specs.declared.fault.FetchFault.TheVariants as fault;
 ghost use Rattle.peer_value.specs.Endpoints.{IsOfGroup};
@@ -12,7 +13,9 @@ ghost use Rattle.peer_value.specs.Values.{IsValueOf};
 use crate::done::Done;
 use crate::endpoints::Numbered;
 use crate::fetching::{Answer, Fetching};
+use crate::times::Times;
 use peer_fill::TakenJob;
+use peer_http::Request;
 use peer_origin::{Endpoint, Failure, FetchFault, request};
 use peer_source::Source;
 use std::alloc::Global;
@@ -25,34 +28,48 @@ pub struct UnderWay<'a, S: Source> {
     job: TakenJob<S>,
     fetching: Fetching,
     due: Duration,
+    times: Times,
     ghost own: { IsOfGroup at job.place.group },
     ghost asks: { fetching.request.items ≡ request_at at.endpoint.now job.place.key },
+}
+
+// The request for a key at an endpoint.
+fn request_of(alloc: Global, endpoint: &Endpoint, key: &[u8]) -> Result<Request, FetchFault>
+    ensures request { IfOk result (λ asked. asked.bytes.items ≡ request_at endpoint.now key.now) }
+    ensures asks { IfOk result (λ asked. Awaits asked.client × ∥ IsOneRequest asked.bytes.items ∥₁) }
+    ensures refused { IfErr result (λ why. (why ≡ fault.Memory) ⊎ (why ≡ fault.Malformed)) }
+{
+    let fields = endpoint.own.fields.as_slice();
+    request(alloc, &endpoint.host, &endpoint.prefix, fields, key)
 }
 
 impl<'a, S: Source> UnderWay<'a, S> {
     ghost use Rattle.peer_value.specs.UnderWays.{HasSameJob, IsAnswerTo, IsAsked, IsDoneOf, LeavesFree, due_of, number_of};
 
-    /// The fetch of a job's value begins. It is given up when it is due.
+    /// The fetch of a job's value begins, whose job is taken now. It is given up when it is due.
     pub fn begin(
         alloc: Global,
         at: Numbered<'a>,
         job: TakenJob<S>,
+        now: Duration,
         due: Duration,
     ) -> Result<UnderWay<'a, S>, Done<'a, S>>
         requires { IsOfGroup at job.place.group }
         ensures kept { IfOk result (λ u. (u.at ≡ at.entry) × (u.job ≡ job) × (u.due ≡ due)) }
+        ensures times { IfOk result (λ u. (u.times.taken ≡ now) × (u.times.begun ≡ None)) }
         ensures unused { IfOk result (λ u. uses_of u.fetching ≡ use_by u.fetching.request.items 0 [] false ∷ []) }
         ensures given_back { IfErr result (λ d. (d.endpoint ≡ at.entry.endpoint) × (d.job ≡ job) × IsErr d.got) }
         ensures refused { IfErr result (λ d. IfErr d.got (λ why. (why ≡ fault.Memory) ⊎ (why ≡ fault.Malformed))) }
     {
-        match request(alloc, &at.endpoint.host, &at.endpoint.prefix, job.key()) {
+        match request_of(alloc, at.endpoint, job.key()) {
             Ok(asked) => Ok(UnderWay {
                 at,
                 job,
                 fetching: Fetching::new(alloc, asked),
                 due,
+                times: Times::taken(now),
             }),
-            Err(why) => Err(Done::failed(at.endpoint, job, why)),
+            Err(why) => Err(Done::failed(at.endpoint, job, why, Times::taken(now))),
         }
     }
 
@@ -68,10 +85,11 @@ impl<'a, S: Source> UnderWay<'a, S> {
             job,
             mut fetching,
             due,
+            times,
         } = self;
-        let asked = match request(alloc, &at.endpoint.host, &at.endpoint.prefix, job.key()) {
+        let asked = match request_of(alloc, at.endpoint, job.key()) {
             Ok(asked) => asked,
-            Err(why) => return Err(Done::failed(at.endpoint, job, why)),
+            Err(why) => return Err(Done::failed(at.endpoint, job, why, times)),
         };
         if fetching.again(alloc, asked) {
             return Ok(UnderWay {
@@ -79,20 +97,23 @@ impl<'a, S: Source> UnderWay<'a, S> {
                 job,
                 fetching,
                 due,
+                times,
             });
         }
-        Err(Done::failed(at.endpoint, job, FetchFault::Lost))
+        Err(Done::failed(at.endpoint, job, FetchFault::Lost, times))
     }
 
     /// The same, given up at another time.
     pub fn put_off(self, due: Duration) -> UnderWay<'a, S>
         ensures kept { (result.at ≡ self.entry.at) × (result.job ≡ self.entry.job) × (result.fetching ≡ self.entry.fetching) }
         ensures due { result.due ≡ due }
+        ensures times { result.times ≡ self.entry.times }
     {
         let UnderWay {
             at,
             job,
             fetching,
+            times,
             ..
         } = self;
         UnderWay {
@@ -100,7 +121,17 @@ impl<'a, S: Source> UnderWay<'a, S> {
             job,
             fetching,
             due,
+            times,
         }
+    }
+
+    /// It is under way by now.
+    pub fn note_begun(&mut self, now: Duration)
+        ensures kept { HasSameJob self.old self.new }
+        ensures fetching { self.new.fetching ≡ self.old.fetching }
+        ensures times { (self.new.times.taken ≡ self.old.times.taken) × (self.new.times.begun ≡ Some now) }
+    {
+        self.times = self.times.begun(now);
     }
 
     /// The endpoint of its origin.
@@ -202,13 +233,15 @@ impl<'a, S: Source> UnderWay<'a, S> {
         ensures kept { IsDoneOf self.entry result }
         ensures got { (result.got ≡ got) × (result.by ≡ Some self.entry.fetching) }
         ensures free { IsFree self.entry.fetching → LeavesFree result }
+        ensures times { result.times ≡ self.entry.times }
     {
         let UnderWay {
             at,
             job,
             fetching,
+            times,
             ..
         } = self;
-        Done::fetched(at.endpoint, job, got, fetching)
+        Done::fetched(at.endpoint, job, got, fetching, times)
     }
 }

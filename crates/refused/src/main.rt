@@ -99,6 +99,9 @@ enum One {
     CacheGet,
     CacheAdd,
     CacheGrows,
+    CacheBounded,
+    CacheFind,
+    CacheMakeRoom,
     /// A want of a place that is open, or is not.
     Want(bool),
     WantMany,
@@ -118,7 +121,7 @@ enum One {
 // A key of more bytes than a view holds itself.
 const LONG_KEY: &[u8] = b"a key of more letters than a view holds itself, as a path has them";
 
-const ONES: [(&str, One); 43] = [
+const ONES: [(&str, One); 46] = [
     ("copy_of", One::CopyOf),
     ("share", One::Share),
     ("slice", One::Slice),
@@ -139,6 +142,9 @@ const ONES: [(&str, One); 43] = [
     ("cache_get", One::CacheGet),
     ("cache_add", One::CacheAdd),
     ("cache_grows", One::CacheGrows),
+    ("cache_bounded", One::CacheBounded),
+    ("cache_find", One::CacheFind),
+    ("cache_make_room", One::CacheMakeRoom),
     ("want_led", One::Want(false)),
     ("want_joined", One::Want(true)),
     ("want_many", One::WantMany),
@@ -216,6 +222,9 @@ fn see_one(alloc: Global, one: One) -> Option<Seen> {
         One::CacheGet => sources::cache_get(alloc),
         One::CacheAdd => sources::cache_add(alloc),
         One::CacheGrows => sources::cache_grows(alloc),
+        One::CacheBounded => sources::cache_bounded(alloc),
+        One::CacheFind => sources::cache_find(alloc),
+        One::CacheMakeRoom => sources::cache_make_room(alloc),
         One::Want(open) => flights::want_one(alloc, open),
         One::WantMany => flights::want_many(alloc),
         One::FlightShare => flights::flight_share(alloc),

@@ -5,6 +5,7 @@ use crate::window;
 use peer_source::{DemoSource, Evicted, Fill, GroupId, MainCache, Outcome, Source};
 use peer_view::ByteView;
 use std::alloc::{AllocError, Global};
+use std::num::NonZeroUsize;
 use test_support::seed;
 
 /// The group whose values are the keys.
@@ -224,4 +225,56 @@ pub fn cache_grows(alloc: Global) -> Option<Seen> {
     let refused = add_many(&mut cache, &fills, &mut evicted);
     window::end(alloc);
     Some(Seen::of_many(MANY, refused, cache.len() as u64))
+}
+
+// A cache of `echo` in its bounded form, with room for two keys of one letter.
+fn bounded(alloc: Global) -> Result<MainCache<DemoSource>, AllocError> {
+    let seed = seed().ok_or(AllocError)?;
+    MainCache::bounded(alloc, ECHO, 4, NonZeroUsize::MIN.saturating_add(1), 0, seed)
+}
+
+/// `MainCache::bounded`.
+pub fn cache_bounded(alloc: Global) -> Option<Seen> {
+    window::begin(alloc);
+    let cache = bounded(alloc);
+    window::end(alloc);
+    Some(match cache {
+        Ok(cache) => Seen::Answered.only_if(cache.len() == 0 && cache.bytes() == 0, "not empty"),
+        Err(AllocError) => Seen::Refused,
+    })
+}
+
+// A cache in its bounded form that has `a` and `b`, of which `b` was used last.
+fn bounded_with_two(alloc: Global) -> Option<MainCache<DemoSource>> {
+    let mut cache = bounded(alloc).ok()?;
+    keep_all(alloc, &mut cache, b"ab")?;
+    Some(cache)
+}
+
+/// `MainCache::find` of `a`, which comes to the front in any case.
+pub fn cache_find(alloc: Global) -> Option<Seen> {
+    let mut cache = bounded_with_two(alloc)?;
+    window::begin(alloc);
+    let found = cache.find(b"a");
+    window::end(alloc);
+    let seen = match found {
+        Ok(Some(fill)) => Seen::Answered.only_if(finds(&fill, b"a"), "another value"),
+        Ok(None) => Seen::Wrong("the value was not there"),
+        Err(AllocError) => Seen::Refused,
+    };
+    keep(alloc, &mut cache, b'c')?;
+    only_if_kept(seen, &mut cache, *b"ab", "it is not in front")
+}
+
+/// `MainCache::make_room` for `c`, which lets `a` go.
+pub fn cache_make_room(alloc: Global) -> Option<Seen> {
+    let mut cache = bounded_with_two(alloc)?;
+    let fill = fill_of(alloc, ECHO, b"c")?;
+    let mut evicted = Vec::with_capacity(alloc, 4).ok()?;
+    window::begin(alloc);
+    let fits = cache.make_room(&fill, &mut evicted);
+    window::end(alloc);
+    let seen = Seen::Answered.only_if(fits && evicted.len() == 1, "it does not fit");
+    keep(alloc, &mut cache, b'c')?;
+    only_if_kept(seen, &mut cache, *b"ca", "not the oldest went")
 }

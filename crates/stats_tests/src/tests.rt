@@ -2,6 +2,7 @@
 
 mod groups;
 mod lasts;
+mod latencies;
 mod looks;
 mod pages;
 mod served;

@@ -11,7 +11,7 @@ use peer_fill::{ConnSeat, FillSeat, NoGate, Pool, Report, Seats, pop_seat};
 use peer_origin::{Endpoint, FetchSettings, Origin, OriginSource, Wires};
 use peer_runtime::{Host, Network, PollWaker, PollWakers};
 use peer_source::Source;
-use peer_stats::{Counters, FailureCounts, FailureSlots};
+use peer_stats::{Counters, FailureCounts};
 use peer_value::Endpoints;
 use std::alloc::Global;
 use std::net::{Net, TcpListener};
@@ -196,7 +196,7 @@ pub fn prepare<H: Network>(rt: &H, alloc: Global, groups: Groups<'_>) -> Option<
 pub fn plan_of<'a>(
     endpoints: &'a [Endpoint],
     settings: FetchThreadSettings,
-    failures: &'a FailureSlots,
+    counters: &'a Counters,
 ) -> FetchPlan<'a>
     ensures first { result.endpoints.first ≡ 0 }
     ensures each { result.endpoints.each.now ≡ endpoints.now }
@@ -208,7 +208,8 @@ pub fn plan_of<'a>(
             groups: endpoints.len(),
         },
         settings,
-        failures,
+        failures: counters.failures(),
+        times: counters.fetch_times(),
     }
 }
 
@@ -244,9 +245,9 @@ fn see_at<L: Ledger + Send + Sync, H: Host + Wires>(
     let (parts, wakers) = parts_of(
         rt,
         alloc,
-        &plan_of(endpoints.as_slice(), settings, counters.failures()),
+        &plan_of(endpoints.as_slice(), settings, &counters),
     )?;
-    let plan = plan_of(endpoints.as_slice(), settings, counters.failures());
+    let plan = plan_of(endpoints.as_slice(), settings, &counters);
     let running = (FetchThread::new(alloc, parts, plan), wakers);
     let opened = open_pool::<OriginSource<'_, H>, L>(alloc, source, 0, 1, 1, blank);
     let Some(opened) = opened else {

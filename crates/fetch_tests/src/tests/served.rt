@@ -147,7 +147,7 @@ fn serve_prepared<
         return None;
     };
     let fetched = Counters::new();
-    let plan = plan_of(endpoints.as_slice(), patient(), fetched.failures());
+    let plan = plan_of(endpoints.as_slice(), patient(), &fetched);
     let settings = Settings {
         fillers: Fillers::Threads(1),
         loops: 1,

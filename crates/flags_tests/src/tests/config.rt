@@ -1,7 +1,7 @@
 //! Files that say what is served.
 
 use super::matches_of;
-use peer_config::{Config, NoConfig, Place, line_of, words_of};
+use peer_config::{Config, Header, HeaderFault, NoConfig, Place, line_of, words_of};
 use std::alloc::Global;
 use std::test::Fail;
 
@@ -104,7 +104,7 @@ fn what_cannot_be_used_is_told_with_its_line(rt: HostRuntime) -> Result<(), Fail
         ),
         (
             "[groups.a]\nurl = \"u\"\ncash = 1\n",
-            "line 3: groups.a.cash: a group has no such key: url and table are those it may have",
+            "line 3: groups.a.cash: a group has no such key: url, table and header are those it may have",
         ),
         (
             "[groups.a]\nurl = 1\ntable = true\n",
@@ -135,6 +135,132 @@ fn what_cannot_be_used_is_told_with_its_line(rt: HostRuntime) -> Result<(), Fail
         right &= told(rt.alloc(), text)?.as_str() == said;
     }
     assert!(rt; right);
+    Ok(())
+}
+
+// What cannot be used of a group at a service with these fields, from behind its place on.
+fn told_of_fields(alloc: Global, fields: &str) -> Result<String, Fail> {
+    let text = format!(in alloc; "[groups.a]\nurl = \"u\"\nheader = {fields}\n")?;
+    let said = told(alloc, text.as_str())?;
+    let rest = said.as_str().strip_prefix("line 3: groups.a.header: ");
+    Ok(String::from_str(alloc, rest.unwrap_or(said.as_str()))?)
+}
+
+const TEXTS: &str = "a list of texts is needed, such as [\"Authorization: Bearer @FILE\"]";
+
+const COLON: &str =
+    "field 1: a name, a colon and a value are needed, such as \"Authorization: Bearer @FILE\"";
+
+const NAME: &str = "field 1: its name is no token of letters, digits and !#$%&'*+-.^_`|~";
+
+const VALUE: &str = "field 1: its value has a byte that may not stand there";
+
+const OWN: &str = "field 1: a field of this name is sent already, or is one of the connection";
+
+#[test]
+fn fields_that_cannot_be_sent_are_told_with_their_line(rt: HostRuntime) -> Result<(), Fail> {
+    let mut right = true;
+    for (fields, said) in [
+        ("[]", ""),
+        ("[\"A: b\", \"!#$%&'*+-.^_`|~: b\"]", ""),
+        (
+            "[\"A:\", \"B:b c\\td\", \"C:  @/f\", \"D: caf\u{e9} @ f @g\"]",
+            "",
+        ),
+        ("\"A: b\"", TEXTS),
+        ("[1]", TEXTS),
+        ("[\"A: b\", [\"A: b\"]]", TEXTS),
+        ("[\"Authorization\"]", COLON),
+        ("[\": b\"]", NAME),
+        ("[\"A b: c\"]", NAME),
+        ("[\"A : b\"]", NAME),
+        ("[\"\u{e9}: b\"]", NAME),
+        ("[\"A: b\\r\\nC: d\"]", VALUE),
+        ("[\"A: b\\n\"]", VALUE),
+        ("[\"A: b\\u0000\"]", VALUE),
+        ("[\"A: b\\u007f\"]", VALUE),
+        ("[\"A: b\\u0001 @f\"]", VALUE),
+        (
+            "[\"A: @ \"]",
+            "field 1: the name of a file is needed after @",
+        ),
+        (
+            "[\"A: b @\"]",
+            "field 1: the name of a file is needed after @",
+        ),
+        ("[\"Host: b\"]", OWN),
+        ("[\"user-agent: b\"]", OWN),
+        ("[\"Content-Length: 0\"]", OWN),
+        ("[\"TRANSFER-ENCODING: chunked\"]", OWN),
+        ("[\"Connection: close\"]", OWN),
+        ("[\"Keep-Alive: 5\"]", OWN),
+        ("[\"Proxy-Connection: close\"]", OWN),
+        ("[\"TE: trailers\"]", OWN),
+        ("[\"Trailer: a\"]", OWN),
+        ("[\"Upgrade: b\"]", OWN),
+        ("[\"Expect: 100-continue\"]", OWN),
+        (
+            "[\"A: b\", \"Host: c\"]",
+            "field 2: a field of this name is sent already, or is one of the connection",
+        ),
+    ] {
+        right &= told_of_fields(rt.alloc(), fields)?.as_str() == said;
+    }
+    assert!(rt; right);
+    Ok(())
+}
+
+// A list of so many fields.
+fn list_of(alloc: Global, fields: usize) -> Result<String, Fail> {
+    let mut list = String::new(alloc);
+    list.push('[')?;
+    for _ in 0..fields {
+        list.push_str("\"A: b\",")?;
+    }
+    list.push(']')?;
+    Ok(list)
+}
+
+#[test]
+fn a_group_has_sixteen_fields_at_most(rt: HostRuntime) -> Result<(), Fail> {
+    let alloc = rt.alloc();
+    let most = list_of(alloc, 16)?;
+    let more = list_of(alloc, 17)?;
+    assert!(rt; told_of_fields(alloc, most.as_str())?.as_str() == "");
+    assert!(rt; told_of_fields(alloc, more.as_str())?.as_str() == "there are more than 16 fields");
+    let text = "table = \"t\"\n[groups.a]\ntable = \"t\"\nheader = [\"A: b\"]\n";
+    let said = "line 4: groups.a.header: this is for a group with url";
+    assert!(rt; told(alloc, text)?.as_str() == said);
+    Ok(())
+}
+
+#[test]
+fn a_file_of_a_field_begins_at_a_word(rt: HostRuntime) {
+    let header = |name, value, file| Ok(Header { name, value, file });
+    assert!(rt; Header::of("A: b c ") == header("A", " b c ", None));
+    assert!(rt; Header::of("A:b@c") == header("A", "b@c", None));
+    assert!(rt; Header::of("A: Bearer @/run/f ") == header("A", " Bearer ", Some("/run/f")));
+    assert!(rt; Header::of("A: @f @g\t") == header("A", " ", Some("f @g")));
+    assert!(rt; Header::of("A:b:c\t@f") == header("A", "b:c\t", Some("f")));
+    assert!(rt; Header::of("A") == Err(HeaderFault::Colon));
+}
+
+#[test]
+fn a_file_has_sixty_four_groups(rt: HostRuntime) -> Result<(), Fail> {
+    let alloc = rt.alloc();
+    let mut text = String::new(alloc);
+    for group in 0..64usize {
+        let header = list_of(alloc, group % 17)?;
+        let entry = format!(in alloc; "[groups.g{group}]\nurl = \"u\"\nheader = {header}\n")?;
+        text.push_str(entry.as_str())?;
+    }
+    assert!(rt; told(alloc, text.as_str())?.as_str() == "");
+    let config = Config::of(alloc, text.as_bytes()).map_err(|_| "no file")?;
+    let count = config.groups.len();
+    let fields = config.groups.first().and_then(|group| group.headers());
+    let has_list = fields.is_some_and(|fields| fields.is_empty());
+    drop(config);
+    assert!(rt; count == 64 && has_list);
     Ok(())
 }
 

@@ -54,7 +54,7 @@ impl Fetched {
 
 // A fetch of the key `a/b c` from the origin `origin:81` with the prefix `/p/`, whose request was sent.
 fn asked(alloc: Global) -> Option<Fetching> {
-    match request(alloc, b"origin:81", b"/p/", b"a/b c") {
+    match request(alloc, b"origin:81", b"/p/", &[], b"a/b c") {
         Ok(asked) => {
             let mut fetching = Fetching::new(alloc, asked);
             let len = fetching.unsent().len();

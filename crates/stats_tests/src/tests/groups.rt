@@ -3,7 +3,7 @@
 use crate::tests::worked::{BUILD, NUMBERS};
 use peer_stats::{
     AskCounts, CacheCounts, CacheLimits, Counters, FailureCounts, FillerCounts, GroupCounts,
-    OriginFailure, ServedGroup, metrics_page,
+    OriginFailure, ServedGroup, TimeCounts, metrics_page,
 };
 use std::alloc::Global;
 use std::test::Fail;
@@ -47,6 +47,8 @@ fn group_from(name: &[u8], first: u64, entries: Option<u64>) -> GroupCounts<'_> 
             bytes: first.wrapping_add(19),
             entries,
         },
+        fetches: TimeCounts::NONE,
+        waits: TimeCounts::NONE,
     }
 }
 
@@ -133,7 +135,7 @@ peer_front_group_cache_evictions_total{group="\\xff\\x80\"\\\nz\\xc3",reason="ke
 peer_front_group_cache_rejected_total{group="\"\\",reason="too_large"} 117
 peer_front_group_cache_rejected_total{group="a\né",reason="too_large"} 217
 peer_front_group_cache_rejected_total{group="\\xff\\x80\"\\\nz\\xc3",reason="too_large"} 317
-# HELP peer_front_connections_limit "#;
+# HELP peer_front_fetch_duration_seconds "#;
 
 #[test]
 fn each_group_has_its_name_and_its_numbers(rt: HostRuntime) -> Result<(), Fail> {
@@ -142,7 +144,7 @@ fn each_group_has_its_name_and_its_numbers(rt: HostRuntime) -> Result<(), Fail> 
         group_from(b"a\n\xC3\xA9", 200, None),
         group_from(b"\xFF\x80\"\\\nz\xC3", 300, Some(318)),
     ];
-    let page = metrics_page(rt.alloc(), &NUMBERS, &groups, BUILD)?;
+    let page = metrics_page(rt.alloc(), &NUMBERS, &groups, &[], BUILD)?;
     let text = String::from_utf8(page)?;
     let told = text.as_str().contains(THREE);
     assert!(rt; told);

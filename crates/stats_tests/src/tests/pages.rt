@@ -62,7 +62,7 @@ const ROWS: [&str; 51] = [
 
 #[test]
 fn the_page_has_a_row_for_each_number(rt: HostRuntime) -> Result<(), Fail> {
-    let page = metrics_page(rt.alloc(), &NUMBERS, &[], BUILD)?;
+    let page = metrics_page(rt.alloc(), &NUMBERS, &[], &[], BUILD)?;
     let text = String::from_utf8(page)?;
     let mut right = true;
     for row in ROWS {
@@ -81,7 +81,7 @@ fn what_the_system_does_not_tell_is_not_there(rt: HostRuntime) -> Result<(), Fai
         ..NUMBERS
     };
     numbers.counts.loops.led = 25;
-    let page = metrics_page(rt.alloc(), &numbers, &[], BUILD)?;
+    let page = metrics_page(rt.alloc(), &numbers, &[], &[], BUILD)?;
     let text = String::from_utf8(page)?;
     let page = text.as_str();
     let right = page.contains("\npeer_front_jobs_queued 5\n")

@@ -2,7 +2,7 @@
 
 use peer_stats::{
     AcceptCounts, Build, CloseCounts, Counts, FailureCounts, FillerCounts, LoopCounts, Numbers,
-    ProcessCounts, ReplyCounts, ServerBounds,
+    ProcessCounts, ReplyCounts, ServerBounds, TimeCounts,
 };
 
 /// What was counted.
@@ -55,6 +55,7 @@ pub const COUNTS: Counts = Counts {
     },
     cache_bytes: 18446744073709551615,
     untaken_bytes: 44,
+    queued: TimeCounts::NONE,
 };
 
 /// All that the page tells beside groups.
