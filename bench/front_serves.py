@@ -728,6 +728,58 @@ def requests_have_the_fields_of_their_group():
     return heads == wanted and service.connections < 9 and "hush" not in told
 
 
+def took(server, path, reply):
+    """How many seconds a reply took that ends so. None if it does not."""
+    began = time.monotonic()
+    return time.monotonic() - began if server.ask(path).endswith(reply) else None
+
+
+def each_group_has_its_times():
+    with ExitStack() as stack:
+        # A listener that is full: whoever connects to it hears nothing.
+        full = stack.enter_context(socket.create_server(("127.0.0.1", 0), backlog=0))
+        at = "%s:%d" % full.getsockname()
+        for _ in range(4):
+            stream = stack.enter_context(socket.socket())
+            stream.setblocking(False)
+            stream.connect_ex(full.getsockname())
+        config = stack.enter_context(tempfile.NamedTemporaryFile("w"))
+        config.write(f"""[groups.a]\nurl = "{Service(hangs).url}"\ntimeout = "300ms"\n[groups.b]\nurl = "{Service(hangs).url}"\n"""
+                     f"""[groups.c]\nurl = "http://{at}/"\nconnect_timeout = "300ms"\n""")
+        config.flush()
+        server = stack.enter_context(Counted("--timeout", "3", "--config", config.name))
+        late, unreached = b"origin timed out\n", b"origin cannot be reached\n"
+        times = [took(server, path, reply) for path, reply in (("a/k", late), ("b/k", late), ("c/k", unreached))]
+    return None not in times and times[0] < 2 < 3 <= times[1] and times[2] < 1.5
+
+
+def a_group_has_its_values_under_way():
+    most, now, lock = 0, 0, threading.Lock()
+
+    def counts(stream):
+        nonlocal most, now
+        while head := stream.recv(10000):
+            if head.startswith(b"GET /a/"):
+                with lock:
+                    now += 1
+                    most = max(most, now)
+                time.sleep(0.3)
+                with lock:
+                    now -= 1
+            stream.sendall(HEAD + b"1\r\n\r\nv")
+
+    service = Service(counts)
+    with tempfile.NamedTemporaryFile("w") as config:
+        config.write(f"""[groups.a]\nurl = "{service.url}a/"\nunder_way = 2\n[groups.b]\nurl = "{service.url}b/"\n""")
+        config.flush()
+        with Counted("--config", config.name) as server, ThreadPoolExecutor(6) as clients:
+            waited = [clients.submit(server.ask, f"a/{key}") for key in range(6)]
+            comes_to(lambda: now == 2)
+            apart = took(server, "b/k", b"v")
+            served = all(reply.result().endswith(b"v") for reply in waited)
+    return served and most == 2 and apart is not None and apart < 0.6
+
+
 def values_within_the_cache_are_kept():
     caches = [str(ENTRY), str(ENTRY - 1), "0"]
     return [hits_of(), *(hits_of("--cache", cache) for cache in caches)] == [1, 1, 0, 0]
@@ -830,6 +882,8 @@ run_rows(
         no_more_connections_than_by_the_flag,
         a_value_is_late_by_the_flag,
         requests_have_the_fields_of_their_group,
+        each_group_has_its_times,
+        a_group_has_its_values_under_way,
         values_within_the_cache_are_kept,
         each_server_deals_keys_out_by_a_seed_of_its_own,
         above_the_memory_one_value_is_asked_for,

@@ -176,7 +176,7 @@ def groups_file(count):
     return LINES + "".join(f'[groups.g{number:02}]\nurl = "{URL}"\n' for number in range(count))
 
 
-GROUP_KEY = "a group has no such key: url, table and header are those it may have"
+GROUP_KEY = "a group has no such key: url, table, header, timeout, connect_timeout and under_way are those it may have"
 NO_NAME = "the name of a group has no = and no slash, and is not empty"
 ONE_SOURCE = "url or table is needed, and not both"
 WORD = "a text or a whole number is needed"
@@ -232,7 +232,13 @@ BAD_FILES = [
     (LINES + "[groups]\ncolors = 3\n",
      'line 3: groups.colors: a group is a table with url or table, such as url = "http://10.0.0.7/colors/"'),
     (GROUP, 'line 3: groups.colors: a group is a table with url or table, such as url = "http://10.0.0.7/colors/"'),
-    (GROUP + f'url = "{URL}"\ntimeout = "1s"\n', f"line 5: groups.colors.timeout: {GROUP_KEY}"),
+    (GROUP + f'url = "{URL}"\nconnect-timeout = "1s"\n', f"line 5: groups.colors.connect-timeout: {GROUP_KEY}"),
+    (GROUP + f'url = "{URL}"\ntimeout = "1h"\n', f"line 5: groups.colors.timeout: {TIME}"),
+    (GROUP + f'url = "{URL}"\nconnect_timeout = 0\n', f"line 5: groups.colors.connect_timeout: {TIME}"),
+    (GROUP + f'url = "{URL}"\nconnect_timeout = [1]\n', f"line 5: groups.colors.connect_timeout: {WORD}"),
+    (GROUP + f'url = "{URL}"\nunder_way = 1025\n', f"line 5: groups.colors.under_way: {UNDER_WAY}"),
+    (GROUP + f'table = "{GOOD}"\ntimeout = "1s"\n', "line 5: groups.colors.timeout: this is for a group with url"),
+    (GROUP + f'under_way = 2\ntable = "{GOOD}"\n', "line 4: groups.colors.under_way: this is for a group with url"),
     (GROUP + f'URL = "{URL}"\n', f"line 4: groups.colors.URL: {GROUP_KEY}"),
     (GROUP + "url = 80\ntable = true\n", f"line 5: groups.colors.table: {WORD}"),
     (GROUP + f'url = "{URL}"\ntable = "{GOOD}"\n', f"line 3: groups.colors: {ONE_SOURCE}"),
@@ -284,6 +290,9 @@ CHECKED = [
     (headers_file(f"Authorization: Bearer {SECRET}", f"X-Token: {SECRET} @{TOKEN}", *["A: " + SECRET * 110] * 8) + f'[groups.b]\nurl = "{URL}"\n', [],
      "would serve at 127.0.0.1:0, with 2 caches of 64 MiB, about N entries of 100 bytes in each:\nb\ncolors\n  header Authorization, X-Token"
      + ", A" * 8 + "\n"),
+    (LINES + f'[groups.b]\nconnect_timeout = "250ms"\nheader = ["A: b"]\nurl = "{URL}"\ntimeout = 2\nunder_way = 3\n', [],
+     "would serve at 127.0.0.1:0, with 1 cache of 64 MiB, about N entries of 100 bytes:\nb\n  header A\n  timeout 2000ms\n"
+     "  connect_timeout 250ms\n  under_way 3\n"),
     (groups_file(64), [], "would serve at 127.0.0.1:0, with 64 caches of 64 MiB, about N entries of 100 bytes in each:\n"
      + "".join(f"g{i:02}\n" for i in range(64))),
 ]

@@ -3,7 +3,7 @@
 use crate::fault::EntryFault;
 use crate::header::Header;
 use crate::place::GROUPS;
-use peer_flags::{FlagKind, kind_of};
+use peer_flags::{FlagKind, WordFault, kind_of, time_in, under_way_in};
 use std::alloc::{AllocError, Global};
 use toml::{Table, Value};
 
@@ -42,6 +42,18 @@ fn texts_of(alloc: Global, values: &[Value]) -> Result<Given, AllocError> {
         texts.push(String::from_str(alloc, text.as_str())?)?;
     }
     Ok(Given::Texts(texts))
+}
+
+// The keys of a group whose values a service has, and of no other.
+const FOR_SERVICES: [&str; 4] = ["header", "timeout", "connect_timeout", "under_way"];
+
+// Why a word cannot stand for this key of a group at a service, if it cannot.
+fn word_fault(key: &str, word: &str) -> Option<WordFault> {
+    if key == "under_way" {
+        under_way_in(word).err()
+    } else {
+        time_in(word).err()
+    }
 }
 
 // Why these are no fields of requests, if they are none.
@@ -121,18 +133,24 @@ impl Entry {
                 None => Some(EntryFault::Texts),
             };
         }
-        if key != "url" && key != "table" {
-            Some(EntryFault::GroupKey)
-        } else if self.word().is_none() {
-            Some(EntryFault::Word)
-        } else {
-            None
+        let is_source = key == "url" || key == "table";
+        match self.word() {
+            _ if !is_source && !self.is_for_services() => Some(EntryFault::GroupKey),
+            None => Some(EntryFault::Word),
+            Some(_) if is_source => None,
+            Some(word) => word_fault(key, word).map(EntryFault::Value),
         }
     }
 
     /// Whether it is a key of a group whose values a service has, and of no other.
     pub(crate) fn is_for_services(&self) -> bool {
-        self.key.as_str() == "header"
+        let key = self.key.as_str();
+        for own in FOR_SERVICES {
+            if key == own {
+                return true;
+            }
+        }
+        false
     }
 }
 

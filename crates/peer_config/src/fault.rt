@@ -2,6 +2,7 @@
 
 use crate::header::HeaderFault;
 use crate::place::Place;
+use peer_flags::WordFault;
 use std::fmt;
 use std::fmt::{Display, Formatter};
 use thiserror::Error;
@@ -40,7 +41,7 @@ pub enum EntryFault {
     Group,
     #[error("the name of a group has no = and no slash, and is not empty")]
     Name,
-    #[error("a group has no such key: url, table and header are those it may have")]
+    #[error("a group has no such key: url, table, header, timeout, connect_timeout and under_way are those it may have")]
     GroupKey,
     #[error("a list of texts is needed, such as [\"Authorization: Bearer @FILE\"]")]
     Texts,
@@ -49,6 +50,8 @@ pub enum EntryFault {
     /// One of the fields, by its number.
     #[error("field {0}: {1}")]
     Header(usize, HeaderFault),
+    #[error("{0}")]
+    Value(WordFault),
     #[error("this is for a group with url")]
     ForServices,
     #[error("url or table is needed, and not both")]

@@ -5,7 +5,9 @@ use crate::fault::{BadEntry, EntryFault};
 use crate::given::{is_given, is_given_group};
 use crate::place::Place;
 use clap::ArgMatches;
+use peer_flags::{time_in, under_way_in};
 use std::alloc::{AllocError, Global};
+use std::time::Duration;
 use toml::{Table, Value};
 
 /// A group, and what stands in its table. It has no entries if it is no table.
@@ -44,6 +46,21 @@ impl Group {
             }
         }
         None
+    }
+
+    /// How long a value of it may take, if that stands here.
+    pub fn timeout(&self) -> Option<Duration> {
+        time_in(word_in(self.entries.as_slice(), "timeout")?).ok()
+    }
+
+    /// How long a connection to one address of its service may take, if that stands here.
+    pub fn connect_timeout(&self) -> Option<Duration> {
+        time_in(word_in(self.entries.as_slice(), "connect_timeout")?).ok()
+    }
+
+    /// How many of its values each thread may have under way, if that stands here.
+    pub fn under_way(&self) -> Option<usize> {
+        under_way_in(word_in(self.entries.as_slice(), "under_way")?).ok()
     }
 
     /// Notes whether a command line names its URL, or a table.

@@ -17,10 +17,10 @@ use crate::room::Room;
 use crate::settings::FetchThreadSettings;
 use mio::event::Event;
 use peer_fill::TakenJob;
-use peer_origin::{Failure, FetchFault, Wires};
+use peer_origin::{Endpoint, Failure, FetchFault, Wires};
 use peer_runtime::Network;
 use peer_source::Source;
-use peer_value::{Done, Event as Befell, Numbered, Shares, UnderWay, Waiting};
+use peer_value::{Done, Event as Befell, GroupShares, Numbered, Shares, UnderWay, Waiting};
 use std::alloc::Global;
 use std::net::SocketAddr;
 use std::time::Duration;
@@ -28,9 +28,11 @@ use std::time::Duration;
 // How many values may wait. Each key that waits is fetched in the end, or is late, whatever its clients hold by then.
 const MAX_WAITING: usize = 4096;
 
-// Where a connection leads to: a service, and its address.
+// Where a connection leads to: an endpoint, its service, and an address.
 #[derive(Clone, Copy)]
 struct Place {
+    // The number of its endpoint.
+    number: usize,
     service: usize,
     address: SocketAddr,
 }
@@ -43,12 +45,13 @@ pub struct Fetcher<'a, S: Source, H: Wires> {
     connections: Connections<'a, S, H>,
     books: Books,
     shares: Shares,
+    group_shares: GroupShares,
     waiting: Waiting<'a, S>,
     buffer: Vec<u8>,
 }
 
 impl<'a, S: Source, H: Network + Wires> Fetcher<'a, S, H> {
-    ghost use Rattle.std.specs.Prelude.{◌↔◌, IfSome, IsTrue};
+    ghost use Rattle.std.specs.Prelude.{◌≡◌, ◌↔◌, IfSome, IsTrue};
     ghost use Rattle.peer_fetch.specs.Fetchers.{HasNothing, MayTakeJob};
     ghost use Rattle.peer_value.specs.Endpoints.{IsOfGroup};
     ghost use Rattle.peer_value.specs.UnderWays.{IsCutOn, IsDoneOn};
@@ -59,6 +62,7 @@ impl<'a, S: Source, H: Network + Wires> Fetcher<'a, S, H> {
             books,
             idle,
             shares,
+            group_shares,
             buffer,
         } = room;
         Fetcher {
@@ -67,6 +71,7 @@ impl<'a, S: Source, H: Network + Wires> Fetcher<'a, S, H> {
             connections: Connections::new(alloc, idle),
             books,
             shares,
+            group_shares,
             waiting: Waiting::new(alloc),
             buffer,
         }
@@ -114,8 +119,8 @@ impl<'a, S: Source, H: Network + Wires> Fetcher<'a, S, H> {
     /// How long nothing is to be given up, where values are under way or wait.
     pub fn time_left(&self) -> Option<Duration> {
         let mut due = self.connections.next_due();
-        for service in 0..self.waiting.lines() {
-            due = earlier(due, self.waiting.due(service));
+        for number in 0..self.waiting.lines() {
+            due = earlier(due, self.waiting.due(number));
         }
         due.map(|due| due.saturating_sub(self.connections.now()))
     }
@@ -158,7 +163,7 @@ impl<'a, S: Source, H: Network + Wires> Fetcher<'a, S, H> {
             }
             _ => return self.connect_first(system, under),
         }
-        self.shares.begin(self.shares.service(number));
+        self.count_begun(number);
         self.connections.note_due(key);
         self.connections.make_ready(key);
         None
@@ -177,41 +182,75 @@ impl<'a, S: Source, H: Network + Wires> Fetcher<'a, S, H> {
         ensures { IfSome result (IsDoneOn H.carried) }
     {
         let now = self.read_clock(system);
-        let service = self.shares.service(at.number());
-        let has_room = self.shares.has_room(service);
-        let due = now.saturating_add(self.time_of(has_room));
+        let number = at.number();
+        let has_room = self.has_room_for(number);
+        let due = now.saturating_add(self.time_of(at.endpoint(), has_room));
         match UnderWay::begin(self.alloc, at, job, now, due) {
             Ok(under) if has_room => self.start(system, under),
-            Ok(under) => self.waiting.push(service, under),
+            Ok(under) => self.waiting.push(number, under),
             Err(done) => Some(done),
         }
     }
 
-    // How long a value has from now on, which is under way or waits.
-    fn time_of(&self, is_under_way: bool) -> Duration {
+    // How long a value of an endpoint's group has from now on, which is under way or waits. All wait as long, so that the first that
+    // waits is the first to be given up.
+    fn time_of(&self, endpoint: &Endpoint, is_under_way: bool) -> Duration {
         if is_under_way {
-            self.settings.fetch.value
+            endpoint.own.value_or(self.settings.fetch.value)
         } else {
             self.settings.fetch.wait
         }
     }
 
-    // Whether the first value that waits for a service may be under way now, or is to be given up.
-    fn may_go_on(&self, service: usize) -> bool {
-        match self.waiting.due(service) {
-            Some(due) => due <= self.connections.now() || self.shares.has_room(service),
-            None => false,
+    // Whether another value of the group of an endpoint may be under way.
+    fn has_room_for(&self, number: usize) -> bool {
+        self.shares.has_room(self.shares.service(number)) && self.group_shares.has_room(number)
+    }
+
+    // One more value of an endpoint is under way.
+    fn count_begun(&mut self, number: usize)
+        ensures { self.new.connections ≡ self.old.connections }
+    {
+        self.shares.begin(self.shares.service(number));
+        self.group_shares.begin(number);
+    }
+
+    // One value of an endpoint is under way no longer.
+    fn count_ended(&mut self, place: Place) {
+        self.shares.end(place.service);
+        self.group_shares.end(place.number);
+    }
+
+    // When the first value that waits of a group is to be given up, if that is by now, or it may be under way.
+    fn due_to_go_on(&self, number: usize) -> Option<Duration> {
+        let due = self.waiting.due(number)?;
+        if due <= self.connections.now() || self.has_room_for(number) {
+            Some(due)
+        } else {
+            None
         }
+    }
+
+    // The group of the value that waits longest of those which may be under way now, or are to be given up.
+    fn first_to_go_on(&self) -> Option<usize> {
+        let mut first = None;
+        let mut earliest = Duration::MAX;
+        for number in 0..self.waiting.lines() {
+            match self.due_to_go_on(number) {
+                Some(due) if first.is_none() || due < earliest => {
+                    first = Some(number);
+                    earliest = due;
+                }
+                _ => {}
+            }
+        }
+        first
     }
 
     /// Takes out a value that waited and may be under way now, or is to be given up.
     pub fn next_waiting(&mut self) -> Option<UnderWay<'a, S>> {
-        for service in 0..self.waiting.lines() {
-            if self.may_go_on(service) {
-                return self.waiting.pop(service);
-            }
-        }
-        None
+        let number = self.first_to_go_on()?;
+        self.waiting.pop(number)
     }
 
     /// Fetches a value that waited, for which it has as long as one that did not wait. One that is to be given up, or cannot be
@@ -223,7 +262,7 @@ impl<'a, S: Source, H: Network + Wires> Fetcher<'a, S, H> {
         if under.due() <= now {
             return Some(under.done(Err(FetchFault::Late)));
         }
-        let due = now.saturating_add(self.settings.fetch.value);
+        let due = now.saturating_add(self.time_of(under.endpoint(), true));
         self.start(system, under.put_off(due))
     }
 
@@ -262,9 +301,12 @@ impl<'a, S: Source, H: Network + Wires> Fetcher<'a, S, H> {
     {
         let now = self.connections.now();
         let link = self.connections.get_mut(key)?;
-        let service = self.shares.service(link.number);
-        let address = link.way.address;
-        let place = Place { service, address };
+        let number = link.number;
+        let place = Place {
+            number,
+            service: self.shares.service(number),
+            address: link.way.address,
+        };
         let was_connected = link.is_connected();
         let is_late = link.is_late(now);
         let turn = link.turn(system.rt, &mut self.buffer, now);
@@ -282,18 +324,18 @@ impl<'a, S: Source, H: Network + Wires> Fetcher<'a, S, H> {
                 None
             }
             Turn::Done(done, reusable) => {
-                self.shares.end(place.service);
+                self.count_ended(place);
                 self.note_end(place, done.fault(), is_late);
                 self.release(key, place, reusable);
                 Some(done)
             }
             Turn::Unconnected(under) => {
-                self.shares.end(place.service);
+                self.count_ended(place);
                 self.note_event(place, Befell::Unreached);
                 self.connect_next(system, key, under)
             }
             Turn::Cut(under, failure) => {
-                self.shares.end(place.service);
+                self.count_ended(place);
                 self.cut(system, key, under, failure)
             }
         }

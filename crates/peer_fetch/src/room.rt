@@ -5,7 +5,7 @@
 use crate::books::Books;
 use crate::idle::Idle;
 use crate::settings::FetchPlan;
-use peer_value::Shares;
+use peer_value::{GroupShares, Shares};
 use std::alloc::{AllocError, Global};
 
 // How many bytes a read may give.
@@ -17,6 +17,7 @@ pub struct Room {
     pub books: Books,
     pub idle: Idle,
     pub shares: Shares,
+    pub group_shares: GroupShares,
     pub buffer: Vec<u8>,
 }
 
@@ -28,6 +29,7 @@ impl Room {
             books: Books::new(alloc, endpoints, &plan.settings.fetch)?,
             idle: Idle::new(alloc, endpoints)?,
             shares: Shares::new(alloc, &plan.endpoints, plan.settings.under_way)?,
+            group_shares: GroupShares::new(alloc, plan.endpoints.each)?,
             buffer: vec![in alloc; 0; ROOM]?,
         })
     }

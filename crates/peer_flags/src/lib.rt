@@ -13,6 +13,7 @@ mod options;
 mod room;
 mod size;
 mod time;
+mod word;
 
 pub use address::{ListenAddress, PageAddress};
 pub use fault::{BadWord, WordFault};
@@ -20,3 +21,4 @@ pub use flags::{FlagKind, command, kind_of};
 pub use options::Options;
 pub use room::Room;
 pub use time::time_of;
+pub use word::{time_in, under_way_in};

@@ -6,7 +6,7 @@ use crate::address::{ListenAddress, PageAddress, listen, stats};
 use crate::fault::{BadWord, WordFault};
 use crate::log::log;
 use crate::size::{bytes_of, number_of};
-use crate::time::time_of;
+use crate::word::time_in;
 use clap::ArgMatches;
 use clap::parser::ValueSource;
 use peer_log::LogForm;
@@ -29,11 +29,6 @@ const MAX_REST_AFTER: u64 = 1000;
 
 // The most keys of a cache.
 const MAX_CACHE_KEYS: u64 = 4_294_967_296;
-
-// The shortest and the longest time that is waited for, a millisecond and an hour, in nanoseconds.
-const MIN_TIME: u64 = 1_000_000;
-
-const MAX_TIME: u64 = 3_600_000_000_000;
 
 // The flags that say how services are asked.
 const FOR_SERVICES: [&str; 8] = [
@@ -135,13 +130,9 @@ fn time<'w>(matches: &ArgMatches<'w>, flag: &'w str) -> Result<Duration, BadWord
     ensures { IfOk result IsTime }
 {
     let word = matches.get_str(flag).unwrap_or("");
-    match time_of(word, MIN_TIME, MAX_TIME) {
-        Some(time) => Ok(time),
-        None => Err(BadWord {
-            flag,
-            word,
-            fault: WordFault::Time,
-        }),
+    match time_in(word) {
+        Ok(time) => Ok(time),
+        Err(fault) => Err(BadWord { flag, word, fault }),
     }
 }
 

@@ -10,6 +10,7 @@ use peer_source::Source;
 use peer_stats::ServedGroup;
 use std::io;
 use std::io::Write;
+use std::time::Duration;
 
 // The groups that would be served, and the endpoints of those that services have, from a number on.
 #[derive(Clone, Copy)]
@@ -30,6 +31,25 @@ fn write_fields<W: Write>(writer: &mut W, endpoint: &Endpoint) -> io::Result<()>
     Ok(())
 }
 
+// Writes a time that is set, in milliseconds.
+fn write_time<W: Write>(writer: &mut W, key: &str, time: Option<Duration>) -> io::Result<()> {
+    match time {
+        Some(time) => write!(writer, "\n  {key} {}ms", time.as_millis()),
+        None => Ok(()),
+    }
+}
+
+// Writes what is set of the group of an endpoint.
+fn write_own<W: Write>(writer: &mut W, endpoint: &Endpoint) -> io::Result<()> {
+    write_fields(writer, endpoint)?;
+    write_time(writer, "timeout", endpoint.own.value)?;
+    write_time(writer, "connect_timeout", endpoint.own.connect)?;
+    match endpoint.own.under_way {
+        Some(under_way) => write!(writer, "\n  under_way {under_way}"),
+        None => Ok(()),
+    }
+}
+
 // Writes the name of the group with this number, and what is set of it.
 fn write_group<W: Write>(writer: &mut W, asked: &Asked<'_>, number: usize) -> io::Result<()> {
     if let Some(group) = asked.groups.get(number) {
@@ -37,7 +57,7 @@ fn write_group<W: Write>(writer: &mut W, asked: &Asked<'_>, number: usize) -> io
     }
     if let Some(index) = number.checked_sub(asked.first) {
         if let Some(endpoint) = asked.each.get(index) {
-            write_fields(writer, endpoint)?;
+            write_own(writer, endpoint)?;
         }
     }
     writer.write_all(b"\n")

@@ -5,12 +5,10 @@ use crate::config::{ConfigFile, Said};
 use crate::exit::{BAD_WORD, Exit, OUT_OF_MEMORY, refuse};
 use peer_config::{Group, Header, Place};
 use peer_http::{Field, FieldFault};
-use peer_origin::{GroupSettings, Origin, set_group};
 use std::alloc::Global;
 use std::fmt::{Display, Formatter};
 use std::fs::Files;
 use std::io::{ErrorKind, Read};
-use std::sync::Arc;
 use std::{fmt, fs, io};
 
 // The most bytes of the lines of the fields of a group, and of a file whose content ends a value.
@@ -109,8 +107,8 @@ fn say_no_field<H: AllocGlobal + Eprint>(
     BAD_WORD
 }
 
-// The fields of the requests of a group, or says why they cannot be sent.
-fn fields_of<H: AllocGlobal + Eprint + Files>(
+// These fields, whatever bytes they have, or says why they cannot be sent.
+fn all_fields<H: AllocGlobal + Eprint + Files>(
     rt: &H,
     file: &ConfigFile<'_>,
     group: &str,
@@ -143,18 +141,14 @@ fn bytes_of(fields: &[Field]) -> usize {
     bytes
 }
 
-// Has the requests of a group have its fields, or says why not.
-fn set_fields<H: AllocGlobal + Eprint + Files>(
+/// The fields of the requests of a group, or says why they cannot be sent.
+pub fn fields_of<H: AllocGlobal + Eprint + Files>(
     rt: &H,
     file: &ConfigFile<'_>,
     group: &Group,
-    origins: &mut [Origin],
-) -> Result<(), Exit> {
-    let Some(headers) = group.headers() else {
-        return Ok(());
-    };
+) -> Result<Vec<Field>, Exit> {
     let name = group.name.as_str();
-    let fields = fields_of(rt, file, name, headers)?;
+    let fields = all_fields(rt, file, name, group.headers().unwrap_or(&[]))?;
     if bytes_of(fields.as_slice()) > MAX_BYTES {
         file.say(
             rt,
@@ -163,24 +157,5 @@ fn set_fields<H: AllocGlobal + Eprint + Files>(
         );
         return Err(BAD_WORD);
     }
-    let Ok(own) = Arc::new(rt.alloc(), GroupSettings { fields }) else {
-        return Err(refuse(rt, &"out of memory", OUT_OF_MEMORY));
-    };
-    let _ = set_group(origins, name.as_bytes(), own);
-    Ok(())
-}
-
-/// Has the requests of each group have the fields that a file says, or says why not.
-pub fn set_headers<H: AllocGlobal + Eprint + Files>(
-    rt: &H,
-    file: Option<ConfigFile<'_>>,
-    origins: &mut [Origin],
-) -> Result<(), Exit> {
-    let Some(file) = file else {
-        return Ok(());
-    };
-    for group in file.config.groups.iter() {
-        set_fields(rt, &file, group, origins)?;
-    }
-    Ok(())
+    Ok(fields)
 }

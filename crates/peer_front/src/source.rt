@@ -2,7 +2,7 @@
 
 use crate::config::{ConfigFile, Said, check_tabled, say_flag, say_group};
 use crate::exit::{BAD_WORD, Exit, OUT_OF_MEMORY, refuse};
-use crate::headers::set_headers;
+use crate::group_settings::set_groups;
 use crate::table::read_table;
 use peer_flags::Options;
 use peer_groups::{Beside, DEMO_NAMES, FrontSource, GroupFault, Maybe, first_in, origins_of};
@@ -135,7 +135,7 @@ pub fn source_of<'a, H: AllocGlobal + Eprint + Files + Network + Wires + Sync>(
             return Err(BAD_WORD);
         }
     };
-    set_headers(rt, file, origins.as_mut_slice())?;
+    set_groups(rt, file, origins.as_mut_slice())?;
     let table = table_of(rt, options, file)?;
     check_tabled(rt, file, &table)?;
     check_twice(rt, options, &table, words, file)?;

@@ -5,9 +5,9 @@ use std::time::Duration;
 /// What can be set of fetches. No duration is zero.
 #[derive(Clone, Copy, Debug, PartialEq, Eq)]
 pub struct FetchSettings {
-    /// How long a connection to one address of an origin may take.
+    /// How long a connection to one address of an origin may take, if its group says nothing else.
     pub connect: Duration,
-    /// How long a value may take, connecting and a second request included.
+    /// How long a value may take, connecting and a second request included, if its group says nothing else.
     pub value: Duration,
     /// How long a value may wait until it may be under way.
     pub wait: Duration,

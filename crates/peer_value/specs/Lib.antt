@@ -1,6 +1,7 @@
 pub mod AddressBooks
 pub mod Endpoints
 pub mod Fetchings
+pub mod GroupShares
 pub mod Listings
 pub mod Shares
 pub mod UnderWays

@@ -1,4 +1,4 @@
--- The values that wait until another one of their service may be under way.
+-- The values that wait until another one of their group may be under way.
 use Rattle.std.specs.Prelude.{◌≡◌, ℕ, Err, List, [], length, option_map, sum_by, unwrap_or, slice_get}
 use Rattle.std.specs.VecDeque.{deque_items}
 use Rattle.peer_source.specs.declared.source.Source as Source
@@ -12,11 +12,11 @@ abbrev pub line_in : {D X : Type 0} → (D → List X) → List D → ℕ → Li
 line_in items lines n = unwrap_or (option_map items (slice_get lines n)) []
 
 module _ {S : Type 0} {g : Source.Ghosts S} where
-  -- those that wait for a service, each behind those that came before it
+  -- those that wait for a group, each behind those that came before it
   abbrev pub line_of : Waiting S g → ℕ → List (UnderWay S g)
-  line_of w service = line_in deque_items w.lines.items service
+  line_of w group = line_in deque_items w.lines.items group
 
-  -- how many wait for all services
+  -- how many wait for all groups
   abbrev pub count_of : Waiting S g → ℕ
   count_of w = sum_by (λ line. length (deque_items line)) w.lines.items
 

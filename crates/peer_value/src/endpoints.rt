@@ -34,6 +34,13 @@ impl<'a> Numbered<'a> {
         self.number
     }
 
+    /// The endpoint.
+    pub fn endpoint(&self) -> &'a Endpoint
+        ensures { result ≡ self.now.endpoint }
+    {
+        self.endpoint
+    }
+
     /// Whether the same is asked at this endpoint: of the same host, with the same before a key, and with the same fields.
     pub fn is_at(&self, endpoint: &Endpoint) -> bool
         ensures { IsTrue result → asked_at self.now.endpoint.now ≡ asked_at endpoint.now }

@@ -1,6 +1,6 @@
-//! The values that wait until another one of their service may be under way.
+//! The values that wait until another one of their group may be under way.
 //!
-//! It stands on the value of each (`UnderWay`). It promises that those of a service come out in the order in which they came in.
+//! It stands on the value of each (`UnderWay`). It promises that those of a group come out in the order in which they came in.
 ghost use Rattle.std.specs.Prelude.{◌≡◌, ◌≢◌, ◌≤◌, ◌-◌, ◌^◌, ℕ, [], ◌∷◌, ◌++◌, min};
 ghost use Rattle.std.specs.Prelude.{IfErr, IfNone, IfSome, MatchOption, OnOk, option_map, slice_get};
 ghost use Rattle.peer_value.specs.UnderWays.{due_of};
@@ -18,7 +18,7 @@ use std::time::Duration;
 #[derive(Drop)]
 pub struct Waiting<'a, S: Source> {
     alloc: Global,
-    // Of each service, by its number, those that wait, the one that waits longest first.
+    // Of each group, by its number, those that wait, the one that waits longest first.
     lines: Vec<VecDeque<UnderWay<'a, S>>>,
 }
 
@@ -44,22 +44,22 @@ impl<'a, S: Source> Waiting<'a, S> {
         count
     }
 
-    /// The number above those of all services for which one may wait.
+    /// The number above those of all groups for which one may wait.
     pub fn lines(&self) -> usize
         ensures { (n : ℕ) → result ≤ n → line_of self.now n ≡ [] }
     {
         self.lines.len()
     }
 
-    /// When the first that waits for this service is to be given up.
-    pub fn due(&self, service: usize) -> Option<Duration>
-        ensures { result ≡ option_map due_of (slice_get (line_of self.now service) 0) }
+    /// When the first that waits for this group is to be given up.
+    pub fn due(&self, group: usize) -> Option<Duration>
+        ensures { result ≡ option_map due_of (slice_get (line_of self.now group) 0) }
     {
-        let first = self.lines.get(service)?.front()?;
+        let first = self.lines.get(group)?.front()?;
         Some(first.due())
     }
 
-    // Has lines for services with numbers below this.
+    // Has lines for groups with numbers below this.
     fn reserve_lines(&mut self, lines: usize) -> Result<(), AllocError>
         ensures { (n : ℕ) → line_of self.new n ≡ line_of self.old n }
     {
@@ -69,16 +69,16 @@ impl<'a, S: Source> Waiting<'a, S> {
         Ok(())
     }
 
-    // Puts a value behind those that wait for its service. Where memory is refused it is given back.
-    fn put(&mut self, service: usize, under: UnderWay<'a, S>) -> Result<(), UnderWay<'a, S>>
-        ensures put { OnOk result (line_of self.new service ≡ line_of self.old service ++ under.entry ∷ []) }
-        ensures others { (n : ℕ) → n ≢ service → line_of self.new n ≡ line_of self.old n }
-        ensures back { IfErr result (λ back. (back ≡ under.entry) × (line_of self.new service ≡ line_of self.old service)) }
+    // Puts a value behind those that wait for its group. Where memory is refused it is given back.
+    fn put(&mut self, group: usize, under: UnderWay<'a, S>) -> Result<(), UnderWay<'a, S>>
+        ensures put { OnOk result (line_of self.new group ≡ line_of self.old group ++ under.entry ∷ []) }
+        ensures others { (n : ℕ) → n ≢ group → line_of self.new n ≡ line_of self.old n }
+        ensures back { IfErr result (λ back. (back ≡ under.entry) × (line_of self.new group ≡ line_of self.old group)) }
     {
-        if self.reserve_lines(service.saturating_add(1)).is_err() {
+        if self.reserve_lines(group.saturating_add(1)).is_err() {
             return Err(under);
         }
-        let Some(line) = self.lines.get_mut(service) else {
+        let Some(line) = self.lines.get_mut(group) else {
             return Err(under);
         };
         if line.reserve(1).is_err() {
@@ -88,25 +88,25 @@ impl<'a, S: Source> Waiting<'a, S> {
         Ok(())
     }
 
-    /// Has a value wait behind the others of its service. Where memory is refused it is done, and the others wait on.
-    pub fn push(&mut self, service: usize, under: UnderWay<'a, S>) -> Option<Done<'a, S>>
-        ensures last { MatchOption result (line_of self.new service ≡ line_of self.old service ++ under.entry ∷ [])
-            (λ d. IsRefused under.entry d × (line_of self.new service ≡ line_of self.old service)) }
-        ensures others { (n : ℕ) → n ≢ service → line_of self.new n ≡ line_of self.old n }
+    /// Has a value wait behind the others of its group. Where memory is refused it is done, and the others wait on.
+    pub fn push(&mut self, group: usize, under: UnderWay<'a, S>) -> Option<Done<'a, S>>
+        ensures last { MatchOption result (line_of self.new group ≡ line_of self.old group ++ under.entry ∷ [])
+            (λ d. IsRefused under.entry d × (line_of self.new group ≡ line_of self.old group)) }
+        ensures others { (n : ℕ) → n ≢ group → line_of self.new n ≡ line_of self.old n }
     {
-        match self.put(service, under) {
+        match self.put(group, under) {
             Ok(()) => None,
             Err(under) => Some(under.done(Err(FetchFault::Memory))),
         }
     }
 
-    /// Takes out the first that waits for this service.
-    pub fn pop(&mut self, service: usize) -> Option<UnderWay<'a, S>>
-        ensures first { IfSome result (λ under. line_of self.old service ≡ under ∷ line_of self.new service) }
-        ensures none { IfNone result (line_of self.old service ≡ []) }
-        ensures others { (n : ℕ) → n ≢ service → line_of self.new n ≡ line_of self.old n }
+    /// Takes out the first that waits for this group.
+    pub fn pop(&mut self, group: usize) -> Option<UnderWay<'a, S>>
+        ensures first { IfSome result (λ under. line_of self.old group ≡ under ∷ line_of self.new group) }
+        ensures none { IfNone result (line_of self.old group ≡ []) }
+        ensures others { (n : ℕ) → n ≢ group → line_of self.new n ≡ line_of self.old n }
     {
-        let under = self.lines.get_mut(service)?.pop_front()?;
+        let under = self.lines.get_mut(group)?.pop_front()?;
         Some(under)
     }
 }

@@ -1,9 +1,10 @@
 //! Files that say what is served.
 
 use super::matches_of;
-use peer_config::{Config, Header, HeaderFault, NoConfig, Place, line_of, words_of};
+use peer_config::{Config, Group, Header, HeaderFault, NoConfig, Place, line_of, words_of};
 use std::alloc::Global;
 use std::test::Fail;
+use std::time::Duration;
 
 // What cannot be used of a text, as the program says it, or nothing.
 fn told(alloc: Global, text: &str) -> Result<String, Fail> {
@@ -104,7 +105,7 @@ fn what_cannot_be_used_is_told_with_its_line(rt: HostRuntime) -> Result<(), Fail
         ),
         (
             "[groups.a]\nurl = \"u\"\ncash = 1\n",
-            "line 3: groups.a.cash: a group has no such key: url, table and header are those it may have",
+            "line 3: groups.a.cash: a group has no such key: url, table, header, timeout, connect_timeout and under_way are those it may have",
         ),
         (
             "[groups.a]\nurl = 1\ntable = true\n",
@@ -231,6 +232,57 @@ fn a_group_has_sixteen_fields_at_most(rt: HostRuntime) -> Result<(), Fail> {
     let text = "table = \"t\"\n[groups.a]\ntable = \"t\"\nheader = [\"A: b\"]\n";
     let said = "line 4: groups.a.header: this is for a group with url";
     assert!(rt; told(alloc, text)?.as_str() == said);
+    Ok(())
+}
+
+const TIME: &str = "a time from 1ms to 60m is needed, such as 500ms, 1.5s or 2m";
+
+const WORD: &str = "a text or a whole number is needed";
+
+#[test]
+fn times_of_a_group_are_as_those_of_flags(rt: HostRuntime) -> Result<(), Fail> {
+    let alloc = rt.alloc();
+    let mut right = true;
+    for (key, word, said) in [
+        ("timeout", "\"500ms\"", ""),
+        ("timeout", "60", ""),
+        ("timeout", "0", TIME),
+        ("timeout", "\"61m\"", TIME),
+        ("timeout", "1.5", WORD),
+        ("connect_timeout", "\"1.5s\"", ""),
+        ("connect_timeout", "\"0.5ms\"", TIME),
+        ("connect_timeout", "true", WORD),
+        ("under_way", "1", ""),
+        ("under_way", "1024", ""),
+        ("under_way", "0", "a number from 1 to 1024 is needed"),
+        ("under_way", "1025", "a number from 1 to 1024 is needed"),
+        ("under_way", "[2]", WORD),
+    ] {
+        let text = format!(in alloc; "[groups.a]\nurl = \"u\"\n\n{key} = {word}\n")?;
+        let told = told(alloc, text.as_str())?;
+        let wanted = if said.is_empty() {
+            String::new(alloc)
+        } else {
+            format!(in alloc; "line 4: groups.a.{key}: {said}")?
+        };
+        right &= told == wanted;
+    }
+    assert!(rt; right);
+    Ok(())
+}
+
+#[test]
+fn a_group_has_what_its_keys_say(rt: HostRuntime) -> Result<(), Fail> {
+    let text =
+        "groups.a = { url = \"u\", timeout = \"1.5s\", connect_timeout = 2, under_way = \"3\" }\ngroups.b.url = \"u\"\n";
+    let config = Config::of(rt.alloc(), text.as_bytes()).map_err(|_| "no file")?;
+    let said = |group: &Group| (group.timeout(), group.connect_timeout(), group.under_way());
+    let own = config.groups.first().map(said);
+    let none = config.groups.get(1).map(said);
+    drop(config);
+    let (long, short) = (Duration::from_millis(1500), Duration::from_secs(2));
+    assert!(rt; own == Some((Some(long), Some(short), Some(3))));
+    assert!(rt; none == Some((None, None, None)));
     Ok(())
 }
 

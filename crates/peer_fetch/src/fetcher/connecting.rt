@@ -43,7 +43,8 @@ impl<'a, S: Source, H: Network + Wires> Fetcher<'a, S, H> {
     // When an address is given up that is tried for a value now. If another one does not rest, it has half of the value's time, or
     // else that one would not be tried in it.
     fn connect_due(&self, now: Duration, under: &UnderWay<'a, S>, way: &Way) -> Duration {
-        let due = now.saturating_add(self.settings.fetch.connect);
+        let own = &under.endpoint().own;
+        let due = now.saturating_add(own.connect_or(self.settings.fetch.connect));
         let service = self.shares.service(under.number());
         if way.left == 0 || !self.books.has_other(service, way.address, now) {
             return due;
@@ -105,7 +106,7 @@ impl<'a, S: Source, H: Network + Wires> Fetcher<'a, S, H> {
             return Some(under.done(Err(FetchFault::Unreached)));
         };
         let due = self.connect_due(now, &under, &way);
-        self.shares.begin(service);
+        self.count_begun(under.number());
         let link = Link::new(system.rt, stream, under, way, due);
         self.connections.add(link);
         None
