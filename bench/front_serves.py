@@ -10,7 +10,8 @@ a reply of another status than 200 begins and its rest is late, and is told on s
 service and last key, as text or as JSON. So is a service that is well again, a group that is not there, that all connections are
 taken, and what an end waits for; and where there are too many lines, how many were left out. What is counted of each
 group adds up to what is counted of all, also where a name has quotes, newlines or bytes above 7F; how long values are under way, wait
-until they are, have clients wait, and turns of loops take, is told by histograms that add up; each reply is counted by its status; limits are those of the flags, and what is told of the process is so; and `/readyz` says how far the server is. `--loops`,
+until they are, have clients wait, and turns of loops take, is told by histograms that add up; so is of each service what it replies, connections, addresses, look-ups and keys that
+wait, and bytes of clients are counted; each reply is counted by its status; limits are those of the flags, and what is told of the process is so; and `/readyz` says how far the server is. `--loops`,
 `--workers` and `--fetchers` are as many threads, and each fetcher has `--under-way` values; who has nothing to do takes no
 processor. No more connections are open than by `--connections`, and where all are taken, silent clients are let go until a
 sixteenth is free, and those who came last are not the next to go; where the system gives no more files, silent clients are let go
@@ -41,7 +42,7 @@ from concurrent.futures import ThreadPoolExecutor
 from contextlib import ExitStack
 from datetime import datetime
 
-from common import Listening, Service, ask, hangs, run_rows
+from common import Listening, Service, ask, free_port, hangs, run_rows
 
 PROGRAM = sys.argv[1] if len(sys.argv) > 1 else "crates/peer_front/out/peer_front"
 PATIENCE = 10  # seconds until what is waited for is so
@@ -274,6 +275,73 @@ def turns_are_told():
                 came += more
         turns = [in_seconds(server.counts(), "loop_turn_duration_seconds", f'loop="{loop}"') for loop in (0, 1)]
         return sum(one[0] for one in turns) > 0 and all(adds_up(*one) for one in turns)
+
+
+def keeps(stream):
+    """What a service does that keeps its connections: 404 for the key none, 503 for the key bad, and else a value."""
+    replies_of = {b"/none": b"HTTP/1.1 404 No\r\nContent-Length: 0\r\n\r\n", b"/bad": b"HTTP/1.1 503 Oh\r\nContent-Length: 0\r\n\r\n"}
+    while request := stream.recv(10000):
+        stream.sendall(replies_of.get(request.split()[1], HEAD + b"1\r\n\r\nv"))
+
+
+def gives_once(stream):
+    """What a service does that ends a connection behind the second request on it."""
+    stream.recv(10000)
+    stream.sendall(HEAD + b"1\r\n\r\nv")
+    stream.recv(10000)
+
+
+def services_are_told():
+    urls = {"good": Service(keeps).url, "once": Service(gives_once).url, "slow": Service(hangs).url, "down": f"http://127.0.0.1:{free_port()}/"}
+
+    def of(group, name, **labels):
+        told = "".join(f',{label}="{value}"' for label, value in labels.items())
+        return f'{name}{{service="{urls[group][7:-1]}"{told}}}'
+
+    words = [f"{name}={url}" for name, url in urls.items()] + ["again=" + urls["good"]]
+    with Counted("--fetchers", "1", "--under-way", "4", *words) as server, ThreadPoolExecutor(3) as threads:
+        for path in ("good/a", "again/b", "good/none", "good/bad", "once/a", "once/b", "down/k"):
+            server.ask(path)
+        # Of four values that may be under way two of one service are, where others are served too.
+        late = [threads.submit(server.ask, f"slow/{number}") for number in range(3)]
+        right = server.says(
+            **{
+                of("good", "origin_replies_total", code="200"): 2,
+                of("good", "origin_replies_total", code="404"): 1,
+                of("good", "origin_replies_total", code="5xx"): 1,
+                of("good", "origin_connections", state="busy"): 0,
+                of("good", "origin_addresses", state="used"): 1,
+                of("once", "origin_second_requests_total"): 1,
+                of("once", "origin_connects_total", result="ok"): 2,
+                of("down", "origin_connects_total", result="refused"): 1,
+                of("down", "origin_addresses", state="used"): 0,
+                of("down", "origin_addresses", state="resting"): 1,
+                of("slow", "origin_connections", state="busy"): 2,
+                of("slow", "origin_waiting"): 1,
+            }
+        )
+        counts = server.counts()
+        # A group of its own has connections of its own, since its URL may differ.
+        kept = counts[of("good", "origin_connections", state="kept")] == counts[of("good", "origin_connects_total", result="ok")] > 0
+        server.process.kill()
+        return right and kept and len([future.exception() for future in late]) == 3
+
+
+def look_ups_are_told():
+    port = Service(keeps).port
+    with Counted(f"g=http://localhost:{port}/") as server:
+        name = f'lookups_total{{service="localhost:{port}",result="ok"}}'
+        return comes_to(lambda: server.counts()[name] > 0) and server.says(**{name.replace('"ok"', '"failed"'): 0})
+
+
+def bytes_of_clients_are_counted():
+    request = get("echo/k", "echo/k", "none/k")
+    with Counted("--demo") as server, socket.create_connection(server.address, PATIENCE) as stream:
+        stream.sendall(request)
+        came = b""
+        while came.count(b"HTTP/1.1 ") < 3 or not came.endswith((b"k", b"\n")):
+            came += stream.recv(10000)
+        return server.says(received_bytes_total=len(request), sent_bytes_total=len(came))
 
 
 def send(address, head):
@@ -859,6 +927,9 @@ run_rows(
         times_are_told,
         a_value_that_is_given_up_is_told,
         turns_are_told,
+        services_are_told,
+        look_ups_are_told,
+        bytes_of_clients_are_counted,
         replies_are_counted_by_their_status,
         connections_come_and_go,
         ends_are_counted_by_why,

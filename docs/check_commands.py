@@ -17,6 +17,7 @@ or the system.
 Prints what is not so, and ends with status 1 if something is not.
 """
 import argparse
+import contextlib
 import os
 import re
 import shutil
@@ -151,7 +152,9 @@ def shell(script, folder):
         except subprocess.TimeoutExpired:
             status = "late"
         finally:
-            os.killpg(process.pid, signal.SIGKILL)
+            # Where it left nothing behind, its group is gone with it.
+            with contextlib.suppress(ProcessLookupError):
+                os.killpg(process.pid, signal.SIGKILL)
         printed.seek(0)
         return printed.read().decode(errors="replace"), status
 

@@ -170,12 +170,13 @@ impl<'a, S: Source, F: Facts<S>> Client<'a, S, F> {
         ensures pool { seat.new.pool.now ≡ seat.old.pool.now }
         ensures parts { KeepsParts seat.old.seats seat.new.seats }
     {
-        self.receive(seat.buffer.as_mut_slice(), now);
+        let came = self.receive(seat.buffer.as_mut_slice(), now);
+        seat.note_received(came);
         if self.failed {
             return Some(ClientState::Gone);
         }
         let progress = self.serve(rt, seat, occupancy);
-        self.send(now);
+        seat.note_sent(self.send(now));
         if self.failed {
             return Some(ClientState::Gone);
         }

@@ -13,6 +13,7 @@ use peer_exchange::ReplyCounts;
 use peer_fill::Pool;
 use peer_runtime::Network;
 use peer_source::Source;
+use peer_stats::TrafficCounts;
 use std::alloc::Global;
 use std::marker::{Brand, PhantomData};
 use std::sync::ledger::Ledger;
@@ -38,6 +39,7 @@ fn run_known<S: Source, L: Ledger, F: Facts<S>, H: Network>(
         buffer,
         filling: Filling::new(site.shared.wakers, site.shared.gate(site.number)),
         replies: ReplyCounts::NONE,
+        traffic: TrafficCounts::NONE,
         of: PhantomData,
     };
     let mut serving = EventLoop::new(alloc, site);

@@ -11,7 +11,7 @@ use crate::loop_seats::LoopSeats;
 use peer_exchange::{Exchange, ReplyCounts, Rest};
 use peer_fill::Pool;
 use peer_source::{GroupId, MAX_GROUPS, Source};
-use peer_stats::{AskCounts, CacheCounts, Counters, LoopCounts, LoopSlot};
+use peer_stats::{AskCounts, CacheCounts, Counters, LoopCounts, LoopSlot, TrafficCounts};
 use std::alloc::Global;
 use std::marker::PhantomData;
 use std::sync::Wait;
@@ -55,6 +55,8 @@ pub struct LoopSeat<'a, S: Source, L: Ledger, F: Facts<S>> {
     pub filling: Filling<'a>,
     /// The replies that its connections have put.
     pub replies: ReplyCounts,
+    /// The bytes of its clients.
+    pub traffic: TrafficCounts,
     pub of: PhantomData<F>,
     ghost of_pool: { AreOf pool.now seats } by { Prim.hlevel props },
     ghost source: { F.source ≡ Some (source_of pool.now) },
@@ -138,6 +140,22 @@ impl<'a, S: Source, L: Ledger, F: Facts<S>> LoopSeat<'a, S, L, F> {
         }
     }
 
+    /// So many bytes came of a client.
+    pub fn note_received(&mut self, n: usize)
+        ensures pool { self.new.pool.now ≡ self.old.pool.now }
+        ensures seats { self.new.seats ≡ self.old.seats }
+    {
+        self.traffic.received = self.traffic.received.wrapping_add(n as u64);
+    }
+
+    /// A client took so many bytes.
+    pub fn note_sent(&mut self, n: usize)
+        ensures pool { self.new.pool.now ≡ self.old.pool.now }
+        ensures seats { self.new.seats ≡ self.old.seats }
+    {
+        self.traffic.sent = self.traffic.sent.wrapping_add(n as u64);
+    }
+
     // How many jobs its connections have pushed.
     fn pushed(&self) -> u64 {
         let left = u64::from(self.has_left());
@@ -189,6 +207,7 @@ impl<'a, S: Source, L: Ledger, F: Facts<S>> LoopSeat<'a, S, L, F> {
         ensures parts { KeepsParts self.old.seats self.new.seats }
     {
         slot.publish_replies(told_replies(self.replies));
+        slot.publish_traffic(self.traffic);
         for _ in 0..MAX_GROUPS {
             let Some(of_group) = self.seats.conn.next_untold() else {
                 return;

@@ -13,7 +13,7 @@ use Rattle.peer_value.specs.declared.under_way.UnderWay.{UnderWay}
 abbrev pub KeepsWire : Connecting → Wire → Wire → Type 0
 KeepsWire connecting.Connected old new = new ≡ old
 KeepsWire connecting.Waits old new = new ≡ old
-KeepsWire connecting.Failed old new = Unit {0}
+KeepsWire (connecting.Failed end) old new = Unit {0}
 
 module _ {S : Type 0} {g : Source.Ghosts S} where
   -- the value stays on the connection, or it is given back with its own job, and the connection is kept only where another request
@@ -23,7 +23,7 @@ module _ {S : Type 0} {g : Source.Ghosts S} where
   IsTurnOf u left turn.Busy = IsSomeAnd left (HasSameJob u)
   IsTurnOf u left turn.Gone = ⊥
   IsTurnOf u left (turn.Done d reusable) = IsDoneOf u d × (IsSome reusable → LeavesFree d)
-  IsTurnOf u left (turn.Unconnected u') = HasSameJob u u'
+  IsTurnOf u left (turn.Unconnected u' end) = HasSameJob u u'
   IsTurnOf u left (turn.Cut u' failure) = HasSameJob u u'
 
   -- if a value was found, or a status is told, the network says what its connection carried
@@ -32,5 +32,5 @@ module _ {S : Type 0} {g : Source.Ghosts S} where
   GivesOn carried turn.Busy = Unit {0}
   GivesOn carried turn.Gone = Unit {0}
   GivesOn carried (turn.Done d reusable) = IsDoneOn carried d
-  GivesOn carried (turn.Unconnected u) = Unit {0}
+  GivesOn carried (turn.Unconnected u end) = Unit {0}
   GivesOn carried (turn.Cut u failure) = IsCutOn carried u failure

@@ -73,6 +73,14 @@ impl Books {
         }
     }
 
+    /// How many addresses of a service rest, or have rested and were not tried since.
+    pub fn rested(&self, service: usize) -> usize {
+        match self.each.get(service) {
+            Some(page) => page.book.rested(),
+            None => 0,
+        }
+    }
+
     /// Whether this is an address of a service.
     pub fn has(&self, service: usize, address: SocketAddr) -> bool {
         match self.each.get(service) {

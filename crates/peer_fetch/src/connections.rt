@@ -133,6 +133,11 @@ impl<'a, S: Source, H: Wires> Connections<'a, S, H> {
         }
     }
 
+    /// How many are kept to the endpoint with this number.
+    pub fn kept_count(&self, number: usize) -> usize {
+        self.idle.count(number)
+    }
+
     /// All keys that connections may have.
     pub fn keys(&self) -> Range<usize> {
         keys_of(&self.links)

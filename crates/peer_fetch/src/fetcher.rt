@@ -8,19 +8,21 @@
 
 mod connecting;
 mod ending;
+mod telling;
 
 use crate::books::Books;
 use crate::connections::{Connections, earlier};
 use crate::link::Turn;
 use crate::opening::System;
 use crate::room::Room;
-use crate::settings::FetchThreadSettings;
+use crate::settings::{FetchPlan, FetchThreadSettings};
 use mio::event::Event;
 use peer_fill::TakenJob;
 use peer_origin::{Endpoint, Failure, FetchFault, Wires};
 use peer_runtime::Network;
 use peer_source::Source;
-use peer_value::{Done, Event as Befell, GroupShares, Numbered, Shares, UnderWay, Waiting};
+use peer_stats::{ServiceHeld, ServiceSlots};
+use peer_value::{Done, GroupShares, Numbered, Shares, UnderWay, Waiting};
 use std::alloc::Global;
 use std::net::SocketAddr;
 use std::time::Duration;
@@ -48,6 +50,8 @@ pub struct Fetcher<'a, S: Source, H: Wires> {
     group_shares: GroupShares,
     waiting: Waiting<'a, S>,
     buffer: Vec<u8>,
+    services: &'a ServiceSlots,
+    told: Vec<ServiceHeld>,
 }
 
 impl<'a, S: Source, H: Network + Wires> Fetcher<'a, S, H> {
@@ -57,23 +61,26 @@ impl<'a, S: Source, H: Network + Wires> Fetcher<'a, S, H> {
     ghost use Rattle.peer_value.specs.UnderWays.{IsCutOn, IsDoneOn};
 
     /// Nothing is under way.
-    pub fn new(alloc: Global, settings: FetchThreadSettings, room: Room) -> Fetcher<'a, S, H> {
+    pub fn new(alloc: Global, plan: &FetchPlan<'a>, room: Room) -> Fetcher<'a, S, H> {
         let Room {
             books,
             idle,
             shares,
             group_shares,
             buffer,
+            told,
         } = room;
         Fetcher {
             alloc,
-            settings,
+            settings: plan.settings,
             connections: Connections::new(alloc, idle),
             books,
             shares,
             group_shares,
             waiting: Waiting::new(alloc),
             buffer,
+            services: plan.services,
+            told,
         }
     }
 
@@ -270,6 +277,7 @@ impl<'a, S: Source, H: Network + Wires> Fetcher<'a, S, H> {
     fn ask_again(&mut self, system: &System<'_, H>, under: UnderWay<'a, S>) -> Option<Done<'a, S>>
         ensures { IfSome result (IsDoneOn H.carried) }
     {
+        self.note_second_request(under.number());
         match under.again(self.alloc) {
             Ok(under) => self.connect_first(system, under),
             Err(done) => Some(done),
@@ -289,7 +297,10 @@ impl<'a, S: Source, H: Network + Wires> Fetcher<'a, S, H> {
     {
         let was_kept = self.connections.forget_cut(key);
         match failure {
-            Failure::Fetch(fault) => Some(under.done(Err(fault))),
+            Failure::Fetch(fault) => {
+                self.note_reply(under.number(), Some(fault));
+                Some(under.done(Err(fault)))
+            }
             Failure::Silent if was_kept => self.ask_again(system, under),
             Failure::Silent => Some(under.done(Err(FetchFault::Lost))),
         }
@@ -311,7 +322,7 @@ impl<'a, S: Source, H: Network + Wires> Fetcher<'a, S, H> {
         let is_late = link.is_late(now);
         let turn = link.turn(system.rt, &mut self.buffer, now);
         if !was_connected && link.is_connected() {
-            self.note_event(place, Befell::Connected);
+            self.note_connected(place);
         }
         match turn {
             Turn::Waits => None,
@@ -329,9 +340,9 @@ impl<'a, S: Source, H: Network + Wires> Fetcher<'a, S, H> {
                 self.release(key, place, reusable);
                 Some(done)
             }
-            Turn::Unconnected(under) => {
+            Turn::Unconnected(under, end) => {
                 self.count_ended(place);
-                self.note_event(place, Befell::Unreached);
+                self.note_unconnected(place, end);
                 self.connect_next(system, key, under)
             }
             Turn::Cut(under, failure) => {

@@ -29,6 +29,14 @@ impl Idle {
         }
     }
 
+    /// How many there are to this endpoint.
+    pub fn count(&self, number: usize) -> usize {
+        match self.each.get(number) {
+            Some(keys) => keys.len(),
+            None => 0,
+        }
+    }
+
     /// Takes out the one to this endpoint that was used last.
     pub fn pop(&mut self, number: usize) -> Option<usize> {
         self.each.get_mut(number)?.pop()

@@ -19,7 +19,9 @@ use mio::net::TcpStream;
 use peer_origin::{Failure, FetchFault, Wires, is_to_itself};
 use peer_runtime::{Readiness, Wire, would_block};
 use peer_source::Source;
+use peer_stats::ConnectEnd;
 use peer_value::{Answer, Done, UnderWay};
+use std::io;
 use std::io::ErrorKind;
 use std::marker::PhantomData;
 use std::net::SocketAddr;
@@ -50,8 +52,8 @@ pub enum Turn<'a, S: Source> {
     Gone,
     /// The value is done. Another one may be asked for on the connection where that is said.
     Done(Done<'a, S>, Option<Reusable>),
-    /// There is no connection to the address.
-    Unconnected(UnderWay<'a, S>),
+    /// There is no connection to the address, for this reason.
+    Unconnected(UnderWay<'a, S>, ConnectEnd),
     /// The connection ended, or failed, before the value was there.
     Cut(UnderWay<'a, S>, Failure),
 }
@@ -86,7 +88,7 @@ pub struct Link<'a, S: Source, H: Wires> {
 enum Connecting {
     Connected,
     Waits,
-    Failed,
+    Failed(ConnectEnd),
 }
 
 // That another request may follow, where it may.
@@ -110,24 +112,37 @@ fn late_fault<S: Source>(under: &UnderWay<'_, S>) -> FetchFault
     }
 }
 
+// Why no connection is made, if the system has told an error of its stream.
+fn end_of(told: io::Result<Option<io::Error>>) -> Option<ConnectEnd> {
+    match told {
+        Ok(None) => None,
+        Ok(Some(error)) => match error.kind() {
+            ErrorKind::ConnectionRefused => Some(ConnectEnd::Refused),
+            ErrorKind::TimedOut => Some(ConnectEnd::Late),
+            _ => Some(ConnectEnd::Failed),
+        },
+        Err(_) => Some(ConnectEnd::Failed),
+    }
+}
+
 // How far a stream is that began to connect.
 fn progress_of<H: Wires>(rt: &H, wire: &mut Wire) -> Connecting
     requires { Carried H.carried wire.old }
     ensures wire { KeepsWire result wire.old wire.new }
     ensures carried { Carried H.carried wire.new }
 {
-    let Ok(None) = wire.take_error() else {
-        return Connecting::Failed;
-    };
+    if let Some(end) = end_of(wire.take_error()) {
+        return Connecting::Failed(end);
+    }
     match wire.peer_addr() {
         Ok(peer) if is_to_itself(wire.local_addr(), peer) => {
             // So that its close gives the port back at once.
             let _ = rt.write(wire, b"x");
-            Connecting::Failed
+            Connecting::Failed(ConnectEnd::Failed)
         }
         Ok(_) => Connecting::Connected,
         Err(error) if error.kind() == ErrorKind::NotConnected => Connecting::Waits,
-        Err(_) => Connecting::Failed,
+        Err(_) => Connecting::Failed(ConnectEnd::Failed),
     }
 }
 
@@ -308,7 +323,7 @@ impl<'a, S: Source, H: Wires> Link<'a, S, H> {
                 self.connect_due = None;
                 let _ = self.wire.set_nodelay();
             }
-            Connecting::Waits if now >= due => return Connecting::Failed,
+            Connecting::Waits if now >= due => return Connecting::Failed(ConnectEnd::Late),
             _ => {}
         }
         progress
@@ -331,14 +346,14 @@ impl<'a, S: Source, H: Wires> Link<'a, S, H> {
         let late = under.due() <= now;
         match self.connect(rt, now) {
             Connecting::Connected => self.exchange(rt, under, buffer, late),
-            Connecting::Waits | Connecting::Failed if late => {
+            Connecting::Waits | Connecting::Failed(_) if late => {
                 Turn::Done(under.done(Err(FetchFault::Unreached)), None)
             }
             Connecting::Waits => {
                 self.put(under);
                 Turn::Waits
             }
-            Connecting::Failed => Turn::Unconnected(under),
+            Connecting::Failed(end) => Turn::Unconnected(under, end),
         }
     }
 }

@@ -5,6 +5,7 @@
 use crate::books::Books;
 use crate::idle::Idle;
 use crate::settings::FetchPlan;
+use peer_stats::ServiceHeld;
 use peer_value::{GroupShares, Shares};
 use std::alloc::{AllocError, Global};
 
@@ -19,6 +20,8 @@ pub struct Room {
     pub shares: Shares,
     pub group_shares: GroupShares,
     pub buffer: Vec<u8>,
+    /// What the page was told of each endpoint.
+    pub told: Vec<ServiceHeld>,
 }
 
 impl Room {
@@ -31,6 +34,7 @@ impl Room {
             shares: Shares::new(alloc, &plan.endpoints, plan.settings.under_way)?,
             group_shares: GroupShares::new(alloc, plan.endpoints.each)?,
             buffer: vec![in alloc; 0; ROOM]?,
+            told: vec![in alloc; ServiceHeld::NONE; endpoints]?,
         })
     }
 }

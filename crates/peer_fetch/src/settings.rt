@@ -2,7 +2,7 @@
 ghost use Rattle.std.specs.Prelude.{◌≡◌};
 
 use peer_origin::FetchSettings;
-use peer_stats::{FailureSlots, FetchTimes};
+use peer_stats::{FailureSlots, FetchTimes, ServiceSlots};
 use peer_value::Endpoints;
 use std::time::Duration;
 
@@ -41,4 +41,6 @@ pub struct FetchPlan<'a> {
     pub failures: &'a FailureSlots,
     /// Where is counted how long values took.
     pub times: &'a FetchTimes,
+    /// Where is counted of services.
+    pub services: &'a ServiceSlots,
 }

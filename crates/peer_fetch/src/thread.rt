@@ -146,7 +146,7 @@ impl<'a> FetchThread<'a> {
         let mut thread = Running {
             poll,
             events,
-            fetcher: Fetcher::new(alloc, plan.settings, room),
+            fetcher: Fetcher::new(alloc, &plan, room),
             pause: plan.settings.pause,
             begun: Instant::now(rt).ok(),
         };
@@ -201,6 +201,7 @@ impl<'a, S: Source, H: Network + Wires> Running<'a, S, H> {
             return true;
         }
         let time = prepare_wait(&system, jobs, seat, &mut self.fetcher, waker);
+        self.fetcher.tell_held();
         self.wait(rt, time, waker);
         false
     }

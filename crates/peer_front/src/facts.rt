@@ -1,9 +1,10 @@
 //! What the page tells of the server as it was begun.
 
+use peer_fetch::FetchPlan;
 use peer_flags::Options;
 use peer_groups::{FrontSource, names_of};
-use peer_origin::Wires;
-use peer_stats::{Build, CacheLimits, ServedGroup, ServerBounds, ServerFacts};
+use peer_origin::{Endpoint, Wires};
+use peer_stats::{Build, CacheLimits, ServedGroup, ServedService, ServerBounds, ServerFacts};
 use std::alloc::Global;
 
 // The version of the program, as `--version` prints it.
@@ -31,15 +32,42 @@ pub fn served_groups<H: Wires + Sync>(
     Some(groups)
 }
 
-/// What a server of these groups is, as the options say.
+// The services of these endpoints: each host under the number of its first endpoint. None where memory is refused.
+fn services_at(alloc: Global, endpoints: &[Endpoint]) -> Option<Vec<ServedService>> {
+    let mut services = Vec::new(alloc);
+    for number in 0..endpoints.len() {
+        let host = &endpoints[number].host;
+        let mut before = endpoints.iter().take(number);
+        if !before.any(|other| other.host == *host) {
+            let name = host.as_slice().to_vec(alloc).ok()?;
+            services.push(ServedService { name, number }).ok()?;
+        }
+    }
+    Some(services)
+}
+
+/// The services that this plan asks, none without one: each host under the number of its first endpoint. None where memory is refused.
+pub fn served_services(alloc: Global, plan: &Option<FetchPlan<'_>>) -> Option<Vec<ServedService>> {
+    match plan {
+        Some(plan) => services_at(alloc, plan.endpoints.each),
+        None => Some(Vec::new(alloc)),
+    }
+}
+
+/// What a server of these groups and services is, as the options say.
 pub fn facts_of<'a>(
     options: &Options<'_>,
-    has_services: bool,
     groups: &'a [ServedGroup],
+    services: &'a [ServedService],
 ) -> ServerFacts<'a> {
-    let fetchers = if has_services { options.fetchers } else { 0 };
+    let fetchers = if services.is_empty() {
+        0
+    } else {
+        options.fetchers
+    };
     ServerFacts {
         groups,
+        services,
         loops: options.loops,
         bounds: ServerBounds {
             connections: options.connections as u64,

@@ -5,6 +5,7 @@ use crate::log::Log;
 use peer_log::{Field, Level, Said};
 use peer_origin::{Endpoint, LookUp};
 use peer_runtime::Network;
+use peer_stats::ServiceSlots;
 use std::alloc::Global;
 use std::fmt::Write;
 use std::net::SocketAddr;
@@ -75,6 +76,7 @@ fn say_look_up<H: AllocGlobal + Eprint + Network>(
 fn look_up<H: AllocGlobal + Eprint + Network>(
     rt: &H,
     log: &Log,
+    services: &ServiceSlots,
     endpoints: &[Endpoint],
     number: usize,
 ) {
@@ -84,6 +86,7 @@ fn look_up<H: AllocGlobal + Eprint + Network>(
     let mut before = endpoints.iter().take(number);
     if !before.any(|other| other.host == endpoint.host) {
         let came_to = endpoint.addresses.look_up_again(rt, rt.alloc());
+        services.count_lookup(number, !matches!(came_to, LookUp::Failed));
         say_look_up(rt, log, endpoint, came_to);
     }
 }
@@ -92,6 +95,7 @@ fn look_up<H: AllocGlobal + Eprint + Network>(
 pub fn look_up_names<H: AllocGlobal + Eprint + Network>(
     rt: &H,
     log: &Log,
+    services: &ServiceSlots,
     endpoints: &[Endpoint],
     end: &End,
 ) {
@@ -104,7 +108,7 @@ pub fn look_up_names<H: AllocGlobal + Eprint + Network>(
             if end.is_told() {
                 return;
             }
-            look_up(rt, log, endpoints, number);
+            look_up(rt, log, services, endpoints, number);
         }
     }
     unreachable!()

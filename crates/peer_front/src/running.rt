@@ -145,12 +145,12 @@ fn serve_named<S: Source + Send + Sync, H: AllocGlobal + Eprint + Files + Host +
         Some(plan) if has_names(plan.endpoints.each) => plan.endpoints.each,
         _ => return serve_paged(rt, service, page),
     };
-    let log = service.log;
+    let (log, services) = (service.log, service.settings.counters.services());
     let end = End::new();
     let end = &end;
     serve_beside(
         rt,
-        move || look_up_names(rt, log, endpoints, end),
+        move || look_up_names(rt, log, services, endpoints, end),
         move || end.tell(),
         move || -> Result<Report, ServerFault>
             requires { IfSome service.plan (Allows H.carried (S.answers service.source)) }

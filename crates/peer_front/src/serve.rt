@@ -5,7 +5,7 @@ ghost use Rattle.peer_fetch.specs.Threads.{Allows};
 use crate::check::say_checked;
 use crate::config::{ConfigFile, say_flag};
 use crate::exit::{BAD_WORD, DONE, Exit, NO_SEED, OUT_OF_MEMORY, no_output, refuse};
-use crate::facts::{facts_of, served_groups};
+use crate::facts::{facts_of, served_groups, served_services};
 use crate::files::within_files;
 use crate::listen::listen;
 use crate::log::Log;
@@ -214,20 +214,18 @@ fn serve<
     };
     let plan = if has_services {
         let fetch = fetch_settings(options);
-        let plan = fetched.plan(
-            fetch,
-            options.under_way,
-            counters.failures(),
-            counters.fetch_times(),
-        );
+        let plan = fetched.plan(fetch, options.under_way, &counters);
         say_prefixes(rt, words, plan.endpoints.each);
         Some(plan)
     } else {
         None
     };
+    let Some(services) = served_services(rt.alloc(), &plan) else {
+        return refuse(rt, &"out of memory", OUT_OF_MEMORY);
+    };
     let outside = Outside {
         counters: &counters,
-        facts: facts_of(options, has_services, groups.as_slice()),
+        facts: facts_of(options, groups.as_slice(), services.as_slice()),
         stop: &stop,
     };
     serve_source(rt, options, source, plan, outside)

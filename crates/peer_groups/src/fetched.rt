@@ -8,7 +8,7 @@ use crate::beside::Beside;
 use peer_fetch::{FetchPlan, FetchThreadSettings};
 use peer_origin::{Endpoint, FetchSettings, OriginSource, Wires};
 use peer_source::Source;
-use peer_stats::{FailureSlots, FetchTimes};
+use peer_stats::Counters;
 use peer_value::Endpoints;
 use std::alloc::Global;
 
@@ -26,8 +26,7 @@ impl Fetched {
         &'a self,
         fetch: FetchSettings,
         under_way: usize,
-        failures: &'a FailureSlots,
-        times: &'a FetchTimes,
+        counters: &'a Counters,
     ) -> FetchPlan<'a>
         ensures first { result.endpoints.first ≡ self.now.first }
         ensures each { result.endpoints.each.now ≡ self.now.each.items }
@@ -42,8 +41,9 @@ impl Fetched {
                 groups: self.groups,
             },
             settings: FetchThreadSettings::new(fetch, under_way),
-            failures,
-            times,
+            failures: counters.failures(),
+            times: counters.fetch_times(),
+            services: counters.services(),
         }
     }
 }

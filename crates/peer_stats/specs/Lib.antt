@@ -5,6 +5,7 @@ pub mod Labels
 pub mod Latencies
 pub mod Looks
 pub mod Pages
+pub mod Services
 pub mod Starts
 pub mod States
 pub mod Sums

@@ -4,18 +4,21 @@ use Rattle.peer_stats.specs.Families.{bound_text, counter_text, family_text, gau
 use Rattle.peer_stats.specs.Groups.{groups_text}
 use Rattle.peer_stats.specs.Labels.{label_text}
 use Rattle.peer_stats.specs.Latencies.{latencies_text}
+use Rattle.peer_stats.specs.Services.{services_text}
 use Rattle.peer_stats.specs.declared.counts.LoopCounts.{LoopCounts}
 use Rattle.peer_stats.specs.declared.counts.FillerCounts.{FillerCounts}
 use Rattle.peer_stats.specs.declared.counts.AcceptCounts.{AcceptCounts}
 use Rattle.peer_stats.specs.declared.counts.CloseCounts.{CloseCounts}
 use Rattle.peer_stats.specs.declared.counts.ReplyCounts.{ReplyCounts}
 use Rattle.peer_stats.specs.declared.counts.FailureCounts.{FailureCounts}
+use Rattle.peer_stats.specs.declared.counts.TrafficCounts.{TrafficCounts}
 use Rattle.peer_stats.specs.declared.counts.Counts.{Counts}
 use Rattle.peer_stats.specs.declared.counts.GroupCounts.{GroupCounts}
 use Rattle.peer_stats.specs.declared.numbers.Build.{Build}
 use Rattle.peer_stats.specs.declared.numbers.Numbers.{Numbers}
 use Rattle.peer_stats.specs.declared.numbers.ProcessCounts.{ProcessCounts}
 use Rattle.peer_stats.specs.declared.numbers.ServerBounds.{ServerBounds}
+use Rattle.peer_stats.specs.declared.service_counts.ServiceCounts.{ServiceCounts}
 use Rattle.peer_stats.specs.declared.times.LoopTurns.{LoopTurns}
 
 -- the version of the program, and the logic of its toolchain
@@ -51,6 +54,12 @@ connections_text connected c =
     gauge_text (codes "peer_front_connections") connected (codes "Connections that are open.")
     ++ counter_text (codes "peer_front_connections_accepted_total") c.accepted (codes "Connections accepted.")
     ++ counter_text (codes "peer_front_accept_failures_total") c.failed (codes "Accepts that failed.")
+
+-- the bytes of clients
+abbrev pub traffic_text : TrafficCounts → List ℕ
+traffic_text c =
+    counter_text (codes "peer_front_received_bytes_total") c.received (codes "Bytes that clients sent.")
+    ++ counter_text (codes "peer_front_sent_bytes_total") c.sent (codes "Bytes that clients took.")
 
 -- the connections that ended, by why
 abbrev pub closes_text : CloseCounts → List ℕ
@@ -142,10 +151,10 @@ some_process_text None = []
 abbrev pub counts_text : Counts → List ℕ
 counts_text c =
     loops_text c.loops ++ fillers_text c.fillers ++ connections_text c.loops.connections c.accepts
-    ++ closes_text c.closes ++ replies_text c.replies ++ failures_text c.failures
+    ++ traffic_text c.traffic ++ closes_text c.closes ++ replies_text c.replies ++ failures_text c.failures
 
 -- the whole page
-abbrev pub page_text : Numbers → List GroupCounts → List LoopTurns → Build → List ℕ
-page_text n groups turns build =
-    build_text build ++ counts_text n.counts ++ groups_text groups ++ latencies_text n.counts.queued groups turns
+abbrev pub page_text : Numbers → List GroupCounts → List LoopTurns → List ServiceCounts → Build → List ℕ
+page_text n groups turns services build =
+    build_text build ++ counts_text n.counts ++ groups_text groups ++ latencies_text n.counts.queued groups turns ++ services_text services
     ++ bounds_text n.bounds ++ held_text n ++ some_process_text n.process

@@ -6,6 +6,7 @@ use Rattle.peer_stats.specs.declared.counts.AskCounts.{AskCounts}
 use Rattle.peer_stats.specs.declared.counts.ReplyCounts.{ReplyCounts}
 use Rattle.peer_stats.specs.declared.counts.CloseCounts.{CloseCounts}
 use Rattle.peer_stats.specs.declared.counts.FailureCounts.{FailureCounts}
+use Rattle.peer_stats.specs.declared.counts.TrafficCounts.{TrafficCounts}
 use Rattle.peer_stats.specs.declared.failure.OriginFailure.{OriginFailure}
 use Rattle.peer_stats.specs.declared.failure.OriginFailure.TheVariants as failure
 
@@ -49,6 +50,10 @@ reply_sum a b = record {
   not_implemented = sum_of a.not_implemented b.not_implemented;
   unknown_groups = sum_of a.unknown_groups b.unknown_groups;
 }
+
+-- the bytes of the clients of two loops together
+abbrev pub traffic_sum : TrafficCounts → TrafficCounts → TrafficCounts
+traffic_sum a b = record { received = sum_of a.received b.received; sent = sum_of a.sent b.sent }
 
 -- the connections of two loops that ended together
 abbrev pub close_sum : CloseCounts → CloseCounts → CloseCounts

@@ -3,8 +3,11 @@ ghost use Rattle.std.specs.Prelude.{◌≡◌, IfOk, length, map, min};
 
 use crate::counts::{
     AskCounts, CloseCounts, Counts, FillerCounts, GroupCounts, LoopCounts, ReplyCounts,
+    TrafficCounts,
 };
-use crate::facts::ServedGroup;
+use crate::facts::{ServedGroup, ServedService};
+use crate::service_counts::ServiceCounts;
+use crate::service_slots::ServiceSlots;
 use crate::slots::{AcceptSlot, CacheSlot, FailureSlots, FillerSlot, LoopSlot, MAX_GROUPS};
 use crate::state::Stage;
 use crate::still::Looks;
@@ -42,6 +45,7 @@ pub struct Counters {
     failures: CachePadded<FailureSlots>,
     fetch_times: CachePadded<FetchTimes>,
     waits: CachePadded<GroupTimes>,
+    services: CachePadded<ServiceSlots>,
     cache_bytes: CachePadded<AtomicU64>,
     untaken_bytes: CachePadded<AtomicU64>,
     stage: CachePadded<AtomicU64>,
@@ -58,6 +62,7 @@ impl Counters {
             failures: Default::default(),
             fetch_times: Default::default(),
             waits: Default::default(),
+            services: Default::default(),
             cache_bytes: Default::default(),
             untaken_bytes: Default::default(),
             stage: Default::default(),
@@ -97,6 +102,11 @@ impl Counters {
     /// Where is counted how long clients wait for values.
     pub fn waits(&self) -> &GroupTimes {
         &self.waits
+    }
+
+    /// Where is counted of services.
+    pub fn services(&self) -> &ServiceSlots {
+        &self.services
     }
 
     /// All caches together have so many bytes.
@@ -165,6 +175,15 @@ impl Counters {
         sum
     }
 
+    // The bytes of the clients of all loops.
+    fn read_traffic(&self) -> TrafficCounts {
+        let mut sum = TrafficCounts::NONE;
+        for slot in &self.loops {
+            sum = sum.plus(slot.read_traffic());
+        }
+        sum
+    }
+
     // The connections of all loops that ended.
     fn read_closes(&self) -> CloseCounts {
         let mut sum = CloseCounts::NONE;
@@ -217,11 +236,27 @@ impl Counters {
         Ok(groups)
     }
 
+    /// These services with what was counted of them.
+    pub fn read_services<'n>(
+        &self,
+        alloc: Global,
+        served: &'n [ServedService],
+    ) -> Result<Vec<ServiceCounts<'n>>, AllocError>
+        ensures { IfOk result (λ services. map (λ s. s.name.now) services.items ≡ map (λ s. s.name.items) served.now) }
+    {
+        let mut services = Vec::new(alloc);
+        for service in served {
+            services.push(self.services.read(service.number, service.name.as_slice()))?;
+        }
+        Ok(services)
+    }
+
     /// What was published by now, but for what was of each group.
     pub fn read(&self) -> Counts {
         Counts {
             loops: self.read_loops(),
             replies: self.read_replies(),
+            traffic: self.read_traffic(),
             closes: self.read_closes(),
             fillers: self.read_fillers(),
             accepts: self.accepts.read(),

@@ -1,7 +1,7 @@
 //! Numbers that were counted, as a reader sees them.
 ghost use Rattle.std.specs.Prelude.{◌≡◌};
 ghost use Rattle.peer_stats.specs.Sums.{ask_sum, close_sum, failure_sum, filler_sum, loop_sum, reply_sum};
-ghost use Rattle.peer_stats.specs.Sums.{failures_of};
+ghost use Rattle.peer_stats.specs.Sums.{failures_of, traffic_sum};
 
 use crate::failure::OriginFailure;
 use crate::times::TimeCounts;
@@ -40,6 +40,15 @@ pub struct ReplyCounts {
     pub not_implemented: u64,
     /// Those of `not_found` to a request for a group that is not served.
     pub unknown_groups: u64,
+}
+
+/// The bytes of clients.
+#[derive(Clone, Copy, Debug, PartialEq, Eq)]
+pub struct TrafficCounts {
+    /// Those that they sent.
+    pub received: u64,
+    /// Those that they took.
+    pub sent: u64,
 }
 
 /// The connections that ended, by why.
@@ -124,6 +133,7 @@ pub struct GroupCounts<'n> {
 pub struct Counts {
     pub loops: LoopCounts,
     pub replies: ReplyCounts,
+    pub traffic: TrafficCounts,
     pub closes: CloseCounts,
     pub fillers: FillerCounts,
     pub accepts: AcceptCounts,
@@ -228,6 +238,24 @@ impl ReplyCounts {
             failed: self.failed.wrapping_add(other.failed),
             not_implemented: self.not_implemented.wrapping_add(other.not_implemented),
             unknown_groups: self.unknown_groups.wrapping_add(other.unknown_groups),
+        }
+    }
+}
+
+impl TrafficCounts {
+    /// None.
+    pub const NONE: TrafficCounts = TrafficCounts {
+        received: 0,
+        sent: 0,
+    };
+
+    /// Those of the clients of two loops together.
+    pub fn plus(self, other: TrafficCounts) -> TrafficCounts
+        ensures { result ≡ traffic_sum self other }
+    {
+        TrafficCounts {
+            received: self.received.wrapping_add(other.received),
+            sent: self.sent.wrapping_add(other.sent),
         }
     }
 }

@@ -24,6 +24,9 @@ mod page;
 mod process;
 mod server;
 mod service;
+mod service_counts;
+mod service_slots;
+mod services;
 mod slots;
 mod state;
 mod still;
@@ -34,15 +37,17 @@ pub use closing::Closing;
 pub use counters::Counters;
 pub use counts::{
     AcceptCounts, AskCounts, CacheCounts, CacheLimits, CloseCounts, Counts, FailureCounts,
-    FillerCounts, GroupCounts, LoopCounts, ReplyCounts,
+    FillerCounts, GroupCounts, LoopCounts, ReplyCounts, TrafficCounts,
 };
 pub use end::StatsEnd;
-pub use facts::{ServedGroup, ServerFacts};
+pub use facts::{ServedGroup, ServedService, ServerFacts};
 pub use failure::OriginFailure;
 pub use last::{KeyStart, LastFailure};
 pub use numbers::{Build, Numbers, ProcessCounts, ServerBounds};
 pub use page::metrics_page;
 pub use server::{StatsServer, open_stats};
+pub use service_counts::{ConnectCounts, ConnectEnd, ServiceCounts, ServiceHeld, StatusCounts};
+pub use service_slots::ServiceSlots;
 pub use slots::{AcceptSlot, CacheSlot, FailureSlots, FillerSlot, LoopSlot};
 pub use state::{ServerState, Stage};
 pub use still::{ASLEEP, Looks};

@@ -6,17 +6,20 @@ ghost use Rattle.peer_stats.specs.Labels.{label_text};
 ghost use Rattle.peer_stats.specs.Latencies.{latencies_text};
 ghost use Rattle.peer_stats.specs.Pages.{bounds_text, build_text, closes_text, connections_text, counts_text, failures_text};
 ghost use Rattle.peer_stats.specs.Pages.{fillers_text, held_text, loops_text, page_text, process_text, queued, queued_text};
-ghost use Rattle.peer_stats.specs.Pages.{ready_text, replies_text, some_process_text};
+ghost use Rattle.peer_stats.specs.Services.{services_text};
+ghost use Rattle.peer_stats.specs.Pages.{ready_text, replies_text, some_process_text, traffic_text};
 
 use crate::counts::{
     AcceptCounts, CloseCounts, Counts, FailureCounts, FillerCounts, GroupCounts, LoopCounts,
-    ReplyCounts,
+    ReplyCounts, TrafficCounts,
 };
 use crate::family::{put_bound, put_counter, put_family, put_gauge, put_hundredths, put_labelled};
 use crate::groups::put_groups;
 use crate::label::put_label;
 use crate::latencies::put_latencies;
 use crate::numbers::{Build, Numbers, ProcessCounts, ServerBounds};
+use crate::service_counts::ServiceCounts;
+use crate::services::put_services;
 use crate::times::LoopTurns;
 use std::alloc::{AllocError, Global};
 
@@ -101,6 +104,25 @@ fn put_connections(
         b"peer_front_accept_failures_total",
         counts.failed,
         b"Accepts that failed.",
+    )?;
+    Ok(())
+}
+
+// Appends the bytes of clients.
+fn put_traffic(page: &mut Vec<u8>, counts: &TrafficCounts) -> Result<(), AllocError>
+    ensures { OnOk result (page.new.items ≡ page.old.items ++ traffic_text counts.now) }
+{
+    put_counter(
+        page,
+        b"peer_front_received_bytes_total",
+        counts.received,
+        b"Bytes that clients sent.",
+    )?;
+    put_counter(
+        page,
+        b"peer_front_sent_bytes_total",
+        counts.sent,
+        b"Bytes that clients took.",
     )?;
     Ok(())
 }
@@ -465,27 +487,30 @@ fn put_counts(page: &mut Vec<u8>, counts: &Counts) -> Result<(), AllocError>
     put_loops(page, &counts.loops)?;
     put_fillers(page, &counts.fillers)?;
     put_connections(page, counts.loops.connections, &counts.accepts)?;
+    put_traffic(page, &counts.traffic)?;
     put_closes(page, &counts.closes)?;
     put_replies(page, &counts.replies)?;
     put_failures(page, &counts.failures)?;
     Ok(())
 }
 
-/// The page with these numbers, those of the groups, and how long the turns of the loops took.
+/// The page with these numbers, those of the groups and of the services, and how long the turns of the loops took.
 pub fn metrics_page(
     alloc: Global,
     numbers: &Numbers,
     groups: &[GroupCounts<'_>],
     turns: &[LoopTurns],
+    services: &[ServiceCounts<'_>],
     build: Build<'_>,
 ) -> Result<Vec<u8>, AllocError>
-    ensures { IfOk result (λ page. page.items ≡ page_text numbers.now groups.now turns.now build.entry) }
+    ensures { IfOk result (λ page. page.items ≡ page_text numbers.now groups.now turns.now services.now build.entry) }
 {
     let mut page = Vec::new(alloc);
     put_build(&mut page, build)?;
     put_counts(&mut page, &numbers.counts)?;
     put_groups(&mut page, groups)?;
     put_latencies(&mut page, &numbers.counts.queued, groups, turns)?;
+    put_services(&mut page, services)?;
     put_bounds(&mut page, &numbers.bounds)?;
     put_held(&mut page, numbers)?;
     put_some_process(&mut page, &numbers.process)?;

@@ -63,11 +63,15 @@ fn put_page(service: &StatsService<'_>, response: &mut Response) -> Result<(), A
     let turns = service
         .counters
         .read_turns(service.alloc, service.facts.loops)?;
+    let services = service
+        .counters
+        .read_services(service.alloc, service.facts.services)?;
     let page = metrics_page(
         service.alloc,
         &numbers,
         groups.as_slice(),
         turns.as_slice(),
+        services.as_slice(),
         service.facts.build,
     )?;
     response.add_header(

@@ -10,7 +10,7 @@
 use crate::closing::Closing;
 use crate::counts::{
     AcceptCounts, AskCounts, CacheCounts, CloseCounts, FailureCounts, FillerCounts, LoopCounts,
-    ReplyCounts,
+    ReplyCounts, TrafficCounts,
 };
 use crate::failure::OriginFailure;
 use crate::last::{LastFailure, LastSlots};
@@ -156,6 +156,8 @@ pub struct LoopSlot {
     replies: ReplySlot,
     closes: CloseSlot,
     turn: AtomicU64,
+    received: AtomicU64,
+    sent: AtomicU64,
     turn_times: TurnTimes,
 }
 
@@ -201,6 +203,20 @@ impl LoopSlot {
     /// The replies that the loop published.
     pub fn read_replies(&self) -> ReplyCounts {
         self.replies.read()
+    }
+
+    /// The clients of the loop have sent and taken so many bytes by now.
+    pub fn publish_traffic(&self, counts: TrafficCounts) {
+        publish(&self.received, counts.received);
+        publish(&self.sent, counts.sent);
+    }
+
+    /// The bytes of clients that the loop published.
+    pub fn read_traffic(&self) -> TrafficCounts {
+        TrafficCounts {
+            received: self.received.load(SeqCst),
+            sent: self.sent.load(SeqCst),
+        }
     }
 
     /// A connection of the loop ended so.

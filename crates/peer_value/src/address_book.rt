@@ -4,6 +4,7 @@
 //! given only if all do, to one value a second; that one is given if one does not rest; that turns go round, since the address
 //! given stands behind all others from then on; and that an event changes the address that it befell, and no other.
 ghost use Rattle.std.specs.Prelude.{All, ◌≡◌, ◌≢◌, ◌<◌, ◌⊎◌, ℕ, [], IfNone, IfSome, IsFalse, IsTrue, length, slice_index_or};
+ghost use Rattle.std.specs.Prelude.{◌-◌, ◌^◌, count_by, is_some, min};
 ghost use Rattle.std.specs.List.{AllWithin, HoldsAt};
 ghost use Rattle.std.specs.Duration.{as_nanos};
 ghost use Rattle.peer_value.specs.AddressBooks.{IsGivenAt, IsInTurn, IsNoted, IsOfSameRests, IsTrial, MayNotTry};
@@ -107,6 +108,17 @@ impl AddressBook {
         ensures { result ≡ length self.now.each.items }
     {
         self.each.len()
+    }
+
+    /// How many of them rest, or have rested and were not tried since, 2^64 - 1 at most.
+    pub fn rested(&self) -> usize
+        ensures { result ≡ min (count_by (λ a. is_some a.until) self.now.each.items) (2 ^ 64 - 1) }
+    {
+        let mut count = 0usize;
+        for listed in &self.each {
+            count = count.saturating_add(listed.rested());
+        }
+        count
     }
 
     /// Whether this is one of them.

@@ -1,7 +1,7 @@
 //! An address of a service, and how it does: how many values in a row were late there, and until when it rests.
 //!
 //! It stands on the durations of `std`. It promises what each event makes of an address, to the letter.
-ghost use Rattle.std.specs.Prelude.{◌≡◌, ◌↔◌, IsTrue, None};
+ghost use Rattle.std.specs.Prelude.{◌≡◌, ◌↔◌, IsTrue, None, cond, is_some};
 ghost use Rattle.std.specs.Duration.{as_nanos};
 ghost use Rattle.peer_value.specs.Listings.{IsAfter, IsGiven, RestsAt};
 
@@ -60,6 +60,13 @@ impl Listed {
             Some(until) => now.as_nanos() < until.as_nanos(),
             None => false,
         }
+    }
+
+    /// One if it rests, or has rested and was not tried since, and else none.
+    pub(crate) fn rested(&self) -> usize
+        ensures { result ≡ cond (is_some self.now.until) 1 0 }
+    {
+        if self.until.is_some() { 1 } else { 0 }
     }
 
     /// The same once it was given. One whose rest is over is given for one value, and rests for all others until this time.

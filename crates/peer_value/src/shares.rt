@@ -95,6 +95,16 @@ impl Shares {
         self.total
     }
 
+    /// How many of this service are under way.
+    pub fn of_service(&self, service: usize) -> usize
+        ensures { result ≡ unwrap_or (slice_get self.now.each.items service) 0 }
+    {
+        match self.each.get(service) {
+            Some(own) => *own,
+            None => 0,
+        }
+    }
+
     /// Whether no other one may be under way, of any service.
     pub fn is_full(&self) -> bool
         ensures { IsTrue result ↔ (self.now.most ≤ self.now.total) }

@@ -1,7 +1,7 @@
 //! The values that wait until another one of their group may be under way.
 //!
 //! It stands on the value of each (`UnderWay`). It promises that those of a group come out in the order in which they came in.
-ghost use Rattle.std.specs.Prelude.{◌≡◌, ◌≢◌, ◌≤◌, ◌-◌, ◌^◌, ℕ, [], ◌∷◌, ◌++◌, min};
+ghost use Rattle.std.specs.Prelude.{◌≡◌, ◌≢◌, ◌≤◌, ◌-◌, ◌^◌, ℕ, [], ◌∷◌, ◌++◌, length, min};
 ghost use Rattle.std.specs.Prelude.{IfErr, IfNone, IfSome, MatchOption, OnOk, option_map, slice_get};
 ghost use Rattle.peer_value.specs.UnderWays.{due_of};
 ghost use Rattle.peer_value.specs.Waitings.{IsRefused, count_of, line_of};
@@ -42,6 +42,16 @@ impl<'a, S: Source> Waiting<'a, S> {
             count = count.saturating_add(line.len());
         }
         count
+    }
+
+    /// How many wait for this group.
+    pub fn count_of(&self, group: usize) -> usize
+        ensures { result ≡ length (line_of self.now group) }
+    {
+        match self.lines.get(group) {
+            Some(line) => line.len(),
+            None => 0,
+        }
     }
 
     /// The number above those of all groups for which one may wait.

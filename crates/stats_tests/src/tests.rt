@@ -6,4 +6,5 @@ mod latencies;
 mod looks;
 mod pages;
 mod served;
+mod services;
 mod worked;

@@ -210,6 +210,7 @@ pub fn plan_of<'a>(
         settings,
         failures: counters.failures(),
         times: counters.fetch_times(),
+        services: counters.services(),
     }
 }
 

@@ -29,11 +29,11 @@ impl<'a, S: Source, F: Facts<S>> Client<'a, S, F> {
         self.readiness.writable && !self.failed && !self.exchange.output().is_empty()
     }
 
-    /// Reads once, where bytes are read.
-    pub(super) fn receive(&mut self, buffer: &mut [u8], now: Duration) {
+    /// Reads once, where bytes are read. How many came.
+    pub(super) fn receive(&mut self, buffer: &mut [u8], now: Duration) -> usize {
         let room = min(self.exchange.room(), buffer.len());
         if !self.reads() {
-            return;
+            return 0;
         }
         match self.stream.read(&mut buffer[..room]) {
             Ok(0) => {
@@ -47,11 +47,13 @@ impl<'a, S: Source, F: Facts<S>> Client<'a, S, F> {
                 self.activity.note_came(now);
                 // Less than there was room for is all that has come.
                 self.readiness.readable = n == room || self.readiness.read_closed;
+                return n;
             }
             Err(error) if would_block(&error) => self.readiness.readable = false,
             Err(error) if was_interrupted(&error) => {}
             Err(_) => self.failed = true,
         }
+        0
     }
 
     // Writes the output, and what lies behind it, by one call. How many bytes the stream took.
@@ -67,15 +69,17 @@ impl<'a, S: Source, F: Facts<S>> Client<'a, S, F> {
         }
     }
 
-    /// Writes until all is sent or the stream takes no more, some times at most.
-    pub(super) fn send(&mut self, now: Duration) {
+    /// Writes until all is sent or the stream takes no more, some times at most. How many bytes the stream took.
+    pub(super) fn send(&mut self, now: Duration) -> usize {
+        let mut taken = 0usize;
         for _ in 0..ROUNDS_OF_TURN {
             if !self.writes() {
-                return;
+                return taken;
             }
             match self.write() {
                 Ok(n) => {
                     self.exchange.sent(n);
+                    taken = taken.saturating_add(n);
                     self.activity.note_taken(now);
                 }
                 Err(error) if would_block(&error) => {
@@ -86,5 +90,6 @@ impl<'a, S: Source, F: Facts<S>> Client<'a, S, F> {
                 Err(_) => self.failed = true,
             }
         }
+        taken
     }
 }

@@ -4,7 +4,6 @@
 //! contracts see: a value for which no address is left is given back.
 
 use super::Fetcher;
-use crate::books::Books;
 use crate::link::{Link, Way};
 use crate::opening::{System, open};
 use mio::Token;
@@ -12,33 +11,37 @@ use mio::net::TcpStream;
 use peer_origin::{FetchFault, Wires};
 use peer_runtime::Network;
 use peer_source::Source;
+use peer_stats::ConnectEnd;
 use peer_value::{Done, UnderWay};
 use std::alloc::AllocError;
 use std::cmp::min;
 use std::time::Duration;
 
-// A stream that begins to connect to the address of a service whose turn it is, of so many at most, and where it leads to. One at
-// which the system lets no stream begin is passed over: the next one has its turn.
-fn open_next<H: Network>(
-    system: &System<'_, H>,
-    books: &mut Books,
-    service: usize,
-    now: Duration,
-    token: Token,
-    most: usize,
-) -> Option<(TcpStream, Way)> {
-    for left in (0..most).rev() {
-        let address = books.next(service, now)?;
-        if let Some(stream) = open(system, address, token) {
-            return Some((stream, Way { address, left }));
-        }
-    }
-    None
-}
-
 impl<'a, S: Source, H: Network + Wires> Fetcher<'a, S, H> {
-    ghost use Rattle.std.specs.Prelude.{IfSome};
+    ghost use Rattle.std.specs.Prelude.{◌≡◌, IfSome};
     ghost use Rattle.peer_value.specs.UnderWays.{IsDoneOn};
+
+    // A stream that begins to connect to the address of a service whose turn it is, of so many at most, and where it leads to. One at
+    // which the system lets no stream begin is passed over: the next one has its turn.
+    fn open_next(
+        &mut self,
+        system: &System<'_, H>,
+        service: usize,
+        now: Duration,
+        token: Token,
+        most: usize,
+    ) -> Option<(TcpStream, Way)>
+        ensures { self.new.connections ≡ self.old.connections }
+    {
+        for left in (0..most).rev() {
+            let address = self.books.next(service, now)?;
+            if let Some(stream) = open(system, address, token) {
+                return Some((stream, Way { address, left }));
+            }
+            self.services.count_connect(service, ConnectEnd::Failed);
+        }
+        None
+    }
 
     // When an address is given up that is tried for a value now. If another one does not rest, it has half of the value's time, or
     // else that one would not be tried in it.
@@ -101,7 +104,7 @@ impl<'a, S: Source, H: Network + Wires> Fetcher<'a, S, H> {
         }
         let token = self.connections.next_token();
         let service = self.shares.service(under.number());
-        let opened = open_next(system, &mut self.books, service, now, token, most);
+        let opened = self.open_next(system, service, now, token, most);
         let Some((stream, way)) = opened else {
             return Some(under.done(Err(FetchFault::Unreached)));
         };

@@ -8,6 +8,7 @@ use crate::link::Reusable;
 use peer_origin::{FetchFault, Wires};
 use peer_runtime::Network;
 use peer_source::Source;
+use peer_stats::ConnectEnd;
 use peer_value::Event as Befell;
 
 impl<'a, S: Source, H: Network + Wires> Fetcher<'a, S, H> {
@@ -45,6 +46,10 @@ impl<'a, S: Source, H: Network + Wires> Fetcher<'a, S, H> {
             Some(FetchFault::Unreached) => Befell::Unreached,
             _ => Befell::Answered,
         };
+        if befell == Befell::Unreached {
+            self.services.count_connect(place.service, ConnectEnd::Late);
+        }
+        self.note_reply(place.service, fault);
         self.note_event(place, befell);
         if befell == Befell::Late {
             self.connections.forget_kept_to(place.address);

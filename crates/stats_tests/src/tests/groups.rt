@@ -144,7 +144,7 @@ fn each_group_has_its_name_and_its_numbers(rt: HostRuntime) -> Result<(), Fail> 
         group_from(b"a\n\xC3\xA9", 200, None),
         group_from(b"\xFF\x80\"\\\nz\xC3", 300, Some(318)),
     ];
-    let page = metrics_page(rt.alloc(), &NUMBERS, &groups, &[], BUILD)?;
+    let page = metrics_page(rt.alloc(), &NUMBERS, &groups, &[], &[], BUILD)?;
     let text = String::from_utf8(page)?;
     let told = text.as_str().contains(THREE);
     assert!(rt; told);

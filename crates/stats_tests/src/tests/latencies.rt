@@ -67,7 +67,7 @@ peer_front_loop_turn_duration_seconds_bucket{loop="1",le="1"} 1
 peer_front_loop_turn_duration_seconds_bucket{loop="1",le="+Inf"} 2
 peer_front_loop_turn_duration_seconds_sum{loop="1"} 2.000300
 peer_front_loop_turn_duration_seconds_count{loop="1"} 2
-# HELP peer_front_connections_limit "#;
+# HELP peer_front_origin_connections "#;
 
 // Two groups by their names.
 fn two_groups(alloc: Global) -> Result<Vec<ServedGroup>, Fail> {
@@ -116,7 +116,14 @@ fn page_of(alloc: Global) -> Result<String, Fail> {
         counts: counters.read(),
         ..NUMBERS
     };
-    let page = metrics_page(alloc, &numbers, groups.as_slice(), turns.as_slice(), BUILD)?;
+    let page = metrics_page(
+        alloc,
+        &numbers,
+        groups.as_slice(),
+        turns.as_slice(),
+        &[],
+        BUILD,
+    )?;
     Ok(String::from_utf8(page)?)
 }
 

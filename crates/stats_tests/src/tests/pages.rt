@@ -6,7 +6,7 @@ use peer_stats::{
 };
 use std::test::Fail;
 
-const ROWS: [&str; 51] = [
+const ROWS: [&str; 53] = [
     "# TYPE peer_front_build_info gauge\npeer_front_build_info{version=\"1.2.3\",toolchain=\"a\\\"b\"} 1\n",
     "# HELP peer_front_asked_total Values asked for.\n# TYPE peer_front_asked_total counter\npeer_front_asked_total 60\n",
     "peer_front_hits_total 10\n",
@@ -18,6 +18,8 @@ const ROWS: [&str; 51] = [
     "# TYPE peer_front_connections gauge\npeer_front_connections 5\n",
     "peer_front_connections_accepted_total 6\n",
     "peer_front_accept_failures_total 1\n",
+    "# TYPE peer_front_received_bytes_total counter\npeer_front_received_bytes_total 71\n",
+    "# TYPE peer_front_sent_bytes_total counter\npeer_front_sent_bytes_total 72\n",
     "# TYPE peer_front_origin_failures_total counter\npeer_front_origin_failures_total{kind=\"no_such_key\"} 11\n",
     "peer_front_origin_failures_total{kind=\"status\"} 12\n",
     "peer_front_origin_failures_total{kind=\"unreached\"} 13\n",
@@ -62,7 +64,7 @@ const ROWS: [&str; 51] = [
 
 #[test]
 fn the_page_has_a_row_for_each_number(rt: HostRuntime) -> Result<(), Fail> {
-    let page = metrics_page(rt.alloc(), &NUMBERS, &[], &[], BUILD)?;
+    let page = metrics_page(rt.alloc(), &NUMBERS, &[], &[], &[], BUILD)?;
     let text = String::from_utf8(page)?;
     let mut right = true;
     for row in ROWS {
@@ -81,7 +83,7 @@ fn what_the_system_does_not_tell_is_not_there(rt: HostRuntime) -> Result<(), Fai
         ..NUMBERS
     };
     numbers.counts.loops.led = 25;
-    let page = metrics_page(rt.alloc(), &numbers, &[], &[], BUILD)?;
+    let page = metrics_page(rt.alloc(), &numbers, &[], &[], &[], BUILD)?;
     let text = String::from_utf8(page)?;
     let page = text.as_str();
     let right = page.contains("\npeer_front_jobs_queued 5\n")

@@ -178,6 +178,7 @@ where
         // Here, since files can be read in this thread alone.
         let facts = ServerFacts {
             groups: &[],
+            services: &[],
             loops: 1,
             bounds: NUMBERS.bounds,
             build: BUILD,

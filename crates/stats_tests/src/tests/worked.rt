@@ -2,7 +2,7 @@
 
 use peer_stats::{
     AcceptCounts, Build, CloseCounts, Counts, FailureCounts, FillerCounts, LoopCounts, Numbers,
-    ProcessCounts, ReplyCounts, ServerBounds, TimeCounts,
+    ProcessCounts, ReplyCounts, ServerBounds, TimeCounts, TrafficCounts,
 };
 
 /// What was counted.
@@ -25,6 +25,10 @@ pub const COUNTS: Counts = Counts {
         failed: 37,
         not_implemented: 38,
         unknown_groups: 39,
+    },
+    traffic: TrafficCounts {
+        received: 71,
+        sent: 72,
     },
     closes: CloseCounts {
         client: 21,

@@ -1,0 +1,5 @@
+use Rattle.peer_stats.proofs.JoinLemmas.{joined}
+use Rattle.peer_stats.proofs.page.put_traffic.Goals as goal
+
+pub returns : goal.returns
+returns c = joined c.args.page.now.items _ _ c.in_ok-put_counter.ensures c.in_ok-put_counter-2.ensures
