@@ -126,8 +126,8 @@ impl<'a, S: Source, F: Facts<S>> EventLoop<'a, S, F> {
         }
     }
 
-    // Tells the time, behind a wait of so long at most. Where clients may be let go by it, all that is there is noted before: of those who asked while the loop
-    // stood still it need not have been told.
+    // Tells the time, behind a wait of so long at most. Where clients may be let go by it, all that is there is noted before: of
+    // those who asked while the loop stood still it need not have been told.
     fn tell_time<H: Clock>(
         &mut self,
         rt: &H,
