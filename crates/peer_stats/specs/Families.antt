@@ -1,5 +1,5 @@
 -- What the page is made of, in Prometheus' text format 0.0.4.
-use Rattle.std.specs.Prelude.{ℕ, ◌/◌, ◌%◌, List, [], ◌∷◌, ◌++◌, Option, Some, None, codes, decimal}
+use Rattle.std.specs.Prelude.{ℕ, ◌/◌, ◌%◌, List, [], ◌∷◌, ◌++◌, Option, Some, None, codes, decimal, flat_map}
 use Rattle.std.specs.Char.{digit_char}
 
 -- what a name is for, and its type
@@ -36,6 +36,10 @@ sample_text name value = name ++ codes " " ++ number_text value
 -- a number with its name and a label
 abbrev pub labelled_text : List ℕ → List ℕ → ℕ → List ℕ
 labelled_text name label value = name ++ codes "{" ++ label ++ codes "} " ++ number_text value
+
+-- numbers of one name, each with its label
+abbrev pub rows_text : List ℕ → List (List ℕ × ℕ) → List ℕ
+rows_text name rows = flat_map (λ row. labelled_text name row.0 row.1) rows
 
 -- a number that never falls
 abbrev pub counter_text : List ℕ → ℕ → List ℕ → List ℕ

@@ -1,5 +1,5 @@
 -- What the page tells of groups.
-use Rattle.std.specs.Prelude.{ℕ, List, ◌++◌, Option, Some, codes, flat_map}
+use Rattle.std.specs.Prelude.{ℕ, List, [], ◌∷◌, ◌++◌, Option, Some, codes, flat_map}
 use Rattle.peer_stats.specs.Families.{bound_text, family_text}
 use Rattle.peer_stats.specs.Labels.{label_text}
 use Rattle.peer_stats.specs.declared.counts.GroupCounts.{GroupCounts}
@@ -38,14 +38,19 @@ group_text name labels number g =
 abbrev pub each_text : List ℕ → List ℕ → GroupNumber → List GroupCounts → List ℕ
 each_text name labels number groups = flat_map (group_text name labels number) groups
 
+-- such numbers, each with its labels
+abbrev pub group_rows_text : List ℕ → List (List ℕ × GroupNumber) → List GroupCounts → List ℕ
+group_rows_text name rows groups = flat_map (λ row. each_text name row.0 row.1 groups) rows
+
 -- the requests for values of groups, by what was found
 abbrev pub asks_text : List GroupCounts → List ℕ
 asks_text groups =
     family_text (codes "peer_front_group_asks_total") (codes "counter")
     (codes "Requests for a value of the group, by what was found: hit, a value; led, nothing; joined, that it is fetched.")
-    ++ each_text (codes "peer_front_group_asks_total") (codes ",found=\"hit\"") the.Hits groups
-    ++ each_text (codes "peer_front_group_asks_total") (codes ",found=\"led\"") the.Led groups
-    ++ each_text (codes "peer_front_group_asks_total") (codes ",found=\"joined\"") the.Joined groups
+    ++ group_rows_text (codes "peer_front_group_asks_total")
+    ((codes ",found=\"hit\"", the.Hits) ∷
+    (codes ",found=\"led\"", the.Led) ∷
+    (codes ",found=\"joined\"", the.Joined) ∷ []) groups
 
 -- what became of the keys that nobody had
 abbrev pub calls_text : List GroupCounts → List ℕ
@@ -61,14 +66,15 @@ abbrev pub group_failures_text : List GroupCounts → List ℕ
 group_failures_text groups =
     family_text (codes "peer_front_group_origin_failures_total") (codes "counter")
     (codes "Values of the group that its service did not give, by why.")
-    ++ each_text (codes "peer_front_group_origin_failures_total") (codes ",kind=\"no_such_key\"") the.NoSuchKey groups
-    ++ each_text (codes "peer_front_group_origin_failures_total") (codes ",kind=\"status\"") the.Status groups
-    ++ each_text (codes "peer_front_group_origin_failures_total") (codes ",kind=\"unreached\"") the.Unreached groups
-    ++ each_text (codes "peer_front_group_origin_failures_total") (codes ",kind=\"late\"") the.Late groups
-    ++ each_text (codes "peer_front_group_origin_failures_total") (codes ",kind=\"lost\"") the.Lost groups
-    ++ each_text (codes "peer_front_group_origin_failures_total") (codes ",kind=\"malformed\"") the.Malformed groups
-    ++ each_text (codes "peer_front_group_origin_failures_total") (codes ",kind=\"too_long\"") the.TooLong groups
-    ++ each_text (codes "peer_front_group_origin_failures_total") (codes ",kind=\"memory\"") the.Memory groups
+    ++ group_rows_text (codes "peer_front_group_origin_failures_total")
+    ((codes ",kind=\"no_such_key\"", the.NoSuchKey) ∷
+    (codes ",kind=\"status\"", the.Status) ∷
+    (codes ",kind=\"unreached\"", the.Unreached) ∷
+    (codes ",kind=\"late\"", the.Late) ∷
+    (codes ",kind=\"lost\"", the.Lost) ∷
+    (codes ",kind=\"malformed\"", the.Malformed) ∷
+    (codes ",kind=\"too_long\"", the.TooLong) ∷
+    (codes ",kind=\"memory\"", the.Memory) ∷ []) groups
 
 -- what the caches of groups have
 abbrev pub kept_text : List GroupCounts → List ℕ
@@ -94,8 +100,9 @@ abbrev pub lost_text : List GroupCounts → List ℕ
 lost_text groups =
     family_text (codes "peer_front_group_cache_evictions_total") (codes "counter")
     (codes "Entries that left the cache of the group to make room, by the bound that was met: bytes, keys.")
-    ++ each_text (codes "peer_front_group_cache_evictions_total") (codes ",reason=\"bytes\"") the.EvictedByBytes groups
-    ++ each_text (codes "peer_front_group_cache_evictions_total") (codes ",reason=\"keys\"") the.EvictedByKeys groups
+    ++ group_rows_text (codes "peer_front_group_cache_evictions_total")
+    ((codes ",reason=\"bytes\"", the.EvictedByBytes) ∷
+    (codes ",reason=\"keys\"", the.EvictedByKeys) ∷ []) groups
     ++ family_text (codes "peer_front_group_cache_rejected_total") (codes "counter")
     (codes "Values that the cache of the group did not keep, by why: too_large.")
     ++ each_text (codes "peer_front_group_cache_rejected_total") (codes ",reason=\"too_large\"") the.TooLarge groups

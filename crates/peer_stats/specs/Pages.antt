@@ -1,6 +1,6 @@
 -- The page of numbers, in Prometheus' text format 0.0.4.
-use Rattle.std.specs.Prelude.{ℕ, ◌-◌, List, [], ◌++◌, Bool, Option, Some, None, codes, cond}
-use Rattle.peer_stats.specs.Families.{bound_text, counter_text, family_text, gauge_text, hundredths_text, labelled_text}
+use Rattle.std.specs.Prelude.{ℕ, ◌-◌, List, [], ◌∷◌, ◌++◌, Bool, Option, Some, None, codes, cond}
+use Rattle.peer_stats.specs.Families.{bound_text, counter_text, family_text, gauge_text, hundredths_text, rows_text}
 use Rattle.peer_stats.specs.Groups.{groups_text}
 use Rattle.peer_stats.specs.Labels.{label_text}
 use Rattle.peer_stats.specs.Latencies.{latencies_text}
@@ -66,40 +66,43 @@ abbrev pub closes_text : CloseCounts → List ℕ
 closes_text c =
     family_text (codes "peer_front_connections_closed_total") (codes "counter")
     (codes "Connections that ended, by why: client, reply, silent, slow, crowded, memory, end.")
-    ++ labelled_text (codes "peer_front_connections_closed_total") (codes "reason=\"client\"") c.client
-    ++ labelled_text (codes "peer_front_connections_closed_total") (codes "reason=\"reply\"") c.reply
-    ++ labelled_text (codes "peer_front_connections_closed_total") (codes "reason=\"silent\"") c.silent
-    ++ labelled_text (codes "peer_front_connections_closed_total") (codes "reason=\"slow\"") c.slow
-    ++ labelled_text (codes "peer_front_connections_closed_total") (codes "reason=\"crowded\"") c.crowded
-    ++ labelled_text (codes "peer_front_connections_closed_total") (codes "reason=\"memory\"") c.memory
-    ++ labelled_text (codes "peer_front_connections_closed_total") (codes "reason=\"end\"") c.end
+    ++ rows_text (codes "peer_front_connections_closed_total")
+    ((codes "reason=\"client\"", c.client) ∷
+    (codes "reason=\"reply\"", c.reply) ∷
+    (codes "reason=\"silent\"", c.silent) ∷
+    (codes "reason=\"slow\"", c.slow) ∷
+    (codes "reason=\"crowded\"", c.crowded) ∷
+    (codes "reason=\"memory\"", c.memory) ∷
+    (codes "reason=\"end\"", c.end) ∷ [])
 
 -- the replies, by their status codes
 abbrev pub replies_text : ReplyCounts → List ℕ
 replies_text c =
     family_text (codes "peer_front_replies_total") (codes "counter") (codes "Replies by their status code.")
-    ++ labelled_text (codes "peer_front_replies_total") (codes "code=\"200\"") c.ok
-    ++ labelled_text (codes "peer_front_replies_total") (codes "code=\"400\"") c.bad_request
-    ++ labelled_text (codes "peer_front_replies_total") (codes "code=\"404\"") c.not_found
-    ++ labelled_text (codes "peer_front_replies_total") (codes "code=\"405\"") c.not_allowed
-    ++ labelled_text (codes "peer_front_replies_total") (codes "code=\"413\"") c.content_too_large
-    ++ labelled_text (codes "peer_front_replies_total") (codes "code=\"431\"") c.head_too_large
-    ++ labelled_text (codes "peer_front_replies_total") (codes "code=\"500\"") c.failed
-    ++ labelled_text (codes "peer_front_replies_total") (codes "code=\"501\"") c.not_implemented
+    ++ rows_text (codes "peer_front_replies_total")
+    ((codes "code=\"200\"", c.ok) ∷
+    (codes "code=\"400\"", c.bad_request) ∷
+    (codes "code=\"404\"", c.not_found) ∷
+    (codes "code=\"405\"", c.not_allowed) ∷
+    (codes "code=\"413\"", c.content_too_large) ∷
+    (codes "code=\"431\"", c.head_too_large) ∷
+    (codes "code=\"500\"", c.failed) ∷
+    (codes "code=\"501\"", c.not_implemented) ∷ [])
     ++ counter_text (codes "peer_front_unknown_groups_total") c.unknown_groups (codes "Requests for a group that is not served here.")
 
 -- the failures of origins
 abbrev pub failures_text : FailureCounts → List ℕ
 failures_text c =
     family_text (codes "peer_front_origin_failures_total") (codes "counter") (codes "Calls for which a service gave no value.")
-    ++ labelled_text (codes "peer_front_origin_failures_total") (codes "kind=\"no_such_key\"") c.no_such_key
-    ++ labelled_text (codes "peer_front_origin_failures_total") (codes "kind=\"status\"") c.status
-    ++ labelled_text (codes "peer_front_origin_failures_total") (codes "kind=\"unreached\"") c.unreached
-    ++ labelled_text (codes "peer_front_origin_failures_total") (codes "kind=\"late\"") c.late
-    ++ labelled_text (codes "peer_front_origin_failures_total") (codes "kind=\"lost\"") c.lost
-    ++ labelled_text (codes "peer_front_origin_failures_total") (codes "kind=\"malformed\"") c.malformed
-    ++ labelled_text (codes "peer_front_origin_failures_total") (codes "kind=\"too_long\"") c.too_long
-    ++ labelled_text (codes "peer_front_origin_failures_total") (codes "kind=\"memory\"") c.memory
+    ++ rows_text (codes "peer_front_origin_failures_total")
+    ((codes "kind=\"no_such_key\"", c.no_such_key) ∷
+    (codes "kind=\"status\"", c.status) ∷
+    (codes "kind=\"unreached\"", c.unreached) ∷
+    (codes "kind=\"late\"", c.late) ∷
+    (codes "kind=\"lost\"", c.lost) ∷
+    (codes "kind=\"malformed\"", c.malformed) ∷
+    (codes "kind=\"too_long\"", c.too_long) ∷
+    (codes "kind=\"memory\"", c.memory) ∷ [])
 
 -- how much the server may have at one moment
 abbrev pub bounds_text : ServerBounds → List ℕ
@@ -125,15 +128,20 @@ held_text n =
     ++ ready_text n.is_ready
     ++ gauge_text (codes "peer_front_uptime_seconds") n.seconds (codes "Seconds since the start.")
 
--- what the system tells of the process
-abbrev pub process_text : ProcessCounts → List ℕ
-process_text p =
+-- how long the process has run, of its processors and since when
+abbrev pub process_times_text : ProcessCounts → List ℕ
+process_times_text p =
     family_text (codes "process_cpu_seconds_total") (codes "counter") (codes "Seconds of processors that the process took.")
     ++ codes "process_cpu_seconds_total "
     ++ hundredths_text p.cpu_hundredths
     ++ family_text (codes "process_start_time_seconds") (codes "gauge") (codes "When the process was started, in seconds since 1970.")
     ++ codes "process_start_time_seconds "
     ++ hundredths_text p.start_hundredths
+
+-- what the system tells of the process
+abbrev pub process_text : ProcessCounts → List ℕ
+process_text p =
+    process_times_text p
     ++ gauge_text (codes "process_resident_memory_bytes") p.resident_bytes (codes "Bytes of memory that the process has.")
     ++ gauge_text (codes "process_virtual_memory_bytes") p.virtual_bytes (codes "Bytes of addresses that the process has.")
     ++ gauge_text (codes "process_threads") p.threads (codes "Threads of the process.")

@@ -1,5 +1,5 @@
 -- What the page tells of services.
-use Rattle.std.specs.Prelude.{ℕ, List, ◌++◌, codes, flat_map}
+use Rattle.std.specs.Prelude.{ℕ, List, [], ◌∷◌, ◌++◌, codes, flat_map}
 use Rattle.peer_stats.specs.Families.{family_text, number_text}
 use Rattle.peer_stats.specs.Labels.{label_text}
 use Rattle.peer_stats.specs.declared.service_counts.ServiceCounts.{ServiceCounts}
@@ -37,13 +37,18 @@ service_text name labels number s =
 abbrev pub each_service_text : List ℕ → List ℕ → ServiceNumber → List ServiceCounts → List ℕ
 each_service_text name labels number services = flat_map (service_text name labels number) services
 
+-- such numbers, each with its labels
+abbrev pub service_rows_text : List ℕ → List (List ℕ × ServiceNumber) → List ServiceCounts → List ℕ
+service_rows_text name rows services = flat_map (λ row. each_service_text name row.0 row.1 services) rows
+
 -- their connections
 abbrev pub held_connections_text : List ServiceCounts → List ℕ
 held_connections_text services =
     family_text (codes "peer_front_origin_connections") (codes "gauge")
     (codes "Connections to the service: busy, with a value under way; kept, for another one.")
-    ++ each_service_text (codes "peer_front_origin_connections") (codes ",state=\"busy\"") the.Busy services
-    ++ each_service_text (codes "peer_front_origin_connections") (codes ",state=\"kept\"") the.Kept services
+    ++ service_rows_text (codes "peer_front_origin_connections")
+    ((codes ",state=\"busy\"", the.Busy) ∷
+    (codes ",state=\"kept\"", the.Kept) ∷ []) services
 
 -- their keys that wait
 abbrev pub held_keys_text : List ServiceCounts → List ℕ
@@ -57,31 +62,34 @@ abbrev pub held_addresses_text : List ServiceCounts → List ℕ
 held_addresses_text services =
     family_text (codes "peer_front_origin_addresses") (codes "gauge")
     (codes "Addresses of the service, as each fetcher that has asked it knows them: used, or resting since values or connections failed.")
-    ++ each_service_text (codes "peer_front_origin_addresses") (codes ",state=\"used\"") the.Used services
-    ++ each_service_text (codes "peer_front_origin_addresses") (codes ",state=\"resting\"") the.Resting services
+    ++ service_rows_text (codes "peer_front_origin_addresses")
+    ((codes ",state=\"used\"", the.Used) ∷
+    (codes ",state=\"resting\"", the.Resting) ∷ []) services
 
 -- their attempts to connect, by how they ended
 abbrev pub connects_text : List ServiceCounts → List ℕ
 connects_text services =
     family_text (codes "peer_front_origin_connects_total") (codes "counter")
     (codes "Connections to the service that were begun, by how that ended: ok, refused, timeout, other.")
-    ++ each_service_text (codes "peer_front_origin_connects_total") (codes ",result=\"ok\"") the.Made services
-    ++ each_service_text (codes "peer_front_origin_connects_total") (codes ",result=\"refused\"") the.Refused services
-    ++ each_service_text (codes "peer_front_origin_connects_total") (codes ",result=\"timeout\"") the.Late services
-    ++ each_service_text (codes "peer_front_origin_connects_total") (codes ",result=\"other\"") the.Failed services
+    ++ service_rows_text (codes "peer_front_origin_connects_total")
+    ((codes ",result=\"ok\"", the.Made) ∷
+    (codes ",result=\"refused\"", the.Refused) ∷
+    (codes ",result=\"timeout\"", the.Late) ∷
+    (codes ",result=\"other\"", the.Failed) ∷ []) services
 
 -- their replies, by their statuses
 abbrev pub statuses_text : List ServiceCounts → List ℕ
 statuses_text services =
     family_text (codes "peer_front_origin_replies_total") (codes "counter")
     (codes "Replies of the service by their status: 200, 404, and the others by classes.")
-    ++ each_service_text (codes "peer_front_origin_replies_total") (codes ",code=\"200\"") the.Ok services
-    ++ each_service_text (codes "peer_front_origin_replies_total") (codes ",code=\"404\"") the.NoSuchKey services
-    ++ each_service_text (codes "peer_front_origin_replies_total") (codes ",code=\"1xx\"") the.Informational services
-    ++ each_service_text (codes "peer_front_origin_replies_total") (codes ",code=\"2xx\"") the.Successful services
-    ++ each_service_text (codes "peer_front_origin_replies_total") (codes ",code=\"3xx\"") the.Redirection services
-    ++ each_service_text (codes "peer_front_origin_replies_total") (codes ",code=\"4xx\"") the.ClientError services
-    ++ each_service_text (codes "peer_front_origin_replies_total") (codes ",code=\"5xx\"") the.ServerError services
+    ++ service_rows_text (codes "peer_front_origin_replies_total")
+    ((codes ",code=\"200\"", the.Ok) ∷
+    (codes ",code=\"404\"", the.NoSuchKey) ∷
+    (codes ",code=\"1xx\"", the.Informational) ∷
+    (codes ",code=\"2xx\"", the.Successful) ∷
+    (codes ",code=\"3xx\"", the.Redirection) ∷
+    (codes ",code=\"4xx\"", the.ClientError) ∷
+    (codes ",code=\"5xx\"", the.ServerError) ∷ []) services
 
 -- their requests that were made once more
 abbrev pub second_requests_text : List ServiceCounts → List ℕ
@@ -95,8 +103,9 @@ abbrev pub lookups_text : List ServiceCounts → List ℕ
 lookups_text services =
     family_text (codes "peer_front_lookups_total") (codes "counter")
     (codes "Look-ups of the name of the service while it serves, by how they ended: ok, failed.")
-    ++ each_service_text (codes "peer_front_lookups_total") (codes ",result=\"ok\"") the.LookupsOk services
-    ++ each_service_text (codes "peer_front_lookups_total") (codes ",result=\"failed\"") the.LookupsFailed services
+    ++ service_rows_text (codes "peer_front_lookups_total")
+    ((codes ",result=\"ok\"", the.LookupsOk) ∷
+    (codes ",result=\"failed\"", the.LookupsFailed) ∷ []) services
 
 -- all of it
 abbrev pub services_text : List ServiceCounts → List ℕ

@@ -1,5 +1,5 @@
 //! What the page is made of: names, what they are for, and numbers.
-ghost use Rattle.std.specs.Prelude.{◌≡◌, ◌++◌, codes, decimal, OnOk};
+ghost use Rattle.std.specs.Prelude.{◌≡◌, ◌++◌, codes, decimal, flat_map, OnOk};
 ghost use Rattle.std.specs.Char.{digit_char};
 ghost use Rattle.peer_stats.specs.Families.{bound_text, counter_text, family_text, gauge_text, hundredths_text, labelled_text};
 ghost use Rattle.peer_stats.specs.Families.{number_text, sample_text, seconds_text, three_digits};
@@ -106,6 +106,20 @@ pub(crate) fn put_labelled(
     page.extend_from_slice(label)?;
     page.extend_from_slice(b"} ")?;
     put_number(page, value)?;
+    Ok(())
+}
+
+/// Appends numbers of one name, each with its label.
+pub(crate) fn put_rows(
+    page: &mut Vec<u8>,
+    name: &[u8],
+    rows: &[(&[u8], u64)],
+) -> Result<(), AllocError>
+    ensures { OnOk result (page.new.items ≡ page.old.items ++ flat_map (λ r. labelled_text name.now r.0.now r.1) rows.now) }
+{
+    for row in rows {
+        put_labelled(page, name, row.0, row.1)?;
+    }
     Ok(())
 }
 

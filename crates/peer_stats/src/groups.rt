@@ -1,7 +1,7 @@
 //! What the page tells of groups.
 ghost use Rattle.std.specs.Prelude.{◌≡◌, ◌++◌, codes, flat_map, OnOk};
-ghost use Rattle.peer_stats.specs.Groups.{asks_text, calls_text, each_text, group_failures_text, group_text, groups_text};
-ghost use Rattle.peer_stats.specs.Groups.{kept_text, limits_text, lost_text};
+ghost use Rattle.peer_stats.specs.Groups.{asks_text, calls_text, each_text, group_failures_text, group_text};
+ghost use Rattle.peer_stats.specs.Groups.{groups_text, kept_text, limits_text, lost_text};
 
 use crate::counts::GroupCounts;
 use crate::family::{put_bound, put_family};
@@ -45,6 +45,21 @@ fn put_each(
     Ok(())
 }
 
+// Appends such numbers, each with its labels.
+fn put_group_rows(
+    page: &mut Vec<u8>,
+    name: &[u8],
+    rows: &[(&[u8], GroupNumber)],
+    groups: &[GroupCounts<'_>],
+) -> Result<(), AllocError>
+    ensures { OnOk result (page.new.items ≡ page.old.items ++ flat_map (λ r. each_text name.now r.0.now r.1 groups.now) rows.now) }
+{
+    for row in rows {
+        put_each(page, name, row.0, row.1, groups)?;
+    }
+    Ok(())
+}
+
 // Appends the requests for values of each group, by what was found.
 fn put_asks(page: &mut Vec<u8>, groups: &[GroupCounts<'_>]) -> Result<(), AllocError>
     ensures { OnOk result (page.new.items ≡ page.old.items ++ asks_text groups.now) }
@@ -55,25 +70,14 @@ fn put_asks(page: &mut Vec<u8>, groups: &[GroupCounts<'_>]) -> Result<(), AllocE
         b"counter",
         b"Requests for a value of the group, by what was found: hit, a value; led, nothing; joined, that it is fetched.",
     )?;
-    put_each(
+    put_group_rows(
         page,
         b"peer_front_group_asks_total",
-        b",found=\"hit\"",
-        GroupNumber::Hits,
-        groups,
-    )?;
-    put_each(
-        page,
-        b"peer_front_group_asks_total",
-        b",found=\"led\"",
-        GroupNumber::Led,
-        groups,
-    )?;
-    put_each(
-        page,
-        b"peer_front_group_asks_total",
-        b",found=\"joined\"",
-        GroupNumber::Joined,
+        &[
+            (b",found=\"hit\"", GroupNumber::Hits),
+            (b",found=\"led\"", GroupNumber::Led),
+            (b",found=\"joined\"", GroupNumber::Joined),
+        ],
         groups,
     )?;
     Ok(())
@@ -122,60 +126,19 @@ fn put_failures(page: &mut Vec<u8>, groups: &[GroupCounts<'_>]) -> Result<(), Al
         b"counter",
         b"Values of the group that its service did not give, by why.",
     )?;
-    put_each(
+    put_group_rows(
         page,
         b"peer_front_group_origin_failures_total",
-        b",kind=\"no_such_key\"",
-        GroupNumber::NoSuchKey,
-        groups,
-    )?;
-    put_each(
-        page,
-        b"peer_front_group_origin_failures_total",
-        b",kind=\"status\"",
-        GroupNumber::Status,
-        groups,
-    )?;
-    put_each(
-        page,
-        b"peer_front_group_origin_failures_total",
-        b",kind=\"unreached\"",
-        GroupNumber::Unreached,
-        groups,
-    )?;
-    put_each(
-        page,
-        b"peer_front_group_origin_failures_total",
-        b",kind=\"late\"",
-        GroupNumber::Late,
-        groups,
-    )?;
-    put_each(
-        page,
-        b"peer_front_group_origin_failures_total",
-        b",kind=\"lost\"",
-        GroupNumber::Lost,
-        groups,
-    )?;
-    put_each(
-        page,
-        b"peer_front_group_origin_failures_total",
-        b",kind=\"malformed\"",
-        GroupNumber::Malformed,
-        groups,
-    )?;
-    put_each(
-        page,
-        b"peer_front_group_origin_failures_total",
-        b",kind=\"too_long\"",
-        GroupNumber::TooLong,
-        groups,
-    )?;
-    put_each(
-        page,
-        b"peer_front_group_origin_failures_total",
-        b",kind=\"memory\"",
-        GroupNumber::Memory,
+        &[
+            (b",kind=\"no_such_key\"", GroupNumber::NoSuchKey),
+            (b",kind=\"status\"", GroupNumber::Status),
+            (b",kind=\"unreached\"", GroupNumber::Unreached),
+            (b",kind=\"late\"", GroupNumber::Late),
+            (b",kind=\"lost\"", GroupNumber::Lost),
+            (b",kind=\"malformed\"", GroupNumber::Malformed),
+            (b",kind=\"too_long\"", GroupNumber::TooLong),
+            (b",kind=\"memory\"", GroupNumber::Memory),
+        ],
         groups,
     )?;
     Ok(())
@@ -257,18 +220,13 @@ fn put_lost(page: &mut Vec<u8>, groups: &[GroupCounts<'_>]) -> Result<(), AllocE
         b"counter",
         b"Entries that left the cache of the group to make room, by the bound that was met: bytes, keys.",
     )?;
-    put_each(
+    put_group_rows(
         page,
         b"peer_front_group_cache_evictions_total",
-        b",reason=\"bytes\"",
-        GroupNumber::EvictedByBytes,
-        groups,
-    )?;
-    put_each(
-        page,
-        b"peer_front_group_cache_evictions_total",
-        b",reason=\"keys\"",
-        GroupNumber::EvictedByKeys,
+        &[
+            (b",reason=\"bytes\"", GroupNumber::EvictedByBytes),
+            (b",reason=\"keys\"", GroupNumber::EvictedByKeys),
+        ],
         groups,
     )?;
     put_family(

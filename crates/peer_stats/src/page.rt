@@ -1,19 +1,19 @@
 //! The page that Prometheus reads, in its text format 0.0.4.
 ghost use Rattle.std.specs.Prelude.{◌≡◌, ◌++◌, codes, IfOk, OnOk};
-ghost use Rattle.peer_stats.specs.Families.{counter_text, family_text, gauge_text, labelled_text};
+ghost use Rattle.peer_stats.specs.Families.{counter_text, family_text, gauge_text};
 ghost use Rattle.peer_stats.specs.Groups.{groups_text};
 ghost use Rattle.peer_stats.specs.Labels.{label_text};
 ghost use Rattle.peer_stats.specs.Latencies.{latencies_text};
 ghost use Rattle.peer_stats.specs.Pages.{bounds_text, build_text, closes_text, connections_text, counts_text, failures_text};
-ghost use Rattle.peer_stats.specs.Pages.{fillers_text, held_text, loops_text, page_text, process_text, queued, queued_text};
+ghost use Rattle.peer_stats.specs.Pages.{fillers_text, held_text, loops_text, page_text, process_text, process_times_text, queued};
 ghost use Rattle.peer_stats.specs.Services.{services_text};
-ghost use Rattle.peer_stats.specs.Pages.{ready_text, replies_text, some_process_text, traffic_text};
+ghost use Rattle.peer_stats.specs.Pages.{queued_text, ready_text, replies_text, some_process_text, traffic_text};
 
 use crate::counts::{
     AcceptCounts, CloseCounts, Counts, FailureCounts, FillerCounts, GroupCounts, LoopCounts,
     ReplyCounts, TrafficCounts,
 };
-use crate::family::{put_bound, put_counter, put_family, put_gauge, put_hundredths, put_labelled};
+use crate::family::{put_bound, put_counter, put_family, put_gauge, put_hundredths, put_rows};
 use crate::groups::put_groups;
 use crate::label::put_label;
 use crate::latencies::put_latencies;
@@ -137,47 +137,18 @@ fn put_closes(page: &mut Vec<u8>, counts: &CloseCounts) -> Result<(), AllocError
         b"counter",
         b"Connections that ended, by why: client, reply, silent, slow, crowded, memory, end.",
     )?;
-    put_labelled(
+    put_rows(
         page,
         b"peer_front_connections_closed_total",
-        b"reason=\"client\"",
-        counts.client,
-    )?;
-    put_labelled(
-        page,
-        b"peer_front_connections_closed_total",
-        b"reason=\"reply\"",
-        counts.reply,
-    )?;
-    put_labelled(
-        page,
-        b"peer_front_connections_closed_total",
-        b"reason=\"silent\"",
-        counts.silent,
-    )?;
-    put_labelled(
-        page,
-        b"peer_front_connections_closed_total",
-        b"reason=\"slow\"",
-        counts.slow,
-    )?;
-    put_labelled(
-        page,
-        b"peer_front_connections_closed_total",
-        b"reason=\"crowded\"",
-        counts.crowded,
-    )?;
-    put_labelled(
-        page,
-        b"peer_front_connections_closed_total",
-        b"reason=\"memory\"",
-        counts.memory,
-    )?;
-    put_labelled(
-        page,
-        b"peer_front_connections_closed_total",
-        b"reason=\"end\"",
-        counts.end,
+        &[
+            (b"reason=\"client\"", counts.client),
+            (b"reason=\"reply\"", counts.reply),
+            (b"reason=\"silent\"", counts.silent),
+            (b"reason=\"slow\"", counts.slow),
+            (b"reason=\"crowded\"", counts.crowded),
+            (b"reason=\"memory\"", counts.memory),
+            (b"reason=\"end\"", counts.end),
+        ],
     )?;
     Ok(())
 }
@@ -192,53 +163,19 @@ fn put_replies(page: &mut Vec<u8>, counts: &ReplyCounts) -> Result<(), AllocErro
         b"counter",
         b"Replies by their status code.",
     )?;
-    put_labelled(
+    put_rows(
         page,
         b"peer_front_replies_total",
-        b"code=\"200\"",
-        counts.ok,
-    )?;
-    put_labelled(
-        page,
-        b"peer_front_replies_total",
-        b"code=\"400\"",
-        counts.bad_request,
-    )?;
-    put_labelled(
-        page,
-        b"peer_front_replies_total",
-        b"code=\"404\"",
-        counts.not_found,
-    )?;
-    put_labelled(
-        page,
-        b"peer_front_replies_total",
-        b"code=\"405\"",
-        counts.not_allowed,
-    )?;
-    put_labelled(
-        page,
-        b"peer_front_replies_total",
-        b"code=\"413\"",
-        counts.content_too_large,
-    )?;
-    put_labelled(
-        page,
-        b"peer_front_replies_total",
-        b"code=\"431\"",
-        counts.head_too_large,
-    )?;
-    put_labelled(
-        page,
-        b"peer_front_replies_total",
-        b"code=\"500\"",
-        counts.failed,
-    )?;
-    put_labelled(
-        page,
-        b"peer_front_replies_total",
-        b"code=\"501\"",
-        counts.not_implemented,
+        &[
+            (b"code=\"200\"", counts.ok),
+            (b"code=\"400\"", counts.bad_request),
+            (b"code=\"404\"", counts.not_found),
+            (b"code=\"405\"", counts.not_allowed),
+            (b"code=\"413\"", counts.content_too_large),
+            (b"code=\"431\"", counts.head_too_large),
+            (b"code=\"500\"", counts.failed),
+            (b"code=\"501\"", counts.not_implemented),
+        ],
     )?;
     put_counter(
         page,
@@ -259,53 +196,19 @@ fn put_failures(page: &mut Vec<u8>, counts: &FailureCounts) -> Result<(), AllocE
         b"counter",
         b"Calls for which a service gave no value.",
     )?;
-    put_labelled(
+    put_rows(
         page,
         b"peer_front_origin_failures_total",
-        b"kind=\"no_such_key\"",
-        counts.no_such_key,
-    )?;
-    put_labelled(
-        page,
-        b"peer_front_origin_failures_total",
-        b"kind=\"status\"",
-        counts.status,
-    )?;
-    put_labelled(
-        page,
-        b"peer_front_origin_failures_total",
-        b"kind=\"unreached\"",
-        counts.unreached,
-    )?;
-    put_labelled(
-        page,
-        b"peer_front_origin_failures_total",
-        b"kind=\"late\"",
-        counts.late,
-    )?;
-    put_labelled(
-        page,
-        b"peer_front_origin_failures_total",
-        b"kind=\"lost\"",
-        counts.lost,
-    )?;
-    put_labelled(
-        page,
-        b"peer_front_origin_failures_total",
-        b"kind=\"malformed\"",
-        counts.malformed,
-    )?;
-    put_labelled(
-        page,
-        b"peer_front_origin_failures_total",
-        b"kind=\"too_long\"",
-        counts.too_long,
-    )?;
-    put_labelled(
-        page,
-        b"peer_front_origin_failures_total",
-        b"kind=\"memory\"",
-        counts.memory,
+        &[
+            (b"kind=\"no_such_key\"", counts.no_such_key),
+            (b"kind=\"status\"", counts.status),
+            (b"kind=\"unreached\"", counts.unreached),
+            (b"kind=\"late\"", counts.late),
+            (b"kind=\"lost\"", counts.lost),
+            (b"kind=\"malformed\"", counts.malformed),
+            (b"kind=\"too_long\"", counts.too_long),
+            (b"kind=\"memory\"", counts.memory),
+        ],
     )?;
     Ok(())
 }
@@ -397,9 +300,9 @@ fn put_held(page: &mut Vec<u8>, numbers: &Numbers) -> Result<(), AllocError>
     Ok(())
 }
 
-// Appends what the system tells of the process.
-fn put_process(page: &mut Vec<u8>, counts: &ProcessCounts) -> Result<(), AllocError>
-    ensures { OnOk result (page.new.items ≡ page.old.items ++ process_text counts.now) }
+// Appends how long the process has run, of its processors and since when.
+fn put_process_times(page: &mut Vec<u8>, counts: &ProcessCounts) -> Result<(), AllocError>
+    ensures { OnOk result (page.new.items ≡ page.old.items ++ process_times_text counts.now) }
 {
     put_family(
         page,
@@ -417,6 +320,14 @@ fn put_process(page: &mut Vec<u8>, counts: &ProcessCounts) -> Result<(), AllocEr
     )?;
     page.extend_from_slice(b"process_start_time_seconds ")?;
     put_hundredths(page, counts.start_hundredths)?;
+    Ok(())
+}
+
+// Appends what the system tells of the process.
+fn put_process(page: &mut Vec<u8>, counts: &ProcessCounts) -> Result<(), AllocError>
+    ensures { OnOk result (page.new.items ≡ page.old.items ++ process_text counts.now) }
+{
+    put_process_times(page, counts)?;
     put_gauge(
         page,
         b"process_resident_memory_bytes",

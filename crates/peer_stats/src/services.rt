@@ -1,8 +1,8 @@
 //! What the page tells of services.
 ghost use Rattle.std.specs.Prelude.{◌≡◌, ◌++◌, codes, flat_map, OnOk};
 ghost use Rattle.peer_stats.specs.Services.{connects_text, each_service_text, held_addresses_text, held_connections_text};
-ghost use Rattle.peer_stats.specs.Services.{held_keys_text, lookups_text, second_requests_text, service_number, service_text};
-ghost use Rattle.peer_stats.specs.Services.{services_text, statuses_text};
+ghost use Rattle.peer_stats.specs.Services.{held_keys_text, lookups_text, second_requests_text, service_number};
+ghost use Rattle.peer_stats.specs.Services.{service_text, services_text, statuses_text};
 
 use crate::family::{put_family, put_number};
 use crate::label::put_label;
@@ -98,6 +98,21 @@ fn put_each_service(
     Ok(())
 }
 
+// Appends such numbers, each with its labels.
+fn put_service_rows(
+    page: &mut Vec<u8>,
+    name: &[u8],
+    rows: &[(&[u8], ServiceNumber)],
+    services: &[ServiceCounts<'_>],
+) -> Result<(), AllocError>
+    ensures { OnOk result (page.new.items ≡ page.old.items ++ flat_map (λ r. each_service_text name.now r.0.now r.1 services.now) rows.now) }
+{
+    for row in rows {
+        put_each_service(page, name, row.0, row.1, services)?;
+    }
+    Ok(())
+}
+
 // Appends of each service its connections.
 fn put_held_connections(
     page: &mut Vec<u8>,
@@ -111,18 +126,13 @@ fn put_held_connections(
         b"gauge",
         b"Connections to the service: busy, with a value under way; kept, for another one.",
     )?;
-    put_each_service(
+    put_service_rows(
         page,
         b"peer_front_origin_connections",
-        b",state=\"busy\"",
-        ServiceNumber::Busy,
-        services,
-    )?;
-    put_each_service(
-        page,
-        b"peer_front_origin_connections",
-        b",state=\"kept\"",
-        ServiceNumber::Kept,
+        &[
+            (b",state=\"busy\"", ServiceNumber::Busy),
+            (b",state=\"kept\"", ServiceNumber::Kept),
+        ],
         services,
     )?;
     Ok(())
@@ -158,18 +168,13 @@ fn put_held_addresses(page: &mut Vec<u8>, services: &[ServiceCounts<'_>]) -> Res
         b"gauge",
         b"Addresses of the service, as each fetcher that has asked it knows them: used, or resting since values or connections failed.",
     )?;
-    put_each_service(
+    put_service_rows(
         page,
         b"peer_front_origin_addresses",
-        b",state=\"used\"",
-        ServiceNumber::Used,
-        services,
-    )?;
-    put_each_service(
-        page,
-        b"peer_front_origin_addresses",
-        b",state=\"resting\"",
-        ServiceNumber::Resting,
+        &[
+            (b",state=\"used\"", ServiceNumber::Used),
+            (b",state=\"resting\"", ServiceNumber::Resting),
+        ],
         services,
     )?;
     Ok(())
@@ -185,32 +190,15 @@ fn put_connects(page: &mut Vec<u8>, services: &[ServiceCounts<'_>]) -> Result<()
         b"counter",
         b"Connections to the service that were begun, by how that ended: ok, refused, timeout, other.",
     )?;
-    put_each_service(
+    put_service_rows(
         page,
         b"peer_front_origin_connects_total",
-        b",result=\"ok\"",
-        ServiceNumber::Made,
-        services,
-    )?;
-    put_each_service(
-        page,
-        b"peer_front_origin_connects_total",
-        b",result=\"refused\"",
-        ServiceNumber::Refused,
-        services,
-    )?;
-    put_each_service(
-        page,
-        b"peer_front_origin_connects_total",
-        b",result=\"timeout\"",
-        ServiceNumber::Late,
-        services,
-    )?;
-    put_each_service(
-        page,
-        b"peer_front_origin_connects_total",
-        b",result=\"other\"",
-        ServiceNumber::Failed,
+        &[
+            (b",result=\"ok\"", ServiceNumber::Made),
+            (b",result=\"refused\"", ServiceNumber::Refused),
+            (b",result=\"timeout\"", ServiceNumber::Late),
+            (b",result=\"other\"", ServiceNumber::Failed),
+        ],
         services,
     )?;
     Ok(())
@@ -226,53 +214,18 @@ fn put_statuses(page: &mut Vec<u8>, services: &[ServiceCounts<'_>]) -> Result<()
         b"counter",
         b"Replies of the service by their status: 200, 404, and the others by classes.",
     )?;
-    put_each_service(
+    put_service_rows(
         page,
         b"peer_front_origin_replies_total",
-        b",code=\"200\"",
-        ServiceNumber::Ok,
-        services,
-    )?;
-    put_each_service(
-        page,
-        b"peer_front_origin_replies_total",
-        b",code=\"404\"",
-        ServiceNumber::NoSuchKey,
-        services,
-    )?;
-    put_each_service(
-        page,
-        b"peer_front_origin_replies_total",
-        b",code=\"1xx\"",
-        ServiceNumber::Informational,
-        services,
-    )?;
-    put_each_service(
-        page,
-        b"peer_front_origin_replies_total",
-        b",code=\"2xx\"",
-        ServiceNumber::Successful,
-        services,
-    )?;
-    put_each_service(
-        page,
-        b"peer_front_origin_replies_total",
-        b",code=\"3xx\"",
-        ServiceNumber::Redirection,
-        services,
-    )?;
-    put_each_service(
-        page,
-        b"peer_front_origin_replies_total",
-        b",code=\"4xx\"",
-        ServiceNumber::ClientError,
-        services,
-    )?;
-    put_each_service(
-        page,
-        b"peer_front_origin_replies_total",
-        b",code=\"5xx\"",
-        ServiceNumber::ServerError,
+        &[
+            (b",code=\"200\"", ServiceNumber::Ok),
+            (b",code=\"404\"", ServiceNumber::NoSuchKey),
+            (b",code=\"1xx\"", ServiceNumber::Informational),
+            (b",code=\"2xx\"", ServiceNumber::Successful),
+            (b",code=\"3xx\"", ServiceNumber::Redirection),
+            (b",code=\"4xx\"", ServiceNumber::ClientError),
+            (b",code=\"5xx\"", ServiceNumber::ServerError),
+        ],
         services,
     )?;
     Ok(())
@@ -308,18 +261,13 @@ fn put_lookups(page: &mut Vec<u8>, services: &[ServiceCounts<'_>]) -> Result<(),
         b"counter",
         b"Look-ups of the name of the service while it serves, by how they ended: ok, failed.",
     )?;
-    put_each_service(
+    put_service_rows(
         page,
         b"peer_front_lookups_total",
-        b",result=\"ok\"",
-        ServiceNumber::LookupsOk,
-        services,
-    )?;
-    put_each_service(
-        page,
-        b"peer_front_lookups_total",
-        b",result=\"failed\"",
-        ServiceNumber::LookupsFailed,
+        &[
+            (b",result=\"ok\"", ServiceNumber::LookupsOk),
+            (b",result=\"failed\"", ServiceNumber::LookupsFailed),
+        ],
         services,
     )?;
     Ok(())

@@ -1,0 +1,6 @@
+use Rattle.std.proofs.Common.{◌≡◌, ◌++◌, flat_map, take}
+use Rattle.peer_stats.specs.Families.{labelled_text}
+use Rattle.peer_stats.proofs.family.put_rows.Given as goal
+
+abbrev pub invariant-loop-row : goal.invariant-loop-row
+invariant-loop-row l = l.page.items ≡ l.fn.page.items ++ flat_map (λ row. labelled_text l.name row.0.now row.1) (take l.row-index l.rows)
