@@ -17,7 +17,7 @@ processor. No more connections are open than by `--connections`, and where all a
 sixteenth is free, and those who came last are not the next to go; where the system gives no more files, silent clients are let go
 too, and accepts that failed are counted. `--timeout` is how long a value may take; a service sees the fields
 of the group that is asked for, and of no other, and nothing says their values; a value above `--cache` is not kept, and one
-below it is; which keys share a shard goes by a seed of each server's own; and above `--memory` a client is asked for one value at a
+below it is; a group of a file keeps what its own cache may have; which keys share a shard goes by a seed of each server's own; and above `--memory` a client is asked for one value at a
 time, until who holds so much has left.
 
 Its last line is `rows N failures 0`; where a row fails, so does the program.
@@ -848,6 +848,35 @@ def a_group_has_its_values_under_way():
     return served and most == 2 and apart is not None and apart < 0.6
 
 
+def each_group_has_its_cache():
+    def gives(stream):
+        while stream.recv(10000):
+            stream.sendall(HEAD + b"1000\r\n\r\n" + 1000 * b"v")
+
+    url = Service(gives).url
+    # Two entries, each of a key of one byte and a value of 1,000, and what an entry and a block take beside them.
+    groups = {"few": "cache_keys = 1", "large": "", "small": f"cache = {2 * (1 + 1000 + 144 + 72)}"}
+    with tempfile.NamedTemporaryFile("w") as config:
+        config.write("".join(f'[groups.{name}]\nurl = "{url}"\n{own}\n' for name, own in groups.items()))
+        config.flush()
+        with Counted("--cache", "1MiB", "--config", config.name) as server:
+            for key in "abca":
+                for name in groups:
+                    server.ask(f"{name}/{key}")
+
+            def of(name, numbers, more=""):
+                return {f'group_{name}{{group="{group}"{more}}}': number for group, number in zip(groups, numbers)}
+
+            return server.says(
+                **of("cache_limit_bytes", (1 << 20, 1 << 20, 2434)),
+                **of("cache_limit_entries", (1, float("inf"), float("inf"))),
+                **of("cache_entries", (1, 3, 2)),
+                **of("cache_evictions_total", (0, 0, 2), ',reason="bytes"'),
+                **of("cache_evictions_total", (3, 0, 0), ',reason="keys"'),
+                **of("asks_total", (0, 1, 0), ',found="hit"'),
+            )
+
+
 def values_within_the_cache_are_kept():
     caches = [str(ENTRY), str(ENTRY - 1), "0"]
     return [hits_of(), *(hits_of("--cache", cache) for cache in caches)] == [1, 1, 0, 0]
@@ -955,6 +984,7 @@ run_rows(
         requests_have_the_fields_of_their_group,
         each_group_has_its_times,
         a_group_has_its_values_under_way,
+        each_group_has_its_cache,
         values_within_the_cache_are_kept,
         each_server_deals_keys_out_by_a_seed_of_its_own,
         above_the_memory_one_value_is_asked_for,

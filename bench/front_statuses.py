@@ -176,10 +176,12 @@ def groups_file(count):
     return LINES + "".join(f'[groups.g{number:02}]\nurl = "{URL}"\n' for number in range(count))
 
 
-GROUP_KEY = "a group has no such key: url, table, header, timeout, connect_timeout and under_way are those it may have"
+GROUP_KEY = ("a group has no such key: "
+             "url, table, header, timeout, connect_timeout, under_way, cache and cache_keys are those it may have")
 NO_NAME = "the name of a group has no = and no slash, and is not empty"
 ONE_SOURCE = "url or table is needed, and not both"
 WORD = "a text or a whole number is needed"
+CACHE_KEYS = "a number from 1 to 4294967296 is needed"
 SERVED_ALREADY = "a group of this name is served already"
 TEXTS = 'a list of texts is needed, such as ["Authorization: Bearer @FILE"]'
 NO_VALUE = "its value has a byte that may not stand there"
@@ -194,6 +196,23 @@ TWO_TOKENS = table(f"{SECRET}\n{SECRET}\n".encode())
 def headers_file(*headers):
     """A file with a group whose requests have these fields, its key in line 5."""
     return AT_URL + "header = [" + ", ".join(f'"{header}"' for header in headers) + "]\n"
+
+
+def unlike_file():
+    """A file with 64 groups of which no two have the same settings."""
+    groups = "".join(f'[groups.g{i:02}]\nurl = "{URL}{i}/"\nheader = ["X-{i}: v"]\ntimeout = "{i + 1}ms"\nconnect_timeout = {i + 1}\n'
+                     f'under_way = {i + 1}\ncache = "{i + 1}MiB"\ncache_keys = {i + 1}\n' for i in range(64))
+    return LINES + groups
+
+
+# What is said of these groups: their caches have 1 MiB to 64 MiB.
+UNLIKE_CACHES = "64 caches of different sizes, 2080 MiB in all"
+UNLIKE_GROUPS = "".join(f"g{i:02}\n  header X-{i}\n  timeout {i + 1}ms\n  connect_timeout {i + 1}000ms\n  under_way {i + 1}\n"
+                        f"  cache {i + 1} MiB\n  cache_keys {i + 1}\n" for i in range(64))
+# Files with groups that have caches of their own.
+OWN_CACHE = GROUP + f'url = "{URL}"\ncache = "1GiB"\n[groups.b]\nurl = "{URL}"\n[groups.shapes]\nurl = "{URL}"\n'
+OWN_CACHES = (LINES + f'cache = "2MiB"\ncache-keys = 7\n[groups.a]\nurl = "{URL}"\ncache = 0\n[groups.b]\nurl = "{URL}"\ncache_keys = 9\n'
+              f'[groups.colors]\ntable = "{GOOD}"\ncache = "1536KiB"\ncache_keys = 1\n')
 
 
 BAD_FILES = [
@@ -239,6 +258,15 @@ BAD_FILES = [
     (GROUP + f'url = "{URL}"\nunder_way = 1025\n', f"line 5: groups.colors.under_way: {UNDER_WAY}"),
     (GROUP + f'table = "{GOOD}"\ntimeout = "1s"\n', "line 5: groups.colors.timeout: this is for a group with url"),
     (GROUP + f'under_way = 2\ntable = "{GOOD}"\n', "line 4: groups.colors.under_way: this is for a group with url"),
+    (AT_URL + 'cache = "64MB"\n', f"line 5: groups.colors.cache: {SIZE}"),
+    (AT_URL + "cache = -1\n", f"line 5: groups.colors.cache: {SIZE}"),
+    (AT_URL + "cache = 0.5\n", f"line 5: groups.colors.cache: {WORD}"),
+    (GROUP + f'cache = "1TiB"\ntable = "{GOOD}"\n', f"line 4: groups.colors.cache: {SIZE}"),
+    (AT_URL + "cache_keys = 0\n", f"line 5: groups.colors.cache_keys: {CACHE_KEYS}"),
+    (AT_URL + 'cache_keys = "many"\n', f"line 5: groups.colors.cache_keys: {CACHE_KEYS}"),
+    (GROUP + f'table = "{GOOD}"\ncache_keys = true\n', f"line 5: groups.colors.cache_keys: {WORD}"),
+    (AT_URL + "cache-keys = 1\n", f"line 5: groups.colors.cache-keys: {GROUP_KEY}"),
+    (GROUP + 'cache = "1GiB"\n', f"line 3: groups.colors: {ONE_SOURCE}"),
     (GROUP + f'URL = "{URL}"\n', f"line 4: groups.colors.URL: {GROUP_KEY}"),
     (GROUP + "url = 80\ntable = true\n", f"line 5: groups.colors.table: {WORD}"),
     (GROUP + f'url = "{URL}"\ntable = "{GOOD}"\n', f"line 3: groups.colors: {ONE_SOURCE}"),
@@ -293,6 +321,13 @@ CHECKED = [
     (LINES + f'[groups.b]\nconnect_timeout = "250ms"\nheader = ["A: b"]\nurl = "{URL}"\ntimeout = 2\nunder_way = 3\n', [],
      "would serve at 127.0.0.1:0, with 1 cache of 64 MiB, about N entries of 100 bytes:\nb\n  header A\n  timeout 2000ms\n"
      "  connect_timeout 250ms\n  under_way 3\n"),
+    (OWN_CACHE, ["shapes=" + URL + "v/", "colors=" + URL + "v/", "--cache", "1MiB"],
+     "would serve at 127.0.0.1:0, with 2 caches of 1 MiB, about N entries of 100 bytes in each; "
+     "1 cache of 1 GiB, about N entries of 100 bytes:\nshapes\ncolors\n  cache 1 GiB\nb\n"),
+    (OWN_CACHES, [], "would serve at 127.0.0.1:0, with 1 cache of 1536 KiB, about N entries of 100 bytes, 1 key at most; "
+     "1 cache of 0 bytes, about N entries of 100 bytes, 7 keys at most; 1 cache of 2 MiB, about N entries of 100 bytes, 9 keys at most:\n"
+     "colors\n  cache 1536 KiB\n  cache_keys 1\na\n  cache 0 bytes\nb\n  cache_keys 9\n"),
+    (unlike_file(), [], f"would serve at 127.0.0.1:0, with {UNLIKE_CACHES}:\n{UNLIKE_GROUPS}"),
     (groups_file(64), [], "would serve at 127.0.0.1:0, with 64 caches of 64 MiB, about N entries of 100 bytes in each:\n"
      + "".join(f"g{i:02}\n" for i in range(64))),
 ]
@@ -304,6 +339,9 @@ CACHES = [
     (["--demo", "--cache", "16GiB"], "3 caches of 16 GiB, about N entries of 100 bytes in each"),
     (["--table", GOOD, "--cache", "1000"], "1 cache of 1000 bytes, about N entries of 100 bytes"),
     (["--table", GOOD, "--cache", "0"], "1 cache of 0 bytes, about N entries of 100 bytes"),
+    (["--config", table(OWN_CACHE.encode())],
+     "2 caches of 64 MiB, about N entries of 100 bytes in each; 1 cache of 1 GiB, about N entries of 100 bytes"),
+    (["--config", table(unlike_file().encode())], UNLIKE_CACHES),
 ]
 
 # services, and those of them whose keys stand right behind a name, of which the program prints a line

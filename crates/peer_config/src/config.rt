@@ -78,6 +78,11 @@ impl Config {
         }
     }
 
+    /// The group of a name, if it stands here.
+    pub fn group(&self, name: &[u8]) -> Option<&Group> {
+        self.groups.iter().find(|group| group.name.as_bytes() == name)
+    }
+
     /// The file of the table that is served, if one is.
     pub fn table(&self) -> Option<&str> {
         if let Some(table) = word_in(self.entries.as_slice(), "table") {

@@ -1,9 +1,10 @@
 //! A key of a file, and what stands for it.
 
 use crate::fault::EntryFault;
+use crate::group_key::GroupKey;
 use crate::header::Header;
 use crate::place::GROUPS;
-use peer_flags::{FlagKind, WordFault, kind_of, time_in, under_way_in};
+use peer_flags::{FlagKind, kind_of};
 use std::alloc::{AllocError, Global};
 use toml::{Table, Value};
 
@@ -42,18 +43,6 @@ fn texts_of(alloc: Global, values: &[Value]) -> Result<Given, AllocError> {
         texts.push(String::from_str(alloc, text.as_str())?)?;
     }
     Ok(Given::Texts(texts))
-}
-
-// The keys of a group whose values a service has, and of no other.
-const FOR_SERVICES: [&str; 4] = ["header", "timeout", "connect_timeout", "under_way"];
-
-// Why a word cannot stand for this key of a group at a service, if it cannot.
-fn word_fault(key: &str, word: &str) -> Option<WordFault> {
-    if key == "under_way" {
-        under_way_in(word).err()
-    } else {
-        time_in(word).err()
-    }
 }
 
 // Why these are no fields of requests, if they are none.
@@ -126,31 +115,32 @@ impl Entry {
 
     /// Why it can be no key of a group, if it cannot.
     pub(crate) fn group_fault(&self) -> Option<EntryFault> {
-        let key = self.key.as_str();
-        if key == "header" {
+        let Some(key) = self.group_key() else {
+            return Some(EntryFault::GroupKey);
+        };
+        if key == GroupKey::Header {
             return match self.texts() {
                 Some(texts) => headers_fault(texts),
                 None => Some(EntryFault::Texts),
             };
         }
-        let is_source = key == "url" || key == "table";
         match self.word() {
-            _ if !is_source && !self.is_for_services() => Some(EntryFault::GroupKey),
+            Some(word) => key.word_fault(word).map(EntryFault::Value),
             None => Some(EntryFault::Word),
-            Some(_) if is_source => None,
-            Some(word) => word_fault(key, word).map(EntryFault::Value),
         }
     }
 
-    /// Whether it is a key of a group whose values a service has, and of no other.
+    // Which key of a group it is, if it can be one.
+    fn group_key(&self) -> Option<GroupKey> {
+        GroupKey::named(self.key.as_str())
+    }
+
+    /// Whether it is a key of groups whose values services have, and of no other.
     pub(crate) fn is_for_services(&self) -> bool {
-        let key = self.key.as_str();
-        for own in FOR_SERVICES {
-            if key == own {
-                return true;
-            }
+        match self.group_key() {
+            Some(key) => key.is_for_services(),
+            None => false,
         }
-        false
     }
 }
 

@@ -41,7 +41,7 @@ pub enum EntryFault {
     Group,
     #[error("the name of a group has no = and no slash, and is not empty")]
     Name,
-    #[error("a group has no such key: url, table, header, timeout, connect_timeout and under_way are those it may have")]
+    #[error("a group has no such key: url, table, header, timeout, connect_timeout, under_way, cache and cache_keys are those it may have")]
     GroupKey,
     #[error("a list of texts is needed, such as [\"Authorization: Bearer @FILE\"]")]
     Texts,

@@ -5,7 +5,7 @@ use crate::fault::{BadEntry, EntryFault};
 use crate::given::{is_given, is_given_group};
 use crate::place::Place;
 use clap::ArgMatches;
-use peer_flags::{time_in, under_way_in};
+use peer_flags::{bytes_in, cache_keys_in, time_in, under_way_in};
 use std::alloc::{AllocError, Global};
 use std::time::Duration;
 use toml::{Table, Value};
@@ -61,6 +61,16 @@ impl Group {
     /// How many of its values each thread may have under way, if that stands here.
     pub fn under_way(&self) -> Option<usize> {
         under_way_in(word_in(self.entries.as_slice(), "under_way")?).ok()
+    }
+
+    /// The most bytes of its cache, if that stands here.
+    pub fn cache(&self) -> Option<u64> {
+        bytes_in(word_in(self.entries.as_slice(), "cache")?).ok()
+    }
+
+    /// The most keys of its cache, if that stands here.
+    pub fn cache_keys(&self) -> Option<u64> {
+        cache_keys_in(word_in(self.entries.as_slice(), "cache_keys")?).ok()
     }
 
     /// Notes whether a command line names its URL, or a table.

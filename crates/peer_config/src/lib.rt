@@ -9,6 +9,7 @@ mod entry;
 mod fault;
 mod given;
 mod group;
+mod group_key;
 mod header;
 mod place;
 mod words;

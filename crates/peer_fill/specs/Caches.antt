@@ -3,26 +3,25 @@ use Rattle.std.specs.Prelude.{◌≡◌, ℕ, List, [], All, length, set, slice_
 use Rattle.std.specs.Option.{ForSome, option_map_or}
 use Rattle.std.specs.NonZero.{non_zero_usize_get}
 use Rattle.peer_source.specs.Answers.{Filled}
-use Rattle.peer_source.specs.Caches.{Cache, bounded_cache, found_fill, fill_of}
-use Rattle.peer_fill.specs.declared.plan.Bounds.{Bounds}
+use Rattle.peer_source.specs.Caches.{Cache, bounded_cache, empty_cache, found_fill, fill_of}
+use Rattle.peer_fill.specs.Plans.{group_plan}
+use Rattle.peer_fill.specs.declared.plan.CachePlan.{CachePlan}
+use Rattle.peer_fill.specs.declared.plan.CachePlan.TheVariants.{Single, Sharded}
 
 -- the cache in each place is that of the group with this number
 pub record EachInPlace (caches : List Cache) : Type 0 where
   pub in_place : (i : ℕ) → ForSome (slice_get caches i) (λ c. c.group ≡ i)
 
--- so many caches, each with this limit and without an entry
-pub record AreEmpty (groups bytes : ℕ) (caches : List Cache) : Type 0 where
-  pub count : length caches ≡ groups
-  pub each : All (λ c. (c.limit ≡ bytes) × (c.entries ≡ [])) caches
+-- the cache of a group as its plan says, without an entry
+abbrev pub planned_cache : CachePlan → ℕ → Cache
+planned_cache (Single limit) group = empty_cache group limit
+planned_cache (Sharded shards bounds) group =
+    bounded_cache group bounds.limit (non_zero_usize_get bounds.most) bounds.each
 
--- a group's cache of these bounds, without an entry
-abbrev pub cache_within : Bounds → ℕ → Cache
-cache_within bounds group = bounded_cache group bounds.limit (non_zero_usize_get bounds.most) bounds.each
-
--- so many caches of these bounds, each without an entry
-pub record AreBounded (groups : ℕ) (bounds : Bounds) (caches : List Cache) : Type 0 where
+-- so many caches without an entry, each as the plan of its own group says
+pub record ArePlanned (plan : CachePlan) (own : List CachePlan) (groups : ℕ) (caches : List Cache) : Type 0 where
   pub count : length caches ≡ groups
-  pub each : All (λ c. c ≡ cache_within bounds c.group) caches
+  pub each : All (λ c. c ≡ planned_cache (group_plan plan own c.group) c.group) caches
 
 -- the same caches, of which that of the group is changed so, where there is one
 abbrev pub with_cache : (Cache → Cache) → ℕ → List Cache → List Cache

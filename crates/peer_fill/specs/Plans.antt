@@ -1,5 +1,6 @@
 -- How the caches of a pool are planned.
-use Rattle.std.specs.Prelude.{◌≡◌, ℕ, ◌*◌, ◌/◌, ◌<◌, ◌≤◌, ◌⊎◌, [], ◌∷◌, Contains, Option, None, Some, max, min}
+use Rattle.std.specs.Prelude.{◌≡◌, ℕ, ◌+◌, ◌*◌, ◌/◌, ◌<◌, ◌≤◌, ◌⊎◌, List, [], ◌∷◌, Contains, Option, None, Some, max, min}
+use Rattle.std.specs.Prelude.{slice_get, unwrap_or}
 use Rattle.std.specs.NonZero.{non_zero_usize_get}
 use Rattle.peer_fill.specs.declared.plan.Bounds.{Bounds}
 use Rattle.peer_fill.specs.declared.plan.CachePlan.{CachePlan}
@@ -27,3 +28,16 @@ pub record ArePartsOf (bytes keys shards : ℕ) (bounds : Bounds) : Type 0 where
 abbrev pub IsPlanFor : ℕ → Option ℕ → CachePlan → Type 0
 IsPlanFor bytes keys (Single limit) = ⊥
 IsPlanFor bytes keys (Sharded shards bounds) = ArePartsOf bytes (keys_of keys) (non_zero_usize_get shards) bounds
+
+-- the plan of the group with this number: its own, or the one of all groups that have none
+abbrev pub group_plan : CachePlan → List CachePlan → ℕ → CachePlan
+group_plan plan own number = unwrap_or (slice_get own number) plan
+
+-- how many shards a group with this plan has
+abbrev pub shards_of : CachePlan → ℕ
+shards_of (Single limit) = 1
+shards_of (Sharded shards bounds) = min (non_zero_usize_get shards) 64
+
+-- so many groups have as many shards as their plans say, by the place of the last shard of each
+pub record HaveShards (plan : CachePlan) (own : List CachePlan) (groups : ℕ) (last_places : List ℕ) : Type 0 where
+  pub each : (i last : ℕ) → i < groups → slice_get last_places i ≡ Some last → last + 1 ≡ shards_of (group_plan plan own i)

@@ -1,10 +1,11 @@
 //! The main caches of a pool as it locks them: one for each group of its source.
 ghost use Rattle.std.specs.Prelude.{◌≡◌, ◌-◌, ◌^◌, None, IfOk, IfSome, IsOk, OnErr, OnOk, length, min, slice_get, sum_by};
 ghost use Rattle.peer_source.specs.Caches.{added, brought_to_front, bytes_in, value_to_keep};
-ghost use Rattle.peer_fill.specs.Caches.{AreBounded, AreEmpty, IsFoundFor, EachInPlace, kept_fill, with_cache};
+ghost use Rattle.peer_fill.specs.Caches.{ArePlanned, IsFoundFor, EachInPlace, kept_fill, planned_cache, with_cache};
 
 use crate::cache_counts::CacheCounts;
-use crate::plan::Bounds;
+use crate::caching::Caching;
+use crate::plan::CachePlan;
 use peer_source::{Evicted, Fill, GroupId, MainCache, Source};
 use std::alloc::{AllocError, Global};
 use std::hash::RandomState;
@@ -16,41 +17,37 @@ pub struct Caches<S: Source> {
     ghost in_place: { EachInPlace each.items },
 }
 
-impl<S: Source> Caches<S> {
-    /// So many caches without entries, each of which keeps at most so many bytes.
-    pub fn new(
-        alloc: Global,
-        count: usize,
-        limit: u64,
-        seed: RandomState,
-    ) -> Result<Caches<S>, AllocError>
-        ensures { IfOk result (λ caches. AreEmpty count limit caches.each.items) }
-    {
-        let mut each = Vec::new(alloc);
-        for number in 0..count {
-            each.push(MainCache::new(alloc, GroupId { number }, limit, seed)?)?;
-        }
-        Ok(Caches { each })
+// The cache of a group, as planned.
+fn cache_of<S: Source>(
+    alloc: Global,
+    group: GroupId,
+    plan: CachePlan,
+    seed: RandomState,
+) -> Result<MainCache<S>, AllocError>
+    ensures { IfOk result (λ cache. cache ≡ planned_cache plan group.number) }
+{
+    match plan {
+        CachePlan::Single(limit) => MainCache::new(alloc, group, limit, seed),
+        CachePlan::Sharded(_, bounds) => MainCache::bounded(
+            alloc,
+            group,
+            bounds.limit,
+            bounds.most,
+            bounds.each,
+            seed,
+        ),
     }
+}
 
-    /// So many caches without entries, each within these bounds.
-    pub fn bounded(
-        alloc: Global,
-        count: usize,
-        bounds: Bounds,
-        seed: RandomState,
-    ) -> Result<Caches<S>, AllocError>
-        ensures { IfOk result (λ caches. AreBounded count bounds caches.each.items) }
+impl<S: Source> Caches<S> {
+    /// So many caches without entries, each as its group's plan says.
+    pub fn new(alloc: Global, count: usize, caching: Caching<'_>) -> Result<Caches<S>, AllocError>
+        ensures { IfOk result (λ caches. ArePlanned caching.entry.plan caching.entry.own.now count caches.each.items) }
     {
-        let Bounds {
-            limit,
-            most,
-            each: beside,
-        } = bounds;
         let mut each = Vec::new(alloc);
         for number in 0..count {
-            let group = GroupId { number };
-            each.push(MainCache::bounded(alloc, group, limit, most, beside, seed)?)?;
+            let plan = caching.plan_of(number);
+            each.push(cache_of(alloc, GroupId { number }, plan, caching.seed)?)?;
         }
         Ok(Caches { each })
     }

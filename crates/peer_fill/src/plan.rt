@@ -1,7 +1,7 @@
-//! How the caches of a pool are planned: one for each group, as groupcache has it, or shards.
+//! How the cache of a group is planned: one, as groupcache has it, or shards.
 ghost use Rattle.std.specs.NonZero.{non_zero_usize_get};
-ghost use Rattle.std.specs.Prelude.{◌≡◌, max};
-ghost use Rattle.peer_fill.specs.Plans.{IsLargestPower, IsPlanFor};
+ghost use Rattle.std.specs.Prelude.{◌≡◌, ◌≤◌, max};
+ghost use Rattle.peer_fill.specs.Plans.{IsLargestPower, IsPlanFor, shards_of};
 
 use std::num::NonZeroUsize;
 
@@ -9,6 +9,9 @@ use std::num::NonZeroUsize;
 const SHARD_BYTES: u64 = 16 << 20;
 
 const SHARD_KEYS: u64 = 1024;
+
+// The most shards.
+const MAX_SHARDS: usize = 64;
 
 /// The bytes that an entry counts beside those of its key and its value, for what it takes beside them (`bench/memory.py`). Each of
 /// the two that has a block of its own counts half as many more.
@@ -31,7 +34,7 @@ pub struct Bounds {
 pub enum CachePlan {
     /// One, as groupcache has it: so many bytes of keys and values at most, and 4,096 entries.
     Single(u64),
-    /// So many shards, a power of two of them, each within these bounds. The hash of a key says in which it is kept.
+    /// So many shards, a power of two of them up to 64, each within these bounds. The hash of a key says in which it is kept.
     Sharded(NonZeroUsize, Bounds),
 }
 
@@ -64,11 +67,15 @@ fn at_least_one(number: u64) -> NonZeroUsize
 }
 
 impl CachePlan {
-    /// How many shards each group has.
-    pub(crate) fn shards(&self) -> NonZeroUsize {
+    /// How many shards the group has.
+    pub(crate) fn shards(&self) -> usize
+        ensures own { result ≡ shards_of self.now }
+        ensures some { 1 ≤ result }
+        ensures most { result ≤ 64 }
+    {
         match self {
-            CachePlan::Single(_) => NonZeroUsize::MIN,
-            CachePlan::Sharded(shards, _) => *shards,
+            CachePlan::Single(_) => 1,
+            CachePlan::Sharded(shards, _) => shards.get().min(MAX_SHARDS),
         }
     }
 

@@ -4,6 +4,7 @@ ghost use Rattle.peer_fill.specs.Opens.{IsOutside, IsWithin};
 ghost use Rattle.peer_fill.specs.Seats.{HaveAllConns, HaveAllFills};
 
 use crate::cache_counts::CacheCounts;
+use crate::caching::Caching;
 use crate::close::{CloseFault, Report, gather_conns, gather_fills};
 use crate::closed::Closed;
 use crate::deal::deal_all;
@@ -23,14 +24,6 @@ use std::sync::atomic::AtomicBool;
 use std::sync::atomic::Ordering::SeqCst;
 use std::sync::ledger::{Blank, Ledger};
 use std::sync::{Mutex, Wait};
-
-/// How the caches of a pool are made.
-#[derive(Clone, Copy)]
-pub struct Caching {
-    pub plan: CachePlan,
-    /// For the maps of the keys, which peers choose.
-    pub seed: RandomState,
-}
 
 /// Fills, made by workers for connections. Threads share it.
 #[derive(Drop)]
@@ -73,6 +66,7 @@ impl<S: Source, L: Ledger> Pool<S, L> {
     {
         let caching = Caching {
             plan: CachePlan::Single(cache_bytes),
+            own: &[],
             seed,
         };
         Pool::open_with(alloc, source, caching, workers, conns, blank)
@@ -82,7 +76,7 @@ impl<S: Source, L: Ledger> Pool<S, L> {
     pub fn open_with(
         alloc: Global,
         source: S,
-        caching: Caching,
+        caching: Caching<'_>,
         workers: usize,
         conns: usize,
         blank: Blank,
@@ -98,7 +92,7 @@ impl<S: Source, L: Ledger> Pool<S, L> {
     {
         let groups = source.group_count();
         check_numbers(workers, conns, groups)?;
-        let caches = Shards::new(alloc, groups, caching.plan, caching.seed)?;
+        let caches = Shards::new(alloc, groups, caching)?;
         let dealt = deal_all::<S, L>(alloc, workers, conns, blank)?;
         let pool = Pool {
             source,

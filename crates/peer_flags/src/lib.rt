@@ -21,4 +21,4 @@ pub use flags::{FlagKind, command, kind_of};
 pub use options::Options;
 pub use room::Room;
 pub use time::time_of;
-pub use word::{time_in, under_way_in};
+pub use word::{bytes_in, cache_keys_in, time_in, under_way_in};

@@ -5,8 +5,8 @@ ghost use Rattle.peer_flags.specs.Times.{IsTime};
 use crate::address::{ListenAddress, PageAddress, listen, stats};
 use crate::fault::{BadWord, WordFault};
 use crate::log::log;
-use crate::size::{bytes_of, number_of};
-use crate::word::time_in;
+use crate::size::number_of;
+use crate::word::{MAX_CACHE_KEYS, bytes_in, time_in};
 use clap::ArgMatches;
 use clap::parser::ValueSource;
 use peer_log::LogForm;
@@ -26,9 +26,6 @@ const MAX_CONNECTIONS: u64 = 65_536;
 
 // The most values in a row that are late at an address until it rests.
 const MAX_REST_AFTER: u64 = 1000;
-
-// The most keys of a cache.
-const MAX_CACHE_KEYS: u64 = 4_294_967_296;
 
 // The flags that say how services are asked.
 const FOR_SERVICES: [&str; 8] = [
@@ -115,13 +112,9 @@ fn number_if_given<'w>(
 // The size of a flag.
 fn size<'w>(matches: &ArgMatches<'w>, flag: &'w str) -> Result<u64, BadWord<'w>> {
     let word = matches.get_str(flag).unwrap_or("");
-    match bytes_of(word) {
-        Some(bytes) => Ok(bytes),
-        None => Err(BadWord {
-            flag,
-            word,
-            fault: WordFault::Size,
-        }),
+    match bytes_in(word) {
+        Ok(bytes) => Ok(bytes),
+        Err(fault) => Err(BadWord { flag, word, fault }),
     }
 }
 

@@ -1,8 +1,10 @@
 //! What would be served.
 
-use crate::caches::CachesSaid;
+use crate::caches::{CachesSaid, Size};
+use crate::config::{ConfigFile, group_in};
 use crate::exit::{DONE, Exit, OUT_OF_MEMORY, no_output, refuse};
 use crate::facts::served_groups;
+use peer_config::Group;
 use peer_flags::Options;
 use peer_groups::FrontSource;
 use peer_origin::{Endpoint, Wires};
@@ -12,10 +14,11 @@ use std::io;
 use std::io::Write;
 use std::time::Duration;
 
-// The groups that would be served, and the endpoints of those that services have, from a number on.
+// The groups that would be served, what a file says of them, and the endpoints of those that services have, from a number on.
 #[derive(Clone, Copy)]
 struct Asked<'a> {
     groups: &'a [ServedGroup],
+    file: Option<ConfigFile<'a>>,
     first: usize,
     each: &'a [Endpoint],
 }
@@ -50,15 +53,30 @@ fn write_own<W: Write>(writer: &mut W, endpoint: &Endpoint) -> io::Result<()> {
     }
 }
 
+// Writes what is set of the cache of a group.
+fn write_cache<W: Write>(writer: &mut W, group: &Group) -> io::Result<()> {
+    if let Some(bytes) = group.cache() {
+        write!(writer, "\n  cache {}", Size { bytes })?;
+    }
+    match group.cache_keys() {
+        Some(keys) => write!(writer, "\n  cache_keys {keys}"),
+        None => Ok(()),
+    }
+}
+
 // Writes the name of the group with this number, and what is set of it.
 fn write_group<W: Write>(writer: &mut W, asked: &Asked<'_>, number: usize) -> io::Result<()> {
-    if let Some(group) = asked.groups.get(number) {
-        writer.write_all(group.name.as_slice())?;
-    }
+    let Some(served) = asked.groups.get(number) else {
+        return Ok(());
+    };
+    writer.write_all(served.name.as_slice())?;
     if let Some(index) = number.checked_sub(asked.first) {
         if let Some(endpoint) = asked.each.get(index) {
             write_own(writer, endpoint)?;
         }
+    }
+    if let Some(group) = group_in(asked.file, served.name.as_slice()) {
+        write_cache(writer, group)?;
     }
     writer.write_all(b"\n")
 }
@@ -72,7 +90,9 @@ fn say_groups<H: AllocGlobal + Print>(
     println!(rt;
         "would serve at {}, with {}:",
         options.listen,
-        CachesSaid::of(options, asked.groups.len())
+        CachesSaid {
+            groups: asked.groups
+        }
     )?;
     let mut writer = io::writer(rt);
     for number in 0..asked.groups.len() {
@@ -87,14 +107,16 @@ pub fn say_checked<H: AllocGlobal + Print + Eprint + Wires + Sync>(
     options: &Options<'_>,
     source: &FrontSource<'_, H>,
     words: &[&str],
+    file: Option<ConfigFile<'_>>,
 ) -> Exit {
     let services = source.first();
-    let groups = served_groups(rt.alloc(), source, words, options);
+    let groups = served_groups(rt.alloc(), source, words, options, file);
     let (Some(groups), Ok(each)) = (groups, services.second().endpoints(rt.alloc())) else {
         return refuse(rt, &"out of memory", OUT_OF_MEMORY);
     };
     let asked = Asked {
         groups: groups.as_slice(),
+        file,
         first: services.first().group_count(),
         each: each.as_slice(),
     };

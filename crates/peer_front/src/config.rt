@@ -1,7 +1,7 @@
 //! The file that flags and groups may come from, and what is said of where they stand.
 
 use crate::exit::{BAD_WORD, Exit, OUT_OF_MEMORY, refuse};
-use peer_config::{BadEntry, Config, NoConfig, Place, line_of};
+use peer_config::{BadEntry, Config, Group, NoConfig, Place, line_of};
 use peer_source::Source;
 use peer_table::TableSource;
 use std::alloc::Global;
@@ -104,6 +104,11 @@ impl<'a> ConfigFile<'a> {
             self.path
         );
     }
+}
+
+/// What a file says of the group of a name, if it says something.
+pub fn group_in<'c>(file: Option<ConfigFile<'c>>, name: &[u8]) -> Option<&'c Group> {
+    file?.config.group(name)
 }
 
 /// Says why a flag cannot be used: where it stands, and what is wrong with it.

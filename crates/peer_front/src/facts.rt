@@ -1,10 +1,12 @@
 //! What the page tells of the server as it was begun.
 
+use crate::config::ConfigFile;
+use crate::group_caches::limits_of;
 use peer_fetch::FetchPlan;
 use peer_flags::Options;
 use peer_groups::{FrontSource, names_of};
 use peer_origin::{Endpoint, Wires};
-use peer_stats::{Build, CacheLimits, ServedGroup, ServedService, ServerBounds, ServerFacts};
+use peer_stats::{Build, ServedGroup, ServedService, ServerBounds, ServerFacts};
 use std::alloc::Global;
 
 // The version of the program, as `--version` prints it.
@@ -20,13 +22,11 @@ pub fn served_groups<H: Wires + Sync>(
     source: &FrontSource<'_, H>,
     words: &[&str],
     options: &Options<'_>,
+    file: Option<ConfigFile<'_>>,
 ) -> Option<Vec<ServedGroup>> {
-    let limits = CacheLimits {
-        bytes: options.cache_bytes,
-        entries: options.cache_keys,
-    };
     let mut groups = Vec::new(alloc);
     for name in names_of(alloc, source, &source.first().first().source, words)? {
+        let limits = limits_of(options, file, name.as_slice());
         groups.push(ServedGroup { name, limits }).ok()?;
     }
     Some(groups)

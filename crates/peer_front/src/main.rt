@@ -12,6 +12,7 @@ mod exit;
 mod facts;
 mod failing;
 mod files;
+mod group_caches;
 mod group_settings;
 mod grown;
 mod headers;

@@ -4,6 +4,7 @@ use crate::caches::CachesSaid;
 use peer_fill::Report;
 use peer_flags::Options;
 use peer_origin::Endpoint;
+use peer_stats::ServedGroup;
 use std::fmt::{Display, Formatter};
 use std::io::Write;
 use std::net::TcpListener;
@@ -76,9 +77,9 @@ pub fn say_serving<H: AllocGlobal + Eprint>(
     };
 }
 
-/// Says on standard error what the caches of so many groups may take.
-pub fn say_caches<H: AllocGlobal + Eprint>(rt: &H, groups: usize, options: &Options<'_>) {
-    let _ = eprintln!(rt; "peer_front: {}", CachesSaid::of(options, groups));
+/// Says on standard error what the caches of these groups may take.
+pub fn say_caches<H: AllocGlobal + Eprint>(rt: &H, groups: &[ServedGroup]) {
+    let _ = eprintln!(rt; "peer_front: {}", CachesSaid { groups });
 }
 
 // Whether a key can stand right behind this prefix as a part of its own: of the path, or of the query.

@@ -7,6 +7,7 @@ use crate::config::{ConfigFile, say_flag};
 use crate::exit::{BAD_WORD, DONE, Exit, NO_SEED, OUT_OF_MEMORY, no_output, refuse};
 use crate::facts::{facts_of, served_groups, served_services};
 use crate::files::within_files;
+use crate::group_caches::plans_of;
 use crate::listen::listen;
 use crate::log::Log;
 use crate::page::{Page, page_of};
@@ -51,6 +52,8 @@ fn who_fills(options: &Options<'_>, has_services: bool) -> FilledBy {
 struct Outside<'a> {
     counters: &'a Counters,
     facts: ServerFacts<'a>,
+    // How the caches of its groups are planned.
+    plans: &'a [CachePlan],
     stop: &'a Stop,
 }
 
@@ -73,6 +76,7 @@ fn settings_of<'a>(
         accepts: None,
         caching: Caching {
             plan: CachePlan::sharded(options.cache_bytes, options.cache_keys),
+            own: outside.plans,
             seed,
         },
         limits: Limits::usual(),
@@ -140,7 +144,7 @@ fn serve_source<
     let filled_by = who_fills(options, plan.is_some());
     let groups = source.group_count();
     say_serving(rt, groups, &opened.listener, options, filled_by);
-    say_caches(rt, groups, options);
+    say_caches(rt, outside.facts.groups);
     if let Err(error) = say_listening(rt) {
         drop(opened);
         drop(source);
@@ -192,24 +196,30 @@ pub fn serve_asked<
         Err(exit) => return exit,
     };
     if options.check {
-        let exit = say_checked(rt, options, &source, words);
+        let exit = say_checked(rt, options, &source, words, file);
         drop(source);
         return exit;
     }
-    serve(rt, options, source, words)
+    serve(rt, options, source, words, file)
 }
 
 // Serves this source.
 fn serve<
     R: Read + Send + Drop + 'static,
     H: AllocGlobal + Input<Reader = R> + Print + Eprint + Files + RandomSource + Host + Wires,
->(rt: &H, options: &Options<'_>, source: FrontSource<'_, H>, words: &[&str]) -> Exit {
+>(
+    rt: &H,
+    options: &Options<'_>,
+    source: FrontSource<'_, H>,
+    words: &[&str],
+    file: Option<ConfigFile<'_>>,
+) -> Exit {
     let has_services = !words.is_empty();
     let counters = Counters::new();
     let (Some(fetched), Ok(stop)) = (fetched_of(rt.alloc(), &source), stop_of(rt, options)) else {
         return refuse(rt, &"out of memory, threads or descriptors", OUT_OF_MEMORY);
     };
-    let Some(groups) = served_groups(rt.alloc(), &source, words, options) else {
+    let Some(groups) = served_groups(rt.alloc(), &source, words, options, file) else {
         return refuse(rt, &"out of memory", OUT_OF_MEMORY);
     };
     let plan = if has_services {
@@ -220,12 +230,14 @@ fn serve<
     } else {
         None
     };
-    let Some(services) = served_services(rt.alloc(), &plan) else {
+    let plans = plans_of(rt.alloc(), groups.as_slice());
+    let (Some(plans), Some(services)) = (plans, served_services(rt.alloc(), &plan)) else {
         return refuse(rt, &"out of memory", OUT_OF_MEMORY);
     };
     let outside = Outside {
         counters: &counters,
         facts: facts_of(options, groups.as_slice(), services.as_slice()),
+        plans: plans.as_slice(),
         stop: &stop,
     };
     serve_source(rt, options, source, plan, outside)

@@ -22,7 +22,7 @@ pub struct Settings<'a> {
     /// How many connections are accepted before the server ends by itself, none where it does not.
     pub accepts: Option<u64>,
     /// How the caches of its groups are made.
-    pub caching: Caching,
+    pub caching: Caching<'a>,
     /// How long clients are waited for.
     pub limits: Limits,
     /// Where its threads publish what they count.

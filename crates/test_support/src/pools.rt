@@ -26,6 +26,7 @@ pub fn open_pool<S: Source, L: Ledger>(
 {
     let caching = Caching {
         plan: CachePlan::Single(cache_bytes),
+        own: &[],
         seed: seed()?,
     };
     open_pool_with(alloc, source, caching, workers, conns, blank)
@@ -35,7 +36,7 @@ pub fn open_pool<S: Source, L: Ledger>(
 pub fn open_pool_with<S: Source, L: Ledger>(
     alloc: Global,
     source: S,
-    caching: Caching,
+    caching: Caching<'_>,
     workers: usize,
     conns: usize,
     blank: Blank,

@@ -156,6 +156,7 @@ fn serve_prepared<
         accepts: None,
         caching: Caching {
             plan: CachePlan::Single(0),
+            own: &[],
             seed,
         },
         limits: Limits {

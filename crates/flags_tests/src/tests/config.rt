@@ -105,7 +105,7 @@ fn what_cannot_be_used_is_told_with_its_line(rt: HostRuntime) -> Result<(), Fail
         ),
         (
             "[groups.a]\nurl = \"u\"\ncash = 1\n",
-            "line 3: groups.a.cash: a group has no such key: url, table, header, timeout, connect_timeout and under_way are those it may have",
+            "line 3: groups.a.cash: a group has no such key: url, table, header, timeout, connect_timeout, under_way, cache and cache_keys are those it may have",
         ),
         (
             "[groups.a]\nurl = 1\ntable = true\n",
@@ -239,8 +239,12 @@ const TIME: &str = "a time from 1ms to 60m is needed, such as 500ms, 1.5s or 2m"
 
 const WORD: &str = "a text or a whole number is needed";
 
+const SIZE: &str = "a number of bytes is needed, or of KiB, MiB or GiB, such as 64MiB";
+
+const KEYS: &str = "a number from 1 to 4294967296 is needed";
+
 #[test]
-fn times_of_a_group_are_as_those_of_flags(rt: HostRuntime) -> Result<(), Fail> {
+fn words_of_a_group_are_as_those_of_flags(rt: HostRuntime) -> Result<(), Fail> {
     let alloc = rt.alloc();
     let mut right = true;
     for (key, word, said) in [
@@ -257,6 +261,17 @@ fn times_of_a_group_are_as_those_of_flags(rt: HostRuntime) -> Result<(), Fail> {
         ("under_way", "0", "a number from 1 to 1024 is needed"),
         ("under_way", "1025", "a number from 1 to 1024 is needed"),
         ("under_way", "[2]", WORD),
+        ("cache", "0", ""),
+        ("cache", "\"1GiB\"", ""),
+        ("cache", "\"1GB\"", SIZE),
+        ("cache", "-1", SIZE),
+        ("cache", "0.5", WORD),
+        ("cache_keys", "1", ""),
+        ("cache_keys", "4294967296", ""),
+        ("cache_keys", "0", KEYS),
+        ("cache_keys", "4294967297", KEYS),
+        ("cache_keys", "\"1KiB\"", KEYS),
+        ("cache_keys", "false", WORD),
     ] {
         let text = format!(in alloc; "[groups.a]\nurl = \"u\"\n\n{key} = {word}\n")?;
         let told = told(alloc, text.as_str())?;
@@ -283,6 +298,29 @@ fn a_group_has_what_its_keys_say(rt: HostRuntime) -> Result<(), Fail> {
     let (long, short) = (Duration::from_millis(1500), Duration::from_secs(2));
     assert!(rt; own == Some((Some(long), Some(short), Some(3))));
     assert!(rt; none == Some((None, None, None)));
+    Ok(())
+}
+
+#[test]
+fn a_group_of_a_table_or_a_service_has_a_cache(rt: HostRuntime) -> Result<(), Fail> {
+    let text =
+        "[groups.a]\nurl = \"u\"\ncache = \"1GiB\"\n[groups.b]\ntable = \"t\"\ncache = 0\ncache_keys = 1000000\n[groups.c]\nurl = \"u\"\n";
+    let alloc = rt.alloc();
+    assert!(rt; told(alloc, text)?.as_str() == "");
+    let config = Config::of(alloc, text.as_bytes()).map_err(|_| "no file")?;
+    let said = |name: &[u8]| {
+        let group = config.group(name)?;
+        Some((group.cache(), group.cache_keys()))
+    };
+    let seen = [said(b"a"), said(b"b"), said(b"c"), said(b"d")];
+    drop(config);
+    let wanted = [
+        Some((Some(1_073_741_824), None)),
+        Some((Some(0), Some(1_000_000))),
+        Some((None, None)),
+        None,
+    ];
+    assert!(rt; seen == wanted);
     Ok(())
 }
 

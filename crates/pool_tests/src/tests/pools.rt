@@ -9,6 +9,7 @@ mod gates;
 mod halves;
 mod numbering;
 mod opening;
+mod planned;
 mod refills;
 mod sharded;
 mod taken;

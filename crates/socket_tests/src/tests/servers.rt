@@ -58,6 +58,7 @@ fn loops_of<'a>(outside: &'a Outside, plan: &Plan, seed: RandomState) -> peer_lo
         accepts: plan.accepts,
         caching: Caching {
             plan: CachePlan::Single(plan.cache_bytes),
+            own: &[],
             seed,
         },
         limits: plan.limits,

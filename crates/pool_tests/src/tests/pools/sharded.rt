@@ -1,11 +1,11 @@
 //! Caches of other bounds than groupcache's, and shards: which keys are found again, and what was lost.
-ghost use Rattle.std.specs.Prelude.{◌≡◌};
+ghost use Rattle.std.specs.Prelude.{◌≡◌, ◌<◌};
 
 use super::desk::Desk;
 use crate::tests::values::ECHO;
 use peer_fill::{Bounds, CacheCounts, CachePlan, Caching, NoGate};
 use peer_flight::Claim;
-use peer_source::{DemoSource, Lost};
+use peer_source::{DemoSource, GroupId, Lost};
 use std::alloc::Global;
 use std::marker::Brand;
 use std::num::NonZeroUsize;
@@ -21,27 +21,37 @@ struct Asked {
     again_from: u64,
 }
 
-// Asks for a key and has the worker run after it: whether it was a hit. None if memory was refused.
-fn is_hit<L: Ledger, R: Wait>(rt: &R, desk: &mut Desk<DemoSource, L>, key: &[u8]) -> Option<bool> {
-    let claim = desk.ask(rt, ECHO, key)?;
+// Asks for a key of a group and has the worker run after it: whether it was a hit. None if memory was refused.
+fn is_hit<L: Ledger, R: Wait>(
+    rt: &R,
+    desk: &mut Desk<DemoSource, L>,
+    group: GroupId,
+    key: &[u8],
+) -> Option<bool>
+    requires { group.number < 2 }
+{
+    let claim = desk.ask(rt, group, key)?;
     let is_ready = matches!(&claim, Claim::Ready(_));
     drop(claim);
     desk.work(rt, 1, &NoGate);
     Some(is_ready)
 }
 
-// How many numbers of a range were hits, one after the other.
-fn hits<L: Ledger, R: Wait>(
+/// How many numbers of a range were hits in a group, one after the other.
+pub(super) fn hits<L: Ledger, R: Wait>(
     rt: &R,
     alloc: Global,
     desk: &mut Desk<DemoSource, L>,
+    group: GroupId,
     from: u64,
     to: u64,
-) -> Option<u64> {
+) -> Option<u64>
+    requires { group.number < 2 }
+{
     let mut hits = 0u64;
     for number in from..to {
         let key = format!(in alloc; "{number}").ok()?;
-        if is_hit(rt, desk, key.as_bytes())? {
+        if is_hit(rt, desk, group, key.as_bytes())? {
             hits = hits.wrapping_add(1);
         }
     }
@@ -55,14 +65,14 @@ fn ask_all<L: Ledger, R: Wait>(
     desk: &mut Desk<DemoSource, L>,
     asked: Asked,
 ) -> Option<(u64, CacheCounts)> {
-    hits(rt, alloc, desk, 0, asked.numbers)?;
+    hits(rt, alloc, desk, ECHO, 0, asked.numbers)?;
     if asked.letters > 0 {
         let mut key = Vec::new(alloc);
         key.resize(asked.letters, b'x').ok()?;
-        is_hit(rt, desk, key.as_slice())?;
+        is_hit(rt, desk, ECHO, key.as_slice())?;
     }
     let counts = desk.cache_counts(rt, ECHO);
-    let again = hits(rt, alloc, desk, asked.again_from, asked.numbers)?;
+    let again = hits(rt, alloc, desk, ECHO, asked.again_from, asked.numbers)?;
     Some((again, counts))
 }
 
@@ -70,7 +80,7 @@ fn ask_all<L: Ledger, R: Wait>(
 fn asked_of<L: Ledger, R: Wait>(
     rt: &R,
     alloc: Global,
-    caching: Caching,
+    caching: Caching<'_>,
     asked: Asked,
     blank: Blank,
 ) -> Option<(u64, CacheCounts)>
@@ -99,6 +109,7 @@ fn seen_of<R: Wait>(
     };
     let caching = Caching {
         plan: CachePlan::Sharded(NonZeroUsize::new(shards)?, bounds),
+        own: &[],
         seed: seed_of(seed)?,
     };
     asked_of::<Brand, R>(rt, alloc, caching, asked, Blank::new(16))
