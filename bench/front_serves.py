@@ -7,7 +7,7 @@
 The first who asks for a key leads, those who ask while it is looked up join, and those who ask once a cache has it hit;
 connections are counted as they come and go, and by why they ended; each failure of a service is counted as what it is, also where
 a reply of another status than 200 begins and its rest is late, and is told on standard error, none twice: with its time, group,
-service and last key, as text or as JSON. So is a service that is well again, a group that is not there, that all connections are
+service and last key, as text or as JSON. So is a value that took longer than `--slow`, with how long each part of it took; a service that is well again, a group that is not there, that all connections are
 taken, and what an end waits for; and where there are too many lines, how many were left out. What is counted of each
 group adds up to what is counted of all, also where a name has quotes, newlines or bytes above 7F; how long values are under way, wait
 until they are, have clients wait, and turns of loops take, is told by histograms that add up; so is of each service what it replies, connections, addresses, look-ups and keys that
@@ -604,6 +604,231 @@ def a_service_is_well_again():
         return failed and well and len(server.lines("origin well again")) == 1
 
 
+def dribbles(stream):
+    """What a service does that sends the rest of each reply late, and keeps its connections."""
+    while stream.recv(10000):
+        stream.sendall(HEAD + b"2\r\n\r\nv")
+        time.sleep(0.4)
+        stream.sendall(b"v")
+
+
+def slow_values_are_told():
+    late, rest, hung = serves_late(0.4), Service(dribbles), Service(hangs)
+    words = ["late=" + late.url, "rest=" + rest.url, "hung=" + hung.url, "fast=" + Service(keeps).url]
+    flags = ("--slow", "200ms", "--timeout", "1", "--fetchers", "1", "--under-way", "4", "--loops", "1")
+    with Counted(*flags, *words) as server, ThreadPoolExecutor(8) as threads:
+        # Of four values that may be under way two of one service are.
+        keys = ["a", "b", "c/" + 70 * "k"]
+        asked = [f"late/{key}" for key in keys] + ["hung/k", "fast/k"]
+        list(threads.map(server.ask, asked))
+        for key in ("a", "b"):
+            server.ask(f"rest/{key}")
+
+        def told(group):
+            return [line for line in server.lines("value was slow") if line["group"] == group]
+
+        if not comes_to(lambda: len(server.lines("value was slow")) >= 6):
+            return False
+        lines = server.lines("value was slow")
+        times = {
+            (line["group"], line["key"]): [int(line[name + "_ms"]) for name in ("queue", "connect", "first_byte", "whole")] for line in lines
+        }
+        waited = sorted(times[line["group"], line["key"]] for line in told("late"))
+        right = len(lines) == 6 and all(line["level"] == "warn" for line in lines) and not told("fast")
+        right &= {line["key"] for line in told("late")} == {"a", "b", "c%2F" + 62 * "k"}
+        right &= {line["service"] for line in told("late")} == {late.url.split("/")[2]}
+        right &= all(queue + connect + first <= whole and whole > 200 for queue, connect, first, whole in times.values())
+        # Each reply comes at once, and the third value waits for one of the others.
+        right &= [one[0] >= 300 for one in waited] == [False, False, True] and all(one[2] >= 300 for one in waited)
+        # The rest of a reply is late; the second value has the connection of the first.
+        right &= all(times["rest", key][2] < 200 and times["rest", key][3] >= 400 for key in "ab") and times["rest", "b"][1] == 0
+        # None of its reply came until it was given up.
+        right &= 900 <= times["hung", "k"][2] <= times["hung", "k"][3]
+        if not right:
+            print(lines)
+        return right
+
+
+def no_slow_value_is_told_without_the_flag():
+    with Counted("--log", "json", "late=" + serves_late(0.3).url) as plain, Counted("--log", "json", "--slow", "0.2", "late=" + serves_late(0.3).url) as told:
+        for server in (plain, told):
+            server.ask("late/k")
+        is_told = comes_to(lambda: '"what":"value was slow","group":"late"' in told.said() and '"queue_ms":0,"connect_ms":' in told.said())
+        time.sleep(1.2)
+        return is_told and "value was slow" not in plain.said()
+
+
+class Accessed(Counted):
+    """A server with an access log."""
+
+    def __init__(self, path, *words):
+        self.path = path
+        super().__init__("--access-log", path, *words)
+
+    def accesses(self, path=None):
+        """The fields of the lines of its access log."""
+        try:
+            with open(path or self.path, encoding="ascii") as file:
+                text = file.read()
+        except FileNotFoundError:
+            return []
+        told = lines_in(text)
+        assert all((level, what) == ("info", "reply") for level, what, _ in told) and len(told) == text.count("\n")
+        return [fields for _, _, fields in told]
+
+    def has(self, number, path=None):
+        """Whether it comes to have so many lines."""
+        return comes_to(lambda: len(self.accesses(path)) == number)
+
+
+def each_reply_has_a_line():
+    found = threading.Event()
+
+    def serve(stream):
+        stream.recv(10000)
+        found.wait(PATIENCE)
+        stream.sendall(HEAD + b"5\r\n\r\nvalue")
+
+    name = 'a"b'
+    with tempfile.TemporaryDirectory() as folder, ThreadPoolExecutor(2) as threads:
+        with Accessed(os.path.join(folder, "log"), "--loops", "1", f"{name}={Service(serve).url}") as server:
+            key = "x/" + 300 * "k"
+            path = urllib.parse.quote(name) + "/" + key
+            # On two connections, whose ports are told.
+            streams = [socket.create_connection(server.address, PATIENCE) for _ in range(2)]
+            ports = [str(stream.getsockname()[1]) for stream in streams]
+            for number, stream in enumerate(streams, 1):
+                stream.sendall(get(path))
+                server.says(asked_total=number)
+            time.sleep(0.3)
+            found.set()
+            for stream in streams:
+                stream.recv(10000)
+            time.sleep(0.3)  # so that the flight has landed
+            streams[0].sendall(get(path, "none/k") + b"HEAD /_groupcache/" + path.encode() + b" HTTP/1.1\r\nHost: h\r\n\r\n")
+            came = b""
+            while came.count(b"HTTP/1.1 ") < 3:
+                came += streams[0].recv(10000)
+            streams[1].sendall(get(urllib.parse.quote(name)))  # no key
+            streams[1].recv(10000)
+            if not server.has(6):
+                print(server.accesses())
+                return False
+            lines = server.accesses()
+    own = {"group": "a%22b", "key": "x%2F" + 254 * "k", "status": "200"}
+    value, port = {**own, "bytes": "7"}, [f"127.0.0.1:{port}" for port in ports]
+    wanted = [
+        {**value, "client": port[0], "found": "led"},
+        {**value, "client": port[1], "found": "joined"},
+        {**value, "client": port[0], "found": "hit"},
+        {"group": "none", "key": "-", "status": "404", "bytes": str(len(b"no such group: none\n")), "client": port[0], "found": "-"},
+        {**own, "bytes": "0", "client": port[0], "found": "hit"},
+        {"group": "-", "key": "-", "status": "400", "bytes": "12", "client": port[1], "found": "-"},
+    ]
+    micros = [int(line.pop("micros")) for line in lines]
+    waited = 250_000 <= micros[0] < 10_000_000 and 250_000 <= micros[1] < 10_000_000 and max(micros[2:]) < 250_000
+    if lines != wanted or not waited:
+        print(lines, micros)
+    return lines == wanted and waited
+
+
+def an_access_log_is_json_and_has_the_time_of_the_clock():
+    with tempfile.TemporaryDirectory() as folder:
+        path = os.path.join(folder, "log")
+        with Accessed(path, "--demo", "--log", "json") as server:
+            before = time.time()
+            server.ask("echo/k")
+            comes_to(lambda: os.path.getsize(path) > 0)
+            after = time.time()
+            with open(path, encoding="ascii") as file:
+                line = json.loads(file.read())
+    client, at = line.pop("client"), datetime.fromisoformat(line.pop("time").removesuffix("Z") + "+00:00").timestamp()
+    wanted = {"level": "info", "what": "reply", "group": "echo", "key": "k", "status": 200, "bytes": 3, "found": "led", "micros": line["micros"]}
+    return line == wanted and client.startswith("127.0.0.1:") and before - 0.05 <= at <= after + 0.05
+
+
+def an_access_log_that_is_moved_away_is_opened_anew():
+    with tempfile.TemporaryDirectory() as folder:
+        path, old = os.path.join(folder, "log"), os.path.join(folder, "old")
+        with open(path, "w", encoding="ascii") as file:
+            file.write("2026-11-30T05:43:07.123Z info reply: was=there\n")
+        with Accessed(path, "--demo") as server:
+            server.ask("echo/one")
+            first = server.has(2)  # what was there stays
+            os.rename(path, old)
+
+            def is_new():
+                server.ask("echo/two")
+                return server.accesses()
+
+            anew = comes_to(is_new)
+            kept = len(server.accesses(old)) >= 2
+            os.remove(path)
+            removed = comes_to(is_new)
+            asked = server.counts()["asked_total"]
+            return first and anew and kept and removed and asked >= 3
+
+
+def a_full_disk_is_told_and_serves_on():
+    with Accessed("/dev/full", "--demo") as server:
+        served = [server.ask(f"echo/{key}").endswith(b"k") for key in ("1k", "2k", "3k")]
+        failed = comes_to(lambda: "warn access log not written, " in server.said())
+        told = server.tells("replies without a line in the access log", level="warn", total="3")
+        counted = server.says(access_log_dropped_total=3)
+        served.append(server.ask("echo/4k").endswith(b"k"))
+        again = server.says(access_log_dropped_total=4)
+        return all(served) and failed and told and counted and again and server.said().count("access log not written") == 1
+
+
+def all_replies_are_written_or_counted():
+    with tempfile.TemporaryDirectory() as folder, tempfile.TemporaryFile() as said:
+        path, number = os.path.join(folder, "log"), 20000
+        words = [PROGRAM, "--listen", "127.0.0.1:0", "--until-eof", "--demo", "--loops", "1", "--access-log", path, "--stats", "127.0.0.1:0"]
+        process = subprocess.Popen(words, stdin=subprocess.PIPE, stdout=subprocess.PIPE, stderr=said)
+        process.stdout.readline()
+        told = os.pread(said.fileno(), 100000, 0).decode()
+        address = ("127.0.0.1", int(re.search(r"at 127\.0\.0\.1:(\d+), 10000", told)[1]))
+        replies_of = 0
+        for _ in range(number // 5000):
+            with socket.create_connection(address, PATIENCE) as stream:
+                threading.Thread(target=stream.sendall, args=(get("echo/k") * 5000,)).start()
+                came = 0
+                while came < 5000 * len(b"HTTP/1.1 200 OK\r\nContent-Type: application/x-protobuf\r\nContent-Length: 3\r\n\r\nxxx"):
+                    came += len(stream.recv(1 << 20))
+                replies_of += 5000
+        process.stdin.close()
+        process.wait(PATIENCE)
+        process.stdout.close()
+        left_out = re.findall(r"replies without a line in the access log: more=\d+ total=(\d+)", os.pread(said.fileno(), 100000, 0).decode())
+        with open(path, encoding="ascii") as file:
+            lines = file.read()
+        right = lines.count("\n") + int(([0] + left_out)[-1]) == replies_of == number
+        return right and all(LINE.match(line) for line in lines.splitlines()[::997])
+
+
+def an_access_log_is_on_standard_output():
+    with tempfile.TemporaryFile() as said:
+        words = [PROGRAM, "--listen", "127.0.0.1:0", "--until-eof", "--demo", "--access-log", "-"]
+        process = subprocess.Popen(words, stdin=subprocess.PIPE, stdout=subprocess.PIPE, stderr=said)
+        process.stdout.readline()
+        told = os.pread(said.fileno(), 100000, 0).decode()
+        ask(("127.0.0.1", int(re.search(r"at 127\.0\.0\.1:(\d+),", told)[1])), "echo/k")
+        out, _ = process.communicate(timeout=PATIENCE)
+        lines = lines_in(out.decode())
+        return len(lines) == 1 and lines[0][2]["key"] == "k" and out.decode().splitlines()[-1].startswith("asked 1 ")
+
+
+def slow_values_beyond_the_lines_are_counted():
+    with Counted("--slow", "100ms", "late=" + serves_late(0.3).url, "other=" + Service(hangs).url) as server, ThreadPoolExecutor(60) as threads:
+        list(threads.map(server.ask, (f"late/{key}" for key in range(60))))
+
+        def all_are():
+            left_out = sum(int(line["more"]) for line in server.lines("lines left out"))
+            return len(server.lines("value was slow")) + left_out == 60 and left_out > 0
+
+        return comes_to(all_are) and most_at_once(server.said()) <= 20 + 1
+
+
 def most_at_once(said):
     """The most lines of one look at the counters, which are a second apart."""
     times = [datetime.fromisoformat(time) for time in re.findall(r"^([0-9T:.-]+)Z (?:info|warn) ", said, re.MULTILINE)]
@@ -972,6 +1197,15 @@ run_rows(
         json_has_what_text_has,
         times_are_those_of_the_clock,
         a_service_is_well_again,
+        slow_values_are_told,
+        no_slow_value_is_told_without_the_flag,
+        slow_values_beyond_the_lines_are_counted,
+        each_reply_has_a_line,
+        an_access_log_is_json_and_has_the_time_of_the_clock,
+        an_access_log_that_is_moved_away_is_opened_anew,
+        a_full_disk_is_told_and_serves_on,
+        all_replies_are_written_or_counted,
+        an_access_log_is_on_standard_output,
         lines_are_few,
         what_is_taken_is_told,
         an_end_tells_what_it_waits_for,

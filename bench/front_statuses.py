@@ -113,6 +113,8 @@ ROWS = [
     (HERE + ["--demo", "--connect-timeout", "1"], 1, f"peer_front: --connect-timeout {FOR_SERVICES}\n"),
     (HERE + ["g=" + URL, "--wait", "0"], 1, f"peer_front: --wait 0: {TIME}\n"),
     (HERE + ["--demo", "--rest", "1"], 1, f"peer_front: --rest {FOR_SERVICES}\n"),
+    (HERE + ["g=" + URL, "--slow", "0"], 1, f"peer_front: --slow 0: {TIME}\n"),
+    (HERE + ["--demo", "--slow", "1"], 1, f"peer_front: --slow {FOR_SERVICES}\n"),
     (HERE + ["g=" + URL, "--timeout", "1.s"], 1, f"peer_front: --timeout 1.s: {TIME}\n"),
     (HERE + ["--demo", "--stats", "x"], 1, f"peer_front: --stats x: {PAGE}\n"),
     (HERE + ["--demo", "--stats", ""], 1, f"peer_front: --stats : {PAGE}\n"),

@@ -2,7 +2,7 @@
 ghost use Rattle.std.specs.Prelude.{◌≡◌, All};
 ghost use Rattle.peer_fill.specs.Pools.{source_of, IsConnSeatOf, IsFillSeatOf};
 
-use peer_exchange::{End, Exchange, ReplyCounts};
+use peer_exchange::{End, Exchange, ReplyNotes};
 use peer_fill::{ConnSeat, FillSeat, NoGate, Pool, Seats, TakenJob, pop_seat};
 use peer_source::DemoSource;
 use std::alloc::{AllocError, Global};
@@ -30,7 +30,7 @@ pub struct Driven<'a, L: Ledger> {
     exchange: Exchange<'a, DemoSource>,
     taken: Vec<TakenJob<DemoSource>>,
     sent: Vec<u8>,
-    replies: ReplyCounts,
+    replies: ReplyNotes,
     ghost conn_of: { IsConnSeatOf pool.now conn },
     ghost fill_of: { IsFillSeatOf pool.now fill },
     ghost names: { exchange.names ≡ source_of pool.now },
@@ -59,7 +59,7 @@ impl<'a, L: Ledger> Driven<'a, L> {
             exchange: Exchange::new(alloc, pool.names()),
             taken: Vec::new(alloc),
             sent: Vec::new(alloc),
-            replies: ReplyCounts::NONE,
+            replies: ReplyNotes::new(None),
         })
     }
 

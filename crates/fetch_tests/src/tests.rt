@@ -8,4 +8,5 @@ mod replies;
 mod running;
 mod scripted;
 mod served;
+mod slow;
 mod waking;

@@ -65,8 +65,10 @@ fn each_flag_has_its_default(rt: HostRuntime) -> Result<(), Fail> {
         rest_after: 3,
         rest: Duration::from_secs(10),
         connection_for_each: false,
+        slow: None,
         stats: None,
         log: LogForm::Text,
+        access_log: None,
         until_eof: false,
         for_services: None,
     };
@@ -205,6 +207,30 @@ fn a_key_waits_as_long_as_a_value_takes_or_as_is_said(rt: HostRuntime) -> Result
         right &= wait_of(rt.alloc(), &words)? == millis.map(Duration::from_millis);
     }
     assert!(rt; right);
+    Ok(())
+}
+
+// How long a value may take by these words until it is told, and the flag that is for services, or none where one cannot be used.
+fn slow_of(alloc: Global, word: &str) -> Result<Option<(Option<Duration>, bool)>, Fail> {
+    let words = ["peer_front", "--listen", "127.0.0.1:1", word];
+    let matches = matches_of(alloc, &words)?;
+    let slow = match Options::of(&matches) {
+        Ok(options) => Some((options.slow, options.for_services == Some("slow"))),
+        Err(_) => None,
+    };
+    drop(matches);
+    Ok(slow)
+}
+
+#[test]
+fn a_value_is_slow_if_it_is_said_from_when_on(rt: HostRuntime) -> Result<(), Fail> {
+    let alloc = rt.alloc();
+    let right = slow_of(alloc, "--slow=1.5s")? == Some((Some(Duration::from_millis(1_500)), true));
+    let usual = slow_of(alloc, "--demo")? == Some((None, false));
+    let none = slow_of(alloc, "--slow=0")? == None;
+    assert!(rt; right);
+    assert!(rt; usual);
+    assert!(rt; none);
     Ok(())
 }
 

@@ -1,5 +1,7 @@
 //! Lines, and their times.
 
+mod records;
+
 use peer_log::{Entry, Field, Level, LogForm, Said, line_of, now_text, time_text};
 use std::alloc::Global;
 use std::test::Fail;

@@ -273,6 +273,7 @@ impl<'a, S: Source, F: Facts<S>> Client<'a, S, F> {
         if self.lingers {
             return skip(&mut self.stream, &mut self.skipped);
         }
+        self.exchange.note_turn(now);
         for _ in 0..ROUNDS_OF_TURN {
             if let Some(state) = self.round(rt, seat, now, occupancy) {
                 return state;

@@ -79,16 +79,26 @@ impl<'a, S: Source, F: Facts<S>> EventLoop<'a, S, F> {
         slot.publish_turn(self.turn);
         slot.publish(seat.counts(self.turns.clients.each.len()));
         seat.publish_asks(slot);
+        seat.publish_dropped(self.turns.site.shared.counters);
     }
 
-    // Publishes what the caches have and have lost, and what clients hold, if a tick is over or the loop has no clients.
-    fn publish_caches<L: Ledger, H: Wait>(&mut self, rt: &H, seat: &LoopSeat<'a, S, L, F>) {
+    // Publishes what the caches have and have lost, and what clients hold, if a tick is over or the loop has no clients. Then the
+    // clock of the records is set, too.
+    fn publish_caches<L: Ledger, H: Wait + Clock>(
+        &mut self,
+        rt: &H,
+        seat: &mut LoopSeat<'a, S, L, F>,
+    )
+        ensures pool { seat.new.pool.now ≡ seat.old.pool.now }
+        ensures parts { KeepsParts seat.old.seats seat.new.seats }
+    {
         if self.caches_published != self.turns.swept || self.turns.clients.each.is_empty() {
             self.caches_published = self.turns.swept;
             let shared = self.turns.site.shared;
             let untaken = shared.occupancy.held() as u64;
             shared.counters.publish_untaken_bytes(untaken);
             seat.publish_caches(rt, shared.counters);
+            seat.tell_clock(rt, self.turns.now());
         }
     }
 
@@ -277,6 +287,7 @@ impl<'a, S: Source, F: Facts<S>> EventLoop<'a, S, F> {
         ensures parts { KeepsParts seat.old.seats seat.new.seats }
     {
         let begun = Instant::now(rt).ok();
+        seat.tell_clock(rt, Duration::ZERO);
         for _ in rt.forever() {
             if self.is_done(seat) {
                 self.turns.site.slot().publish_turn(ASLEEP);

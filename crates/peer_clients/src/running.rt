@@ -9,7 +9,7 @@ use crate::filling::Filling;
 use crate::loop_seats::LoopSeats;
 use crate::seat::LoopSeat;
 use crate::work::{LoopParts, LoopWork};
-use peer_exchange::ReplyCounts;
+use peer_exchange::ReplyNotes;
 use peer_fill::Pool;
 use peer_runtime::Network;
 use peer_source::Source;
@@ -32,13 +32,17 @@ fn run_known<S: Source, L: Ledger, F: Facts<S>, H: Network>(
 {
     let LoopWork { seats, parts, site } = work;
     let LoopParts { mut waits, buffer } = parts;
+    let ring = match site.shared.records {
+        Some(rings) => rings.take(rt, site.number),
+        None => None,
+    };
     let mut seat = LoopSeat::<S, L, F> {
         pool,
         alloc,
         seats,
         buffer,
         filling: Filling::new(site.shared.wakers, site.shared.gate(site.number)),
-        replies: ReplyCounts::NONE,
+        notes: ReplyNotes::new(ring),
         traffic: TrafficCounts::NONE,
         of: PhantomData,
     };

@@ -8,7 +8,8 @@ use crate::facts::Facts;
 use crate::filling::{Filling, work};
 use crate::limits::JOBS_OF_TURN;
 use crate::loop_seats::LoopSeats;
-use peer_exchange::{Exchange, ReplyCounts, Rest};
+use mio::net::TcpStream;
+use peer_exchange::{Exchange, ReplyCounts, ReplyNotes, Rest};
 use peer_fill::Pool;
 use peer_source::{GroupId, MAX_GROUPS, Source};
 use peer_stats::{AskCounts, CacheCounts, Counters, LoopCounts, LoopSlot, TrafficCounts};
@@ -16,6 +17,7 @@ use std::alloc::Global;
 use std::marker::PhantomData;
 use std::sync::Wait;
 use std::sync::ledger::Ledger;
+use std::time::{Clock, Duration};
 
 // What the page tells of the caches of a group.
 fn told(counts: peer_fill::CacheCounts) -> CacheCounts {
@@ -53,8 +55,8 @@ pub struct LoopSeat<'a, S: Source, L: Ledger, F: Facts<S>> {
     pub buffer: Vec<u8>,
     /// By whom the jobs are filled that its connections push.
     pub filling: Filling<'a>,
-    /// The replies that its connections have put.
-    pub replies: ReplyCounts,
+    /// What is noted of the replies that its connections have put.
+    pub notes: ReplyNotes,
     /// The bytes of its clients.
     pub traffic: TrafficCounts,
     pub of: PhantomData<F>,
@@ -99,10 +101,14 @@ impl<'a, S: Source, L: Ledger, F: Facts<S>> LoopSeat<'a, S, L, F> {
     ghost use Rattle.std.specs.Prelude.{◌≡◌, Some};
     ghost use Rattle.peer_clients.specs.Parts.{KeepsParts};
 
-    /// A connection that asks the pool.
-    pub fn exchange(&self) -> Exchange<'a, S>
+    /// A connection of this stream, which asks the pool.
+    pub fn exchange(&self, stream: &TcpStream) -> Exchange<'a, S>
         ensures { F.source ≡ Some result.names }
     {
+        if self.notes.has_records() {
+            let client = stream.peer_addr().ok();
+            return Exchange::recorded(self.alloc, self.pool.names(), client);
+        }
         Exchange::new(self.alloc, self.pool.names())
     }
 
@@ -117,7 +123,7 @@ impl<'a, S: Source, L: Ledger, F: Facts<S>> LoopSeat<'a, S, L, F> {
             return Progress::Done;
         };
         if exchange
-            .answer_ready(self.pool, &mut self.seats.conn, &mut self.replies)
+            .answer_ready(self.pool, &mut self.seats.conn, &mut self.notes)
             .is_err()
         {
             return Progress::Done;
@@ -132,7 +138,7 @@ impl<'a, S: Source, L: Ledger, F: Facts<S>> LoopSeat<'a, S, L, F> {
         ensures pool { self.new.pool.now ≡ self.old.pool.now }
         ensures parts { KeepsParts self.old.seats self.new.seats }
     {
-        let _ = exchange.answer_ready(self.pool, &mut self.seats.conn, &mut self.replies);
+        let _ = exchange.answer_ready(self.pool, &mut self.seats.conn, &mut self.notes);
         if exchange.rest().output {
             Progress::Unsent
         } else {
@@ -154,6 +160,26 @@ impl<'a, S: Source, L: Ledger, F: Facts<S>> LoopSeat<'a, S, L, F> {
         ensures seats { self.new.seats ≡ self.old.seats }
     {
         self.traffic.sent = self.traffic.sent.wrapping_add(n as u64);
+    }
+
+    /// Reads by the clock when the loop began, whose time it is now: what records have is that, and the time since.
+    pub fn tell_clock<H: Clock>(&mut self, rt: &H, now: Duration)
+        ensures pool { self.new.pool.now ≡ self.old.pool.now }
+        ensures seats { self.new.seats ≡ self.old.seats }
+    {
+        if self.notes.has_records() {
+            if let Ok(since) = rt.since_1970() {
+                self.notes.tell_begun(since.saturating_sub(now));
+            }
+        }
+    }
+
+    /// Counts the replies that have no record, since the log has not taken those before.
+    pub fn publish_dropped(&mut self, counters: &Counters)
+        ensures pool { self.new.pool.now ≡ self.old.pool.now }
+        ensures seats { self.new.seats ≡ self.old.seats }
+    {
+        counters.count_log_dropped(self.notes.take_dropped());
     }
 
     // How many jobs its connections have pushed.
@@ -206,7 +232,7 @@ impl<'a, S: Source, L: Ledger, F: Facts<S>> LoopSeat<'a, S, L, F> {
         ensures pool { self.new.pool.now ≡ self.old.pool.now }
         ensures parts { KeepsParts self.old.seats self.new.seats }
     {
-        slot.publish_replies(told_replies(self.replies));
+        slot.publish_replies(told_replies(self.notes.counts));
         slot.publish_traffic(self.traffic);
         for _ in 0..MAX_GROUPS {
             let Some(of_group) = self.seats.conn.next_untold() else {

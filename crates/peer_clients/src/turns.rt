@@ -63,7 +63,8 @@ impl<'a, S: Source, F: Facts<S>> Turns<'a, S, F> {
             let Some(stream) = self.site.mailbox.next_stream(rt) else {
                 return;
             };
-            let client = Client::new(stream, seat.exchange(), self.now);
+            let exchange = seat.exchange(&stream);
+            let client = Client::new(stream, exchange, self.now);
             if self.stopped {
                 self.site.shared.occupancy.leave();
             } else if !self.clients.add(registry, client) {
@@ -274,6 +275,11 @@ impl<'a, S: Source, F: Facts<S>> Turns<'a, S, F> {
         }
         self.push_left(rt, seat);
         self.serve_ready(rt, seat);
+    }
+
+    /// How long after the loop began it last waited.
+    pub fn now(&self) -> Duration {
+        self.now
     }
 
     /// How long ago the last turn began, by then.

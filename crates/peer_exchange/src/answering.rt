@@ -8,7 +8,7 @@ ghost use Rattle.std.specs.VecDeque.{deque_len};
 use crate::exchange_state::ExchangeState;
 use crate::intake::GivenUp;
 use crate::outgoing::Answered;
-use crate::reply_counts::ReplyCounts;
+use crate::reply_notes::ReplyNotes;
 use peer_fill::{ConnSeat, Pool};
 use peer_source::Source;
 use peer_wish::Ticket;
@@ -40,12 +40,12 @@ impl<S: Source> ExchangeState<S> {
     ghost use Rattle.peer_exchange.specs.ExchangeStates.{Keeps};
     ghost use Rattle.peer_exchange.specs.Intakes.{IsGivenUpFor};
 
-    /// Puts the replies of the first tickets, as far as their fills are there and few bytes wait to be sent, and counts them.
+    /// Puts the replies of the first tickets, as far as their fills are there and few bytes wait to be sent, and notes them.
     pub(crate) fn answer_ready<L: Ledger>(
         &mut self,
         pool: &Pool<S, L>,
         seat: &mut ConnSeat<S, L>,
-        replies: &mut ReplyCounts,
+        notes: &mut ReplyNotes,
     ) -> Result<(), GivenUp>
         requires { IsConnSeatOf pool.now seat.old }
         ensures seat { KeepsSeat pool.now seat.old seat.new }
@@ -56,7 +56,7 @@ impl<S: Source> ExchangeState<S> {
         ensures given_up { IfErr result (IsGivenUpFor self.new.intake.stage) }
     {
         loop {
-            match self.answer_first(pool, seat, replies) {
+            match self.answer_first(pool, seat, notes) {
                 Ok(Answered::Put { .. }) => {}
                 Ok(Answered::Waits) => return Ok(()),
                 Err(why) => return Err(why),
@@ -64,13 +64,13 @@ impl<S: Source> ExchangeState<S> {
         }
     }
 
-    // Puts the reply of the first ticket, where its fill is there and little output waits, counts it, and counts a stranger
+    // Puts the reply of the first ticket, where its fill is there and little output waits, notes it, and counts a stranger
     // where it was refilled. `Waits` also where there is no ticket.
     fn answer_first<L: Ledger>(
         &mut self,
         pool: &Pool<S, L>,
         seat: &mut ConnSeat<S, L>,
-        replies: &mut ReplyCounts,
+        notes: &mut ReplyNotes,
     ) -> Result<Answered, GivenUp>
         requires { IsConnSeatOf pool.now seat.old }
         ensures seat { KeepsSeat pool.now seat.old seat.new }
@@ -87,9 +87,11 @@ impl<S: Source> ExchangeState<S> {
         match self.outgoing.answer(pool, ticket) {
             Ok(Answered::Put { refilled }) => {
                 seat.add_strangers(u64::from(refilled));
-                replies.count(&ticket.body);
+                let put = self.outgoing.out.len() - before;
+                let content = put.saturating_sub(self.outgoing.head_len());
+                notes.note(&ticket.body, self.marks.take(), content);
                 drop_first(&mut self.waiting);
-                self.window.put(self.outgoing.out.len() - before);
+                self.window.put(put);
                 Ok(Answered::Put { refilled })
             }
             Ok(Answered::Waits) => Ok(Answered::Waits),

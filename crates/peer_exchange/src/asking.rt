@@ -178,8 +178,10 @@ impl<S: Source> ExchangeState<S> {
         if self.waiting.reserve(1).is_err() {
             return Err(self.give_up(GivenUp::Memory));
         }
+        let led = seat.led();
         match ask_first(rt, pool, seat, names, &self.intake, places) {
             Asked::Ticket(ticket, len) => {
+                self.marks.note_asked(&ticket.body, seat.led() != led);
                 self.enqueue(ticket, len);
                 Ok(true)
             }

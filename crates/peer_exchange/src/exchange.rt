@@ -9,15 +9,18 @@ ghost use Rattle.peer_exchange.specs.ExchangeStates.{Upholds};
 
 use crate::exchange_state::ExchangeState;
 use crate::intake::GivenUp;
-use crate::reply_counts::ReplyCounts;
+use crate::marks::Marks;
+use crate::reply_notes::ReplyNotes;
 use crate::rest::Rest;
 use peer_fill::{ConnSeat, Pool};
 use peer_source::{FunctionalSource, GroupId, Names, Source};
 use peer_view::History;
 use peer_wish::End;
 use std::alloc::Global;
+use std::net::SocketAddr;
 use std::sync::Wait;
 use std::sync::ledger::Ledger;
+use std::time::Duration;
 
 /// A connection to the groups of a source.
 #[derive(Drop)]
@@ -69,10 +72,42 @@ impl<'p, S: Source> Exchange<'p, S> {
     {
         Exchange {
             names,
-            state: ExchangeState::new(alloc),
+            state: ExchangeState::new(alloc, Marks::none()),
             came: History::none(),
             sent: History::none(),
         }
+    }
+
+    /// The same of a client at this address, whose replies have records for an access log. None has one where memory is refused.
+    pub fn recorded(
+        alloc: Global,
+        names: Names<'p, S>,
+        client: Option<SocketAddr>,
+    ) -> Exchange<'p, S>
+        ensures names { result.names ≡ names.entry }
+        ensures came { result.came.bytes ≡ [] }
+        ensures sent { result.sent.bytes ≡ [] }
+        ensures open { takes_bytes result.state ≡ true }
+        ensures none { (result.state.waiting.items ≡ []) × (unsent result.state ≡ []) }
+        ensures window { result.state.window.tickets ≡ 1 }
+    {
+        Exchange {
+            names,
+            state: ExchangeState::new(alloc, Marks::of(alloc, client)),
+            came: History::none(),
+            sent: History::none(),
+        }
+    }
+
+    /// A turn begins, so long after the loop began: the time that records have of what comes and is put in it.
+    pub fn note_turn(&mut self, now: Duration)
+        ensures histories { KeepsHistories self.old self.new }
+        ensures stage { self.new.state.intake.stage ≡ self.old.state.intake.stage }
+        ensures waiting { self.new.state.waiting.items ≡ self.old.state.waiting.items }
+        ensures unsent { unsent self.new.state ≡ unsent self.old.state }
+        ensures window { self.new.state.window.tickets ≡ self.old.state.window.tickets }
+    {
+        self.state.note_turn(now);
     }
 
     /// The law: what was sent is a front of all replies to what came, each once, in request order, and nothing behind a
@@ -195,13 +230,13 @@ impl<'p, S: Source> Exchange<'p, S> {
         }
     }
 
-    /// Puts the replies of the first tickets, as far as their fills are there and few bytes wait to be sent, and counts
+    /// Puts the replies of the first tickets, as far as their fills are there and few bytes wait to be sent, and notes
     /// them. Where a fill is of another group or key than was asked for, the source is called here, and may take its time.
     pub fn answer_ready<L: Ledger>(
         &mut self,
         pool: &Pool<S, L>,
         seat: &mut ConnSeat<S, L>,
-        replies: &mut ReplyCounts,
+        notes: &mut ReplyNotes,
     ) -> Result<(), GivenUp>
         requires { IsConnSeatOf pool.now seat.old }
         ensures seat { KeepsSeat pool.now seat.old seat.new }
@@ -211,7 +246,7 @@ impl<'p, S: Source> Exchange<'p, S> {
         ensures stage { OnOk result (self.new.state.intake.stage ≡ self.old.state.intake.stage) }
         ensures given_up { IfErr result (IsGivenUpFor self.new.state.intake.stage) }
     {
-        self.state.answer_ready(pool, seat, replies)
+        self.state.answer_ready(pool, seat, notes)
     }
 
     /// What would let it go on, once what it holds was judged by `ask_held`. Behind `answer_ready` and `sent`, which make room, more of

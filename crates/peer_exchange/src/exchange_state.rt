@@ -6,12 +6,14 @@ ghost use Rattle.std.specs.Prelude.{◌≡◌, ◌+◌, ◌-◌, ◌^◌, ℕ, m
 ghost use Rattle.peer_exchange.specs.Holdings.{CameForAll};
 
 use crate::intake::{GivenUp, Intake};
+use crate::marks::Marks;
 use crate::outgoing::{Outgoing, len_of};
 use crate::window::{MAX_UNSENT, Window};
 use peer_source::{FunctionalSource, Names, Source};
 use peer_wish::Ticket;
 use std::alloc::{AllocError, Global};
 use std::collections::VecDeque;
+use std::time::Duration;
 
 #[derive(Drop)]
 pub(crate) struct ExchangeState<S: Source> {
@@ -21,6 +23,8 @@ pub(crate) struct ExchangeState<S: Source> {
     /// The next request waits until the seat has put the job that is left with it.
     pub(crate) waits_for_job: bool,
     pub(crate) window: Window,
+    /// What an access log is told of those that wait.
+    pub(crate) marks: Marks,
 }
 
 // So many bytes, and those of values and texts that came for the tickets.
@@ -47,8 +51,8 @@ impl<S: Source> ExchangeState<S> {
     ghost use Rattle.peer_exchange.specs.ExchangeStates.{has_much_output, is_full, is_over, lent, lent_behind, room_of};
     ghost use Rattle.peer_exchange.specs.ExchangeStates.{takes_bytes, unsent};
 
-    /// No byte came, and none was sent. It takes no memory yet.
-    pub(crate) fn new(alloc: Global) -> ExchangeState<S>
+    /// No byte came, and none was sent. It takes no memory yet, but for what is noted.
+    pub(crate) fn new(alloc: Global, marks: Marks) -> ExchangeState<S>
         ensures upholds { (numbers : List ℕ → Option ℕ) → Upholds numbers (allows S.allowed) [] [] [] result }
         ensures open { takes_bytes result ≡ true }
         ensures none { (result.waiting.items ≡ []) × (unsent result ≡ []) }
@@ -60,6 +64,7 @@ impl<S: Source> ExchangeState<S> {
             outgoing: Outgoing::new(alloc),
             waits_for_job: false,
             window: Window::new(),
+            marks,
         }
     }
 
@@ -102,9 +107,23 @@ impl<S: Source> ExchangeState<S> {
         ensures window { self.new.window.tickets ≡ self.old.window.tickets }
     {
         match self.intake.receive(bytes) {
-            Ok(n) => Ok(n),
+            Ok(n) => {
+                self.marks.note_came();
+                Ok(n)
+            }
             Err(AllocError) => Err(self.give_up(GivenUp::Memory)),
         }
+    }
+
+    /// A turn begins, so long after the loop began.
+    pub(crate) fn note_turn(&mut self, now: Duration)
+        ensures keeps { (numbers : List ℕ → Option ℕ) → Keeps numbers (allows S.allowed) self.old self.new }
+        ensures stage { self.new.intake.stage ≡ self.old.intake.stage }
+        ensures waiting { self.new.waiting.items ≡ self.old.waiting.items }
+        ensures unsent { unsent self.new ≡ unsent self.old }
+        ensures window { self.new.window.tickets ≡ self.old.window.tickets }
+    {
+        self.marks.note_turn(now);
     }
 
     /// The client told its end.

@@ -88,6 +88,11 @@ impl Outgoing {
         }
     }
 
+    /// How many bytes the head of the last reply has.
+    pub(crate) fn head_len(&self) -> usize {
+        self.head.as_slice().len()
+    }
+
     /// Puts the reply of a ticket, where its fill is there.
     pub(crate) fn answer<S: Source, L: Ledger>(
         &mut self,

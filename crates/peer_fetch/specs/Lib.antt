@@ -1,4 +1,5 @@
 pub mod Fetchers
+pub mod Slows
 pub mod Threads
 pub mod Transfers
 pub mod Turns

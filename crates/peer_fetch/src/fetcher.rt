@@ -156,7 +156,8 @@ impl<'a, S: Source, H: Network + Wires> Fetcher<'a, S, H> {
         ensures { IfSome result (IsDoneOn H.carried) }
     {
         let mut under = under;
-        under.note_begun(self.connections.now());
+        let now = self.connections.now();
+        under.note_begun(now);
         let number = under.number();
         if self.read_addresses(system, &under).is_err() {
             return Some(under.done(Err(FetchFault::Memory)));
@@ -166,6 +167,7 @@ impl<'a, S: Source, H: Network + Wires> Fetcher<'a, S, H> {
         };
         match self.connections.get_mut(key) {
             Some(link) if link.number == number && link.may_begin() && under.is_unused() => {
+                under.note_connected(now);
                 link.begin(system.rt, under)
             }
             _ => return self.connect_first(system, under),

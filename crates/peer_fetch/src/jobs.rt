@@ -79,7 +79,7 @@ fn fill_done<'a, S: Source, L: Ledger, G: Gate, H: Network + Wires>(
     let times = done.times();
     let (job, outcome) = done.settle::<H>(jobs.alloc);
     note_done(rt, jobs.plan.failures, &job, fault);
-    note_times(jobs.plan.times, &job, times, now);
+    note_times(rt, &jobs.plan, &job, times, now);
     fill(rt, jobs, seat, endpoint, job, outcome);
 }
 

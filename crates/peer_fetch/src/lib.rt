@@ -17,8 +17,10 @@ mod noted;
 mod opening;
 mod room;
 mod settings;
+mod slow;
 mod thread;
 mod transfer;
 
 pub use settings::{FetchPlan, FetchThreadSettings};
+pub use slow::{SlowList, SlowValue, SlowValues};
 pub use thread::{FetchParts, FetchThread};

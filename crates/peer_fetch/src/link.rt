@@ -4,13 +4,13 @@
 //! with whose number the connection began is asked for on it, where no other is under way and the last use is over: one whole
 //! request was sent in it, and one whole reply came. What a connection carried in its present use is what was sent and came for
 //! that value.
-ghost use Rattle.std.specs.Prelude.{◌≡◌, ◌↔◌, IfSome, IsSome, IsTrue, Some, None, false, true};
+ghost use Rattle.std.specs.Prelude.{◌≡◌, ◌↔◌, IfSome, IsSome, IsSomeAnd, IsTrue, Some, None, false, true};
 ghost use Rattle.std.proofs.Props.{props};
 ghost use Rattle.peer_runtime.specs.Wires.{Carried};
 ghost use Rattle.peer_origin.specs.Wires.{IsOver};
 ghost use Rattle.peer_fetch.specs.Transfers.{IsOn};
 ghost use Rattle.peer_fetch.specs.Turns.{GivesOn, IsTurnOf, KeepsWire};
-ghost use Rattle.peer_value.specs.UnderWays.{number_of};
+ghost use Rattle.peer_value.specs.UnderWays.{HasSameJob, number_of};
 ghost use Rattle.peer_value.specs.Values.{IsToldBy, IsUnused};
 
 use crate::transfer::{Halt, receive, send};
@@ -244,13 +244,26 @@ impl<'a, S: Source, H: Wires> Link<'a, S, H> {
         }
     }
 
-    // Sends and receives for a value. One that is `late` has what has come by now, and nothing is waited for.
+    // Puts the value back that is under way, and notes by now how far it is.
+    fn put_back(&mut self, under: UnderWay<'a, S>, now: Duration)
+        requires number { number_of under ≡ self.old.number }
+        requires free { self.old.under ≡ None }
+        requires on { IsOn self.old.wire under }
+        ensures under { IsSomeAnd self.new.under (HasSameJob under.entry) }
+        ensures number { self.new.number ≡ self.old.number }
+    {
+        let mut under = under;
+        under.note_progress(now);
+        self.put(under);
+    }
+
+    // Sends and receives for a value. One that is late has what has come by now, and nothing is waited for.
     fn exchange(
         &mut self,
         rt: &H,
         under: UnderWay<'a, S>,
         buffer: &mut [u8],
-        late: bool,
+        now: Duration,
     ) -> Turn<'a, S>
         requires number { number_of under ≡ self.old.number }
         requires free { self.old.under ≡ None }
@@ -260,6 +273,8 @@ impl<'a, S: Source, H: Wires> Link<'a, S, H> {
         ensures number { self.new.number ≡ self.old.number }
     {
         let mut under = under;
+        under.note_connected(now);
+        let late = under.due() <= now;
         self.is_over = false;
         // Of what came while the process stood still no event need have told, nor of the end behind it.
         self.readiness.readable |= late;
@@ -283,11 +298,11 @@ impl<'a, S: Source, H: Wires> Link<'a, S, H> {
             }
             Halt::Failed(failure) => Turn::Cut(under, failure),
             Halt::Waits => {
-                self.put(under);
+                self.put_back(under, now);
                 Turn::Waits
             }
             Halt::Busy => {
-                self.put(under);
+                self.put_back(under, now);
                 Turn::Busy
             }
         }
@@ -345,7 +360,7 @@ impl<'a, S: Source, H: Wires> Link<'a, S, H> {
         };
         let late = under.due() <= now;
         match self.connect(rt, now) {
-            Connecting::Connected => self.exchange(rt, under, buffer, late),
+            Connecting::Connected => self.exchange(rt, under, buffer, now),
             Connecting::Waits | Connecting::Failed(_) if late => {
                 Turn::Done(under.done(Err(FetchFault::Unreached)), None)
             }

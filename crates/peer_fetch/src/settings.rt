@@ -1,6 +1,7 @@
 //! What can be set of a fetch thread, and what it fetches.
 ghost use Rattle.std.specs.Prelude.{◌≡◌};
 
+use crate::slow::SlowValues;
 use peer_origin::FetchSettings;
 use peer_stats::{FailureSlots, FetchTimes, ServiceSlots};
 use peer_value::Endpoints;
@@ -43,4 +44,6 @@ pub struct FetchPlan<'a> {
     pub times: &'a FetchTimes,
     /// Where is counted of services.
     pub services: &'a ServiceSlots,
+    /// Where values are noted that took long, if they are to be told.
+    pub slow: Option<&'a SlowValues>,
 }

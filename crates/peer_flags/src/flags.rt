@@ -33,7 +33,7 @@ const CHECK: &str = "check";
 
 // The flags, as `--help` lists them: for what is served, for how services are asked, for how it is served, and for whoever
 // runs it.
-const FLAGS: [Flag; 23] = [
+const FLAGS: [Flag; 25] = [
     Flag {
         name: "listen",
         takes: Takes::Required("ADDR"),
@@ -105,6 +105,11 @@ const FLAGS: [Flag; 23] = [
         help: "Send each request to a service on a connection of its own",
     },
     Flag {
+        name: "slow",
+        takes: Takes::Value("TIME"),
+        help: "Say on standard error which values of services take longer than this",
+    },
+    Flag {
         name: "workers",
         takes: Takes::Defaulted("N", "0"),
         help: "Threads that look up a table or the groups of --demo, 0 to 16; with 0 the loops do that",
@@ -143,6 +148,11 @@ const FLAGS: [Flag; 23] = [
         name: "log",
         takes: Takes::Defaulted("FORM", "text"),
         help: "How lines on standard error are written while it serves: text, or json for one object a line",
+    },
+    Flag {
+        name: "access-log",
+        takes: Takes::Value("FILE"),
+        help: "Append a line for each reply to a file, or to standard output for -, in the form of --log",
     },
     Flag {
         name: "until-eof",

@@ -28,7 +28,7 @@ const MAX_CONNECTIONS: u64 = 65_536;
 const MAX_REST_AFTER: u64 = 1000;
 
 // The flags that say how services are asked.
-const FOR_SERVICES: [&str; 8] = [
+const FOR_SERVICES: [&str; 9] = [
     "fetchers",
     "under-way",
     "timeout",
@@ -37,6 +37,7 @@ const FOR_SERVICES: [&str; 8] = [
     "rest-after",
     "rest",
     "connection-for-each",
+    "slow",
 ];
 
 /// What the program is asked to do.
@@ -64,8 +65,12 @@ pub struct Options<'w> {
     pub rest_after: u32,
     pub rest: Duration,
     pub connection_for_each: bool,
+    /// How long a value of a service may take until it is told, if such values are.
+    pub slow: Option<Duration>,
     pub stats: Option<PageAddress<'w>>,
     pub log: LogForm,
+    /// The file that has a line for each reply, if there is one; `-` is standard output.
+    pub access_log: Option<&'w str>,
     pub until_eof: bool,
     /// The first flag given that is for services alone, without its dashes.
     pub for_services: Option<&'static str>,
@@ -144,6 +149,22 @@ fn time_or<'w>(
     time(matches, flag)
 }
 
+// The time of a flag, if it is given.
+fn time_if_given<'w>(
+    matches: &ArgMatches<'w>,
+    flag: &'w str,
+) -> Result<Option<Duration>, BadWord<'w>>
+    ensures { IfOk result (λ given. IfSome given IsTime) }
+{
+    if matches.get_str(flag).is_none() {
+        return Ok(None);
+    }
+    match time(matches, flag) {
+        Ok(time) => Ok(Some(time)),
+        Err(bad) => Err(bad),
+    }
+}
+
 // The first flag given that is for services alone.
 fn first_for_services(matches: &ArgMatches<'_>) -> Option<&'static str> {
     for flag in FOR_SERVICES {
@@ -199,6 +220,7 @@ struct Times {
     wait: Duration,
     rest_after: u32,
     rest: Duration,
+    slow: Option<Duration>,
 }
 
 impl Times {
@@ -209,6 +231,7 @@ impl Times {
         ensures wait { IfOk result (λ t. IsTime t.wait) }
         ensures after { IfOk result (λ t. (1 ≤ t.rest_after) × (t.rest_after ≤ 1000)) }
         ensures rest { IfOk result (λ t. IsTime t.rest) }
+        ensures slow { IfOk result (λ t. IfSome t.slow IsTime) }
     {
         let timeout = time(matches, "timeout")?;
         Ok(Times {
@@ -217,6 +240,7 @@ impl Times {
             wait: time_or(matches, "wait", timeout)?,
             rest_after: number(matches, "rest-after", 1, MAX_REST_AFTER)? as u32,
             rest: time(matches, "rest")?,
+            slow: time_if_given(matches, "slow")?,
         })
     }
 }
@@ -245,6 +269,7 @@ impl<'w> Options<'w> {
         ensures cache_keys { IfOk result (λ o. IfSome o.cache_keys (λ n. (1 ≤ n) × (n ≤ 2 ^ 32))) }
         ensures timeout { IfOk result (λ o. IsTime o.timeout × IsTime o.connect_timeout) }
         ensures rests { IfOk result (λ o. IsTime o.wait × IsTime o.rest × (1 ≤ o.rest_after)) }
+        ensures slow { IfOk result (λ o. IfSome o.slow IsTime) }
     {
         let listen = listen(matches)?;
         let counts = Counts::of(matches)?;
@@ -271,8 +296,10 @@ impl<'w> Options<'w> {
             rest_after: times.rest_after,
             rest: times.rest,
             connection_for_each: matches.get_flag("connection-for-each"),
+            slow: times.slow,
             stats,
             log,
+            access_log: matches.get_str("access-log"),
             until_eof: matches.get_flag("until-eof"),
             for_services: first_for_services(matches),
         })

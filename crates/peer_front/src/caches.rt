@@ -122,7 +122,9 @@ impl<'a> CachesSaid<'a> {
     // How many kinds of them there are.
     fn kinds(&self) -> usize {
         let numbers = 0..self.groups.len();
-        numbers.filter(|number| self.alike(*number).is_some()).count()
+        numbers
+            .filter(|number| self.alike(*number).is_some())
+            .count()
     }
 
     // Writes what all of them may take together.

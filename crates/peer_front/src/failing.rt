@@ -41,15 +41,15 @@ pub struct Failing {
     first: usize,
 }
 
-// A group and its service, as lines name them.
+/// A group and its service, as lines name them.
 #[derive(Clone, Copy)]
-struct Named<'a> {
-    group: &'a [u8],
-    service: &'a [u8],
+pub struct Named<'a> {
+    pub group: &'a [u8],
+    pub service: &'a [u8],
 }
 
-// The group with this number, if it has a service.
-fn name_of<'a>(watched: &Watched<'a>, number: usize) -> Option<Named<'a>> {
+/// The group with this number, if it has a service.
+pub fn name_of<'a>(watched: &Watched<'a>, number: usize) -> Option<Named<'a>> {
     let plan = watched.plan?;
     let group = watched.facts.groups.get(number)?;
     let endpoint = plan

@@ -9,11 +9,7 @@ use peer_stats::{CacheLimits, ServedGroup};
 use std::alloc::Global;
 
 /// What the cache of the group of a name may have.
-pub fn limits_of(
-    options: &Options<'_>,
-    file: Option<ConfigFile<'_>>,
-    name: &[u8],
-) -> CacheLimits {
+pub fn limits_of(options: &Options<'_>, file: Option<ConfigFile<'_>>, name: &[u8]) -> CacheLimits {
     let (bytes, entries) = match group_in(file, name) {
         Some(group) => (group.cache(), group.cache_keys()),
         None => (None, None),

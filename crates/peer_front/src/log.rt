@@ -73,6 +73,11 @@ impl Log {
         true
     }
 
+    /// So many lines more were to be said than there was room for.
+    pub fn leave_out(&self, lines: u64) {
+        self.lines.fetch_add(lines, SeqCst);
+    }
+
     /// A look at the counters begins. Says how many lines were left out since the last one.
     pub fn begin_look<H: AllocGlobal + Eprint + Clock>(&self, rt: &H) {
         let left_out = self.lines.swap(0, SeqCst).saturating_sub(MOST_LINES);

@@ -4,6 +4,9 @@
 //! be used is refused by a sentence before anything is bound.
 #![tactic(auto)]
 
+mod access_log;
+mod access_target;
+mod appends;
 mod caches;
 mod check;
 mod config;
@@ -23,11 +26,13 @@ mod page;
 mod running;
 mod said;
 mod serve;
+mod slow;
 mod source;
 mod table;
 mod troubles;
 mod until_eof;
 
+use crate::appends::Appends;
 use crate::config::{ConfigFile, Said, check_entries, config_of, read_file, say_flag};
 use crate::exit::{BAD_WORD, DONE, Exit, OUT_OF_MEMORY, no_output, refuse};
 use crate::files::hold_streams;
@@ -83,7 +88,7 @@ fn run_file<
     H: Net<Listener = TcpListener, Stream = TcpStream> + Threads + Wait + Clock + Sync + Wires,
 >(rt: &H, path: &str, matches: &ArgMatches<'_>, own: &[String]) -> Exit
 where
-    H: AllocGlobal + Input<Reader = R> + Print + Eprint + Files + RandomSource,
+    H: AllocGlobal + Input<Reader = R> + Print + Eprint + Files + Appends + RandomSource,
 {
     let text = match read_file(rt, rt.alloc(), path) {
         Ok(text) => text,
@@ -109,7 +114,7 @@ fn run_words<
     H: Net<Listener = TcpListener, Stream = TcpStream> + Threads + Wait + Clock + Sync + Wires,
 >(rt: &H, path: &str, text: &[u8], config: &Config, words: &[String]) -> Exit
 where
-    H: AllocGlobal + Input<Reader = R> + Print + Eprint + Files + RandomSource,
+    H: AllocGlobal + Input<Reader = R> + Print + Eprint + Files + Appends + RandomSource,
 {
     match matches_of(rt, words) {
         Ok(matches) => run(rt, &matches, Some(ConfigFile { path, text, config })),
@@ -149,7 +154,7 @@ fn run<
     H: Net<Listener = TcpListener, Stream = TcpStream> + Threads + Wait + Clock + Sync + Wires,
 >(rt: &H, matches: &ArgMatches<'_>, file: Option<ConfigFile<'_>>) -> Exit
 where
-    H: AllocGlobal + Input<Reader = R> + Print + Eprint + Files + RandomSource,
+    H: AllocGlobal + Input<Reader = R> + Print + Eprint + Files + Appends + RandomSource,
 {
     let options = match Options::of(matches) {
         Ok(options) => options,

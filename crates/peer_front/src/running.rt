@@ -2,6 +2,8 @@
 ghost use Rattle.std.specs.Prelude.{IfSome};
 ghost use Rattle.peer_fetch.specs.Threads.{Allows};
 
+use crate::access_log::AccessLog;
+use crate::appends::Appends;
 use crate::end::End;
 use crate::failing::Watched;
 use crate::log::Log;
@@ -158,29 +160,72 @@ fn serve_named<S: Source + Send + Sync, H: AllocGlobal + Eprint + Files + Host +
     )
 }
 
-/// Serves while troubles are told and the page is served, where one is asked for, and ends both behind it. Where there is a
-/// plan, threads fetch by it.
-pub fn serve_watched<S: Source + Send + Sync, H: AllocGlobal + Eprint + Files + Host + Wires>(
+// Serves, and writes the access log, where there is one. It ends behind the loops, whose records it writes.
+fn serve_recorded<
+    S: Source + Send + Sync,
+    H: AllocGlobal + Print + Eprint + Files + Appends + Host + Wires,
+>(
     rt: &H,
     service: Service<'_, S>,
     page: Option<Page>,
+    access: Option<AccessLog<'_>>,
+) -> Result<Report, ServerFault>
+    requires { IfSome service.plan (Allows H.carried (S.answers service.source)) }
+{
+    let Some(access) = access else {
+        return serve_named(rt, service, page);
+    };
+    let Ok(bell) = access.bell() else {
+        return Err(ServerFault::Refused);
+    };
+    let watched = watched_of(&service);
+    let end = End::new();
+    let end = &end;
+    serve_beside(
+        rt,
+        move || access.run(rt, watched, end),
+        move || {
+            end.tell();
+            bell.ring();
+        },
+        move || -> Result<Report, ServerFault>
+            requires { IfSome service.plan (Allows H.carried (S.answers service.source)) }
+        { serve_named(rt, service, page) },
+    )
+}
+
+// What is looked at while it serves.
+fn watched_of<'a, S: Source>(service: &Service<'a, S>) -> Watched<'a> {
+    Watched {
+        log: service.log,
+        counters: service.settings.counters,
+        facts: service.facts,
+        plan: service.plan,
+    }
+}
+
+/// Serves while troubles are told, the access log is written and the page is served, where these are asked for, and ends all behind
+/// it. Where there is a plan, threads fetch by it.
+pub fn serve_watched<
+    S: Source + Send + Sync,
+    H: AllocGlobal + Print + Eprint + Files + Appends + Host + Wires,
+>(
+    rt: &H,
+    service: Service<'_, S>,
+    page: Option<Page>,
+    access: Option<AccessLog<'_>>,
 ) -> Result<Report, ServerFault>
     requires { IfSome service.plan (Allows H.carried (S.answers service.source)) }
 {
     let end = End::new();
     let end = &end;
-    let watched = Watched {
-        log: service.log,
-        counters: service.settings.counters,
-        facts: service.facts,
-        plan: service.plan,
-    };
+    let watched = watched_of(&service);
     serve_beside(
         rt,
         move || tell_troubles(rt, watched, end),
         move || end.tell(),
         move || -> Result<Report, ServerFault>
             requires { IfSome service.plan (Allows H.carried (S.answers service.source)) }
-        { serve_named(rt, service, page) },
+        { serve_recorded(rt, service, page, access) },
     )
 }

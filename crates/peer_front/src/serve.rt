@@ -2,6 +2,8 @@
 ghost use Rattle.std.specs.Prelude.{IfSome};
 ghost use Rattle.peer_fetch.specs.Threads.{Allows};
 
+use crate::access_log::{Access, AccessLog, access_of};
+use crate::appends::Appends;
 use crate::check::say_checked;
 use crate::config::{ConfigFile, say_flag};
 use crate::exit::{BAD_WORD, DONE, Exit, NO_SEED, OUT_OF_MEMORY, no_output, refuse};
@@ -13,8 +15,10 @@ use crate::log::Log;
 use crate::page::{Page, page_of};
 use crate::running::{Service, serve_watched};
 use crate::said::{FilledBy, say_caches, say_listening, say_prefixes, say_serving, say_totals};
+use crate::slow::slow_values_of;
 use crate::source::{fetch_settings, source_of};
 use crate::until_eof::stop_of;
+use peer_access::RecordRings;
 use peer_fetch::FetchPlan;
 use peer_fill::{CachePlan, Caching, Report};
 use peer_flags::Options;
@@ -54,6 +58,7 @@ struct Outside<'a> {
     facts: ServerFacts<'a>,
     // How the caches of its groups are planned.
     plans: &'a [CachePlan],
+    records: Option<&'a RecordRings>,
     stop: &'a Stop,
 }
 
@@ -81,6 +86,7 @@ fn settings_of<'a>(
         },
         limits: Limits::usual(),
         counters: outside.counters,
+        records: outside.records,
         stop: outside.stop,
     }
 }
@@ -124,13 +130,14 @@ fn open<H: AllocGlobal + Eprint + RandomSource + Host>(
 // Serves this source, or says why not.
 fn serve_source<
     S: Source + Send + Sync,
-    H: AllocGlobal + Print + Eprint + Files + RandomSource + Host + Wires,
+    H: AllocGlobal + Print + Eprint + Files + Appends + RandomSource + Host + Wires,
 >(
     rt: &H,
     options: &Options<'_>,
     source: S,
     plan: Option<FetchPlan<'_>>,
     outside: Outside<'_>,
+    access: Option<AccessLog<'_>>,
 ) -> Exit
     requires { IfSome plan (Allows H.carried (S.answers source)) }
 {
@@ -161,7 +168,7 @@ fn serve_source<
         log: &log,
         plan,
     };
-    let served = serve_watched(rt, service, page);
+    let served = serve_watched(rt, service, page, access);
     end_of(rt, &served)
 }
 
@@ -188,7 +195,15 @@ pub fn check_flags<H: AllocGlobal + Eprint>(
 /// Serves what is asked for, or says why not. Where it is only to be checked it says what would be served.
 pub fn serve_asked<
     R: Read + Send + Drop + 'static,
-    H: AllocGlobal + Input<Reader = R> + Print + Eprint + Files + RandomSource + Host + Wires,
+    H: AllocGlobal
+        + Input<Reader = R>
+        + Print
+        + Eprint
+        + Files
+        + Appends
+        + RandomSource
+        + Host
+        + Wires,
 >(rt: &H, options: &Options<'_>, words: &[&str], file: Option<ConfigFile<'_>>) -> Exit {
     let options = &within_files(rt, options, !words.is_empty());
     let source = match source_of(rt, options, words, file) {
@@ -200,20 +215,45 @@ pub fn serve_asked<
         drop(source);
         return exit;
     }
-    serve(rt, options, source, words, file)
+    let access = match access_of(rt, options, file) {
+        Ok(access) => access,
+        Err(exit) => {
+            drop(source);
+            return exit;
+        }
+    };
+    serve(rt, options, source, words, file, access)
+}
+
+// The rings that loops find, and the log of their records, if there is one.
+fn parts_of<'a>(access: Option<Access<'a>>) -> (Option<RecordRings>, Option<AccessLog<'a>>) {
+    match access {
+        Some(Access { rings, log }) => (Some(rings), Some(log)),
+        None => (None, None),
+    }
 }
 
 // Serves this source.
 fn serve<
     R: Read + Send + Drop + 'static,
-    H: AllocGlobal + Input<Reader = R> + Print + Eprint + Files + RandomSource + Host + Wires,
+    H: AllocGlobal
+        + Input<Reader = R>
+        + Print
+        + Eprint
+        + Files
+        + Appends
+        + RandomSource
+        + Host
+        + Wires,
 >(
     rt: &H,
     options: &Options<'_>,
     source: FrontSource<'_, H>,
     words: &[&str],
     file: Option<ConfigFile<'_>>,
+    access: Option<Access<'_>>,
 ) -> Exit {
+    let (rings, log) = parts_of(access);
     let has_services = !words.is_empty();
     let counters = Counters::new();
     let (Some(fetched), Ok(stop)) = (fetched_of(rt.alloc(), &source), stop_of(rt, options)) else {
@@ -222,9 +262,13 @@ fn serve<
     let Some(groups) = served_groups(rt.alloc(), &source, words, options, file) else {
         return refuse(rt, &"out of memory", OUT_OF_MEMORY);
     };
+    let slow = slow_values_of(rt.alloc(), options);
     let plan = if has_services {
         let fetch = fetch_settings(options);
-        let plan = fetched.plan(fetch, options.under_way, &counters);
+        let plan = FetchPlan {
+            slow: slow.as_ref(),
+            ..fetched.plan(fetch, options.under_way, &counters)
+        };
         say_prefixes(rt, words, plan.endpoints.each);
         Some(plan)
     } else {
@@ -238,7 +282,8 @@ fn serve<
         counters: &counters,
         facts: facts_of(options, groups.as_slice(), services.as_slice()),
         plans: plans.as_slice(),
+        records: rings.as_ref(),
         stop: &stop,
     };
-    serve_source(rt, options, source, plan, outside)
+    serve_source(rt, options, source, plan, outside, log)
 }

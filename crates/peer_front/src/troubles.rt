@@ -3,6 +3,7 @@
 use crate::end::End;
 use crate::failing::{Failing, Watched};
 use crate::grown::{Grown, say_grown};
+use crate::slow::say_slow;
 use peer_log::{Field, Level, Said};
 use peer_stats::{Counts, Stage};
 use std::sync::Wait;
@@ -44,6 +45,9 @@ fn say_clients<H: AllocGlobal + Eprint + Clock>(
     say_grown(rt, log, Level::Warn, b"clients closed as slow", grown);
     let grown = Grown::between(before.closes.crowded, now.closes.crowded);
     let what = b"clients closed for want of connections";
+    say_grown(rt, log, Level::Warn, what, grown);
+    let grown = Grown::between(before.log_dropped, now.log_dropped);
+    let what = b"replies without a line in the access log";
     say_grown(rt, log, Level::Warn, what, grown);
 }
 
@@ -125,6 +129,7 @@ impl Looked {
             self.look_at_end(rt, watched, now.loops.connections);
         }
         self.failing.look(rt, watched);
+        say_slow(rt, watched);
     }
 }
 

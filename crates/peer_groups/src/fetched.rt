@@ -21,7 +21,7 @@ pub struct Fetched {
 }
 
 impl Fetched {
-    /// How they are fetched, so many values at one moment by each thread.
+    /// How they are fetched, so many values at one moment by each thread. None is told as slow.
     pub fn plan<'a>(
         &'a self,
         fetch: FetchSettings,
@@ -44,6 +44,7 @@ impl Fetched {
             failures: counters.failures(),
             times: counters.fetch_times(),
             services: counters.services(),
+            slow: None,
         }
     }
 }

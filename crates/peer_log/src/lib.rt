@@ -11,5 +11,5 @@ mod line;
 mod time;
 
 pub use entry::{Entry, Field, Level, LogForm, Said};
-pub use line::line_of;
+pub use line::{line_of, put_line};
 pub use time::{now_text, time_text};

@@ -133,6 +133,21 @@ fn put_json_line(line: &mut Vec<u8>, time: &[u8], entry: &Entry<'_>) -> Result<(
     Ok(())
 }
 
+/// Appends the line of an entry, with the time at which it was so (`time_text`), in this form.
+pub fn put_line(
+    line: &mut Vec<u8>,
+    form: LogForm,
+    time: &[u8],
+    entry: &Entry<'_>,
+) -> Result<(), AllocError>
+    ensures { OnOk result (line.new.items ≡ line.old.items ++ line_text form time.now entry.now) }
+{
+    match form {
+        LogForm::Text => put_text_line(line, time, entry),
+        LogForm::Json => put_json_line(line, time, entry),
+    }
+}
+
 /// The line of an entry, with the time at which it was so (`time_text`), in this form.
 pub fn line_of(
     alloc: Global,
@@ -143,9 +158,6 @@ pub fn line_of(
     ensures { IfOk result (λ line. line.items ≡ line_text form time.now entry.now) }
 {
     let mut line = Vec::new(alloc);
-    match form {
-        LogForm::Text => put_text_line(&mut line, time, entry)?,
-        LogForm::Json => put_json_line(&mut line, time, entry)?,
-    }
+    put_line(&mut line, form, time, entry)?;
     Ok(line)
 }

@@ -63,6 +63,7 @@ fn serve_parts<S: Source + Send + Sync, L: Ledger + Send + Sync, H: Host + Wires
         occupancy: &shared.occupancy,
         limits: &settings.limits,
         counters: settings.counters,
+        records: settings.records,
     };
     let acceptor = Acceptor {
         listening,

@@ -2,6 +2,7 @@
 
 use crate::fillers::Fillers;
 use crate::stop::Stop;
+use peer_access::RecordRings;
 use peer_fetch::FetchPlan;
 use peer_fill::Caching;
 use peer_runtime::Limits;
@@ -27,6 +28,8 @@ pub struct Settings<'a> {
     pub limits: Limits,
     /// Where its threads publish what they count.
     pub counters: &'a Counters,
+    /// Where its loops find the rings of an access log, if there is one.
+    pub records: Option<&'a RecordRings>,
     /// By what it is told to end.
     pub stop: &'a Stop,
 }

@@ -4,6 +4,7 @@ use crate::fill_gate::FillGate;
 use crate::mailbox::Mailbox;
 use crate::mailboxes::Mailboxes;
 use crate::occupancy::Occupancy;
+use peer_access::RecordRings;
 use peer_runtime::{Limits, PollWakers};
 use peer_stats::{Counters, LoopSlot};
 
@@ -16,6 +17,8 @@ pub struct Site<'a> {
     pub occupancy: &'a Occupancy,
     pub limits: &'a Limits,
     pub counters: &'a Counters,
+    /// Where loops find the rings of an access log, if there is one.
+    pub records: Option<&'a RecordRings>,
 }
 
 impl<'a> Site<'a> {

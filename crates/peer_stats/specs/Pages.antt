@@ -160,6 +160,7 @@ abbrev pub counts_text : Counts → List ℕ
 counts_text c =
     loops_text c.loops ++ fillers_text c.fillers ++ connections_text c.loops.connections c.accepts
     ++ traffic_text c.traffic ++ closes_text c.closes ++ replies_text c.replies ++ failures_text c.failures
+    ++ counter_text (codes "peer_front_access_log_dropped_total") c.log_dropped (codes "Replies that have no line in the access log.")
 
 -- the whole page
 abbrev pub page_text : Numbers → List GroupCounts → List LoopTurns → List ServiceCounts → Build → List ℕ

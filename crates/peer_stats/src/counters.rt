@@ -48,6 +48,7 @@ pub struct Counters {
     services: CachePadded<ServiceSlots>,
     cache_bytes: CachePadded<AtomicU64>,
     untaken_bytes: CachePadded<AtomicU64>,
+    log_dropped: CachePadded<AtomicU64>,
     stage: CachePadded<AtomicU64>,
 }
 
@@ -65,6 +66,7 @@ impl Counters {
             services: Default::default(),
             cache_bytes: Default::default(),
             untaken_bytes: Default::default(),
+            log_dropped: Default::default(),
             stage: Default::default(),
         }
     }
@@ -117,6 +119,13 @@ impl Counters {
     /// Clients have so many bytes that they have not taken.
     pub fn publish_untaken_bytes(&self, bytes: u64) {
         self.untaken_bytes.store(bytes, SeqCst);
+    }
+
+    /// So many replies have no line in the access log.
+    pub fn count_log_dropped(&self, replies: u64) {
+        if replies > 0 {
+            self.log_dropped.fetch_add(replies, SeqCst);
+        }
     }
 
     /// The server is so far.
@@ -263,6 +272,7 @@ impl Counters {
             failures: self.failures.read(),
             cache_bytes: self.cache_bytes.load(SeqCst),
             untaken_bytes: self.untaken_bytes.load(SeqCst),
+            log_dropped: self.log_dropped.load(SeqCst),
             queued: self.fetch_times.read_queued(),
         }
     }

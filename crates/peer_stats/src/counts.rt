@@ -142,6 +142,8 @@ pub struct Counts {
     pub cache_bytes: u64,
     /// The bytes that clients have not taken, of those who hold many.
     pub untaken_bytes: u64,
+    /// The replies that have no line in the access log.
+    pub log_dropped: u64,
     /// How long values waited until they were under way.
     pub queued: TimeCounts,
 }

@@ -402,6 +402,12 @@ fn put_counts(page: &mut Vec<u8>, counts: &Counts) -> Result<(), AllocError>
     put_closes(page, &counts.closes)?;
     put_replies(page, &counts.replies)?;
     put_failures(page, &counts.failures)?;
+    put_counter(
+        page,
+        b"peer_front_access_log_dropped_total",
+        counts.log_dropped,
+        b"Replies that have no line in the access log.",
+    )?;
     Ok(())
 }
 

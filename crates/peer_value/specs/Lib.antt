@@ -4,6 +4,7 @@ pub mod Fetchings
 pub mod GroupShares
 pub mod Listings
 pub mod Shares
+pub mod Spans
 pub mod UnderWays
 pub mod Values
 pub mod Waitings

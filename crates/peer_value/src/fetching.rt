@@ -134,6 +134,13 @@ impl Fetching {
         self.sent == 0 && self.receiving.is_silent() && !self.ended
     }
 
+    /// Whether nothing came in this try.
+    pub fn is_silent(&self) -> bool
+        ensures { IsTrue result ↔ (self.now.receiving.came.bytes ≡ []) }
+    {
+        self.receiving.is_silent()
+    }
+
     /// Bytes come. Gives the answer, once the reply is whole.
     pub fn receive(&mut self, bytes: &[u8]) -> Result<Option<Answer>, Failure>
         requires whole { IsSent self.old }

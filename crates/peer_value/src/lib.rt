@@ -27,6 +27,6 @@ pub use fetching::{Answer, Fetching};
 pub use group_shares::GroupShares;
 pub use listed::{Event, Listed};
 pub use shares::Shares;
-pub use times::Times;
+pub use times::{Spans, Times};
 pub use under_way::UnderWay;
 pub use waiting::Waiting;

@@ -7,6 +7,7 @@ ghost use Rattle.peer_origin.specs.declared.fault.FetchFault.TheVariants as faul
 ghost use Rattle.peer_value.specs.Endpoints.{IsOfGroup};
 ghost use Rattle.peer_origin.specs.Endpoints.{request_at};
 ghost use Rattle.peer_value.specs.Fetchings.{use_by};
+ghost use Rattle.peer_value.specs.Spans.{first_of};
 ghost use Rattle.peer_value.specs.Values.{uses_of, IsFailureOf, IsFree, IsRefusedFor, IsSameTry, IsSecondTry, IsToldBy, IsUnused};
 ghost use Rattle.peer_value.specs.Values.{IsValueOf};
 
@@ -97,7 +98,7 @@ impl<'a, S: Source> UnderWay<'a, S> {
                 job,
                 fetching,
                 due,
-                times,
+                times: times.again(),
             });
         }
         Err(Done::failed(at.endpoint, job, FetchFault::Lost, times))
@@ -132,6 +133,27 @@ impl<'a, S: Source> UnderWay<'a, S> {
         ensures times { (self.new.times.taken ≡ self.old.times.taken) × (self.new.times.begun ≡ Some now) }
     {
         self.times = self.times.begun(now);
+    }
+
+    /// It has a connection by now, if that was not noted before.
+    pub fn note_connected(&mut self, now: Duration)
+        ensures kept { HasSameJob self.old self.new }
+        ensures fetching { self.new.fetching ≡ self.old.fetching }
+        ensures times { self.new.times.connected ≡ first_of self.old.times.connected now }
+    {
+        self.times = self.times.connected(now);
+    }
+
+    /// Notes if some of its reply has come by now, unless that was noted before.
+    pub fn note_progress(&mut self, now: Duration)
+        ensures kept { HasSameJob self.old self.new }
+        ensures fetching { self.new.fetching ≡ self.old.fetching }
+        ensures silent { self.old.fetching.receiving.came.bytes ≡ [] → self.new.times ≡ self.old.times }
+        ensures came { self.old.fetching.receiving.came.bytes ≢ [] → self.new.times.answered ≡ first_of self.old.times.answered now }
+    {
+        if !self.fetching.is_silent() {
+            self.times = self.times.answered(now);
+        }
     }
 
     /// The endpoint of its origin.

@@ -9,7 +9,7 @@ use crate::pools::ask_once;
 use crate::seen::Seen;
 use crate::talks::{Script, Talk};
 use crate::window;
-use peer_exchange::{End, Exchange, GivenUp, ReplyCounts};
+use peer_exchange::{End, Exchange, GivenUp, ReplyNotes};
 use peer_source::DemoSource;
 use std::cmp::min;
 use std::sync::Wait;
@@ -94,7 +94,7 @@ impl<'p, 't> Talking<'p, 't> {
         let _rest = self.exchange.ask_held(lent.rt, lent.pool, &mut seats.conn)?;
         lent.fill_jobs(seats);
         let _none_left = lent.pool.put_left(lent.rt, &mut seats.conn);
-        let mut counts = ReplyCounts::NONE;
+        let mut counts = ReplyNotes::new(None);
         self.exchange
             .answer_ready(lent.pool, &mut seats.conn, &mut counts)?;
         self.take();
@@ -134,7 +134,7 @@ impl<'p, 't> Talking<'p, 't> {
             .exchange
             .ask_held(lent.rt, lent.pool, &mut seats.conn)
             .is_ok();
-        let mut counts = ReplyCounts::NONE;
+        let mut counts = ReplyNotes::new(None);
         let answered = self
             .exchange
             .answer_ready(lent.pool, &mut seats.conn, &mut counts)

@@ -3,7 +3,7 @@ ghost use Rattle.std.specs.Prelude.{◌≡◌, All};
 ghost use Rattle.peer_known.specs.Names.{IsNamed};
 ghost use Rattle.peer_fill.specs.Pools.{IsConnSeatOf, IsFillSeatOf};
 
-use peer_exchange::{End, Exchange, ReplyCounts};
+use peer_exchange::{End, Exchange, ReplyNotes};
 use peer_fill::{NoGate, Pool, Seats, pop_seat};
 use peer_known::{Known, Relation};
 use peer_source::{DemoSource, Source};
@@ -31,7 +31,7 @@ fn is_answered<S: Source + Send + Sync, W: Relation + Send + Sync, L: Ledger, H:
     } = lists;
     let mut fill = pop_seat(pool, &mut fills)?;
     let mut conn = pop_seat(pool, &mut conns)?;
-    let mut replies = ReplyCounts::NONE;
+    let mut replies = ReplyNotes::new(None);
     let mut exchange = Exchange::new(alloc, pool.names());
     let before = exchange.ended_known();
     let _ = exchange.receive(ASK_K_LAST);

@@ -211,6 +211,7 @@ pub fn plan_of<'a>(
         failures: counters.failures(),
         times: counters.fetch_times(),
         services: counters.services(),
+        slow: None,
     }
 }
 

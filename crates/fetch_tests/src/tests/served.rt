@@ -164,6 +164,7 @@ fn serve_prepared<
             ..Limits::usual()
         },
         counters: &outside.counters,
+        records: None,
         stop: &outside.stop,
     };
     let sockets = (listener, server, address);

@@ -63,6 +63,7 @@ fn loops_of<'a>(outside: &'a Outside, plan: &Plan, seed: RandomState) -> peer_lo
         },
         limits: plan.limits,
         counters: &outside.counters,
+        records: None,
         stop: &outside.stop,
     }
 }

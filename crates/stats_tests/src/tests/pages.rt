@@ -6,7 +6,7 @@ use peer_stats::{
 };
 use std::test::Fail;
 
-const ROWS: [&str; 53] = [
+const ROWS: [&str; 54] = [
     "# TYPE peer_front_build_info gauge\npeer_front_build_info{version=\"1.2.3\",toolchain=\"a\\\"b\"} 1\n",
     "# HELP peer_front_asked_total Values asked for.\n# TYPE peer_front_asked_total counter\npeer_front_asked_total 60\n",
     "peer_front_hits_total 10\n",
@@ -28,6 +28,7 @@ const ROWS: [&str; 53] = [
     "peer_front_origin_failures_total{kind=\"malformed\"} 16\n",
     "peer_front_origin_failures_total{kind=\"too_long\"} 17\n",
     "peer_front_origin_failures_total{kind=\"memory\"} 18\n",
+    "# TYPE peer_front_access_log_dropped_total counter\npeer_front_access_log_dropped_total 73\n",
     "# TYPE peer_front_connections_closed_total counter\npeer_front_connections_closed_total{reason=\"client\"} 21\n",
     "peer_front_connections_closed_total{reason=\"reply\"} 22\n",
     "peer_front_connections_closed_total{reason=\"silent\"} 23\n",
@@ -159,6 +160,8 @@ fn replies_and_ends_of_loops_are_added_up(rt: HostRuntime) {
     counters.of_loop(1).count_close(Closing::Slow);
     counters.of_loop(1).count_close(Closing::End);
     counters.publish_untaken_bytes(8);
+    counters.count_log_dropped(4);
+    counters.count_log_dropped(5);
     let counts = counters.read();
     let replies = ReplyCounts {
         ok: 33,
@@ -173,4 +176,5 @@ fn replies_and_ends_of_loops_are_added_up(rt: HostRuntime) {
         (counts.replies, counts.closes, counts.untaken_bytes),
         (replies, closes, 8)
     );
+    assert_eq!(rt; counts.log_dropped, 9);
 }

@@ -59,6 +59,7 @@ pub const COUNTS: Counts = Counts {
     },
     cache_bytes: 18446744073709551615,
     untaken_bytes: 44,
+    log_dropped: 73,
     queued: TimeCounts::NONE,
 };
 
