@@ -16,8 +16,8 @@ use crate::intake::{GivenUp, Intake};
 use peer_fill::{ConnSeat, Pool};
 use peer_flight::AskFault;
 use peer_head::FieldPlaces;
-use peer_source::{Names, Source};
-use peer_wish::{Body, LentBody, LentWish, MAX_TICKETS, Next, Ticket, next_wish};
+use peer_source::Source;
+use peer_wish::{Body, HeadNames, LentBody, LentWish, MAX_TICKETS, Next, Ticket};
 use std::alloc::{AllocError, Global};
 use std::sync::Wait;
 use std::sync::ledger::Ledger;
@@ -52,17 +52,18 @@ pub(crate) fn ask_first<S: Source, L: Ledger, H: Wait>(
     rt: &H,
     pool: &Pool<S, L>,
     seat: &mut ConnSeat<S, L>,
-    names: &Names<'_, S>,
+    names: &mut HeadNames<'_, S>,
     intake: &Intake,
     places: &mut FieldPlaces,
 ) -> Asked<S>
     requires seat { IsConnSeatOf pool.now seat.old }
-    requires names { names.now ≡ source_of pool.now }
+    requires names { names.old ≡ source_of pool.now }
     ensures seat { KeepsSeat pool.now seat.old seat.new }
-    ensures asks { AsksHeld (S.number_of names.now) intake.now.held (asks_of seat.old) (asks_of seat.new) (left_of seat.new) result }
+    ensures names { names.new ≡ names.old }
+    ensures asks { AsksHeld (S.number_of names.old) intake.now.held (asks_of seat.old) (asks_of seat.new) (left_of seat.new) result }
 {
     let alloc = intake.alloc;
-    let next = match next_wish(alloc, names, intake.held.as_slice(), places) {
+    let next = match names.next_wish(alloc, intake.held.as_slice(), places) {
         Ok(Some(next)) => next,
         Ok(None) => return Asked::Need,
         Err(AllocError) => return Asked::Refused(GivenUp::Memory),
@@ -131,12 +132,13 @@ impl<S: Source> ExchangeState<S> {
         rt: &H,
         pool: &Pool<S, L>,
         seat: &mut ConnSeat<S, L>,
-        names: &Names<'_, S>,
+        names: &mut HeadNames<'_, S>,
     ) -> Result<(), GivenUp>
         requires seat { IsConnSeatOf pool.now seat.old }
-        requires names { names.now ≡ source_of pool.now }
+        requires names { names.old ≡ source_of pool.now }
         ensures seat { KeepsSeat pool.now seat.old seat.new }
-        ensures keeps { Keeps (S.number_of names.now) (allows S.allowed) self.old self.new }
+        ensures names { names.new ≡ names.old }
+        ensures keeps { Keeps (S.number_of names.old) (allows S.allowed) self.old self.new }
         ensures tickets { AddsTickets self.old self.new (asks_of seat.old) (asks_of seat.new) result }
         ensures through { OnOk result (IsJudgedThrough self.new (left_of seat.new)) }
         ensures goes_on { GoesOn self.old.intake.stage self.new.intake.stage result }
@@ -160,14 +162,15 @@ impl<S: Source> ExchangeState<S> {
         rt: &H,
         pool: &Pool<S, L>,
         seat: &mut ConnSeat<S, L>,
-        names: &Names<'_, S>,
+        names: &mut HeadNames<'_, S>,
         places: &mut FieldPlaces,
     ) -> Result<bool, GivenUp>
         requires seat { IsConnSeatOf pool.now seat.old }
-        requires names { names.now ≡ source_of pool.now }
+        requires names { names.old ≡ source_of pool.now }
         requires now { self.old.waits_for_job ≡ false }
         ensures seat { KeepsSeat pool.now seat.old seat.new }
-        ensures keeps { Keeps (S.number_of names.now) (allows S.allowed) self.old self.new }
+        ensures names { names.new ≡ names.old }
+        ensures keeps { Keeps (S.number_of names.old) (allows S.allowed) self.old self.new }
         ensures asks { AsksOne self.old self.new (asks_of seat.old) (asks_of seat.new) (left_of seat.new) result }
         ensures stage { OnOk result (JudgesOn self.old.intake.stage self.new.intake.stage) }
         ensures window { self.new.window.tickets ≡ self.old.window.tickets }

@@ -15,7 +15,7 @@ use crate::rest::Rest;
 use peer_fill::{ConnSeat, Pool};
 use peer_source::{FunctionalSource, GroupId, Names, Source};
 use peer_view::History;
-use peer_wish::End;
+use peer_wish::{End, HeadNames};
 use std::alloc::Global;
 use std::net::SocketAddr;
 use std::sync::Wait;
@@ -25,7 +25,7 @@ use std::time::Duration;
 /// A connection to the groups of a source.
 #[derive(Drop)]
 pub struct Exchange<'p, S: Source> {
-    names: Names<'p, S>,
+    names: HeadNames<'p, S>,
     pub(crate) state: ExchangeState<S>,
     pub(crate) came: History,
     pub(crate) sent: History,
@@ -71,7 +71,7 @@ impl<'p, S: Source> Exchange<'p, S> {
         ensures window { result.state.window.tickets ≡ 1 }
     {
         Exchange {
-            names,
+            names: HeadNames::new(names),
             state: ExchangeState::new(alloc, Marks::none()),
             came: History::none(),
             sent: History::none(),
@@ -92,7 +92,7 @@ impl<'p, S: Source> Exchange<'p, S> {
         ensures window { result.state.window.tickets ≡ 1 }
     {
         Exchange {
-            names,
+            names: HeadNames::new(names),
             state: ExchangeState::new(alloc, Marks::of(alloc, client)),
             came: History::none(),
             sent: History::none(),
@@ -224,7 +224,7 @@ impl<'p, S: Source> Exchange<'p, S> {
         ensures goes_on { GoesOn self.old.state.intake.stage self.new.state.intake.stage result }
         ensures window { self.new.state.window.tickets ≡ self.old.state.window.tickets }
     {
-        match self.state.ask_held(rt, pool, seat, &self.names) {
+        match self.state.ask_held(rt, pool, seat, &mut self.names) {
             Ok(()) => Ok(self.state.rest()),
             Err(why) => Err(why),
         }

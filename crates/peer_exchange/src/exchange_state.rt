@@ -9,8 +9,8 @@ use crate::intake::{GivenUp, Intake};
 use crate::marks::Marks;
 use crate::outgoing::{Outgoing, len_of};
 use crate::window::{MAX_UNSENT, Window};
-use peer_source::{FunctionalSource, Names, Source};
-use peer_wish::Ticket;
+use peer_source::{FunctionalSource, Source};
+use peer_wish::{HeadNames, Ticket};
 use std::alloc::{AllocError, Global};
 use std::collections::VecDeque;
 use std::time::Duration;
@@ -204,7 +204,7 @@ impl<S: Source> ExchangeState<S> {
 
     /// The law of exchanges: what was sent is a front of all replies to what came, under allowed answers. And it holds
     /// little.
-    pub(crate) fn law(&self, names: &Names<'_, S>)
+    pub(crate) fn law(&self, names: &HeadNames<'_, S>)
         ensures sent { SaysSent (S.number_of names.now) (allows S.allowed) (allows S.allowed) self.now }
         ensures little { SaysLittle (S.number_of names.now) (allows S.allowed) self.now }
     {

@@ -1,12 +1,13 @@
 //! What the caches of groups may have: what a file says of a group, and else what the options say.
-ghost use Rattle.std.specs.Prelude.{AllZip, IfSome};
+ghost use Rattle.std.specs.List.{AllZip};
+ghost use Rattle.std.specs.Prelude.{IfOk};
 ghost use Rattle.peer_fill.specs.Plans.{IsPlanFor};
 
 use crate::config::{ConfigFile, group_in};
 use peer_fill::CachePlan;
 use peer_flags::Options;
 use peer_stats::{CacheLimits, ServedGroup};
-use std::alloc::Global;
+use std::alloc::{AllocError, Global};
 
 /// What the cache of the group of a name may have.
 pub fn limits_of(options: &Options<'_>, file: Option<ConfigFile<'_>>, name: &[u8]) -> CacheLimits {
@@ -20,16 +21,14 @@ pub fn limits_of(options: &Options<'_>, file: Option<ConfigFile<'_>>, name: &[u8
     }
 }
 
-/// How the caches of these groups are planned, in the order of their numbers. None where memory is refused.
-pub fn plans_of(alloc: Global, groups: &[ServedGroup]) -> Option<Vec<CachePlan>>
-    ensures { IfSome result (λ plans. AllZip (λ group plan. IsPlanFor group.limits.bytes group.limits.entries plan) groups.now plans.items) }
+/// How the caches of these groups are planned, in the order of their numbers.
+pub fn plans_of(alloc: Global, groups: &[ServedGroup]) -> Result<Vec<CachePlan>, AllocError>
+    ensures { IfOk result (λ plans. AllZip (λ group plan. IsPlanFor group.limits.bytes group.limits.entries plan) groups.now plans.items) }
 {
     let mut plans = Vec::new(alloc);
     for group in groups {
         let limits = group.limits;
-        plans
-            .push(CachePlan::sharded(limits.bytes, limits.entries))
-            .ok()?;
+        plans.push(CachePlan::sharded(limits.bytes, limits.entries))?;
     }
-    Some(plans)
+    Ok(plans)
 }

@@ -275,7 +275,7 @@ fn serve<
         None
     };
     let plans = plans_of(rt.alloc(), groups.as_slice());
-    let (Some(plans), Some(services)) = (plans, served_services(rt.alloc(), &plan)) else {
+    let (Ok(plans), Some(services)) = (plans, served_services(rt.alloc(), &plan)) else {
         return refuse(rt, &"out of memory", OUT_OF_MEMORY);
     };
     let outside = Outside {

@@ -3,6 +3,7 @@ pub mod BlockLemmas
 pub mod BlockSearch
 pub mod BufferLemmas
 pub mod Deciding
+pub mod FrameLemmas
 pub mod HeadReader
 pub mod LookLaws
 pub mod LookSearch

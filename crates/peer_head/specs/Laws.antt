@@ -4,6 +4,7 @@ use Rattle.peer_head.specs.declared.look.Look.{Look}
 use Rattle.peer_head.specs.Blocks.{Begins, IsTooLong}
 use Rattle.peer_head.specs.Heads.{HeadParts, IsHead}
 use Rattle.peer_head.specs.Looks.{LooksAs}
+use Rattle.peer_head.specs.Frames.{IsFrame, before_target, after_target}
 
 -- a text begins with at most one block
 abbrev pub BeginsOnce : Type 0
@@ -32,3 +33,9 @@ LooksOneWay = (t : List ℕ) (a b : Look) → LooksAs t a → LooksAs t b → a 
 -- each text looks some way
 abbrev pub LooksSomeWay : Type 0
 LooksSomeWay = (t : List ℕ) → (a : Look) × LooksAs t a
+
+-- what stands around the target of a head is a head around any other
+abbrev pub TakesAnyTarget : Type 0
+TakesAnyTarget =
+    (t block rest : List ℕ) (p : HeadParts) → Begins t block rest → IsHead block p
+    → IsFrame (before_target block p) (after_target block p) p

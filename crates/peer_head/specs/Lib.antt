@@ -3,6 +3,7 @@ pub mod Buffers
 pub mod Cuts
 pub mod Faults
 pub mod Fields
+pub mod Frames
 pub mod Heads
 pub mod Kinds
 pub mod Laws

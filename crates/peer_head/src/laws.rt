@@ -1,7 +1,7 @@
 //! Laws of blocks, heads and looks, each the contract of a function that does nothing.
 //!
 //! They are about the definitions alone, for whoever reads a stream head by head.
-ghost use Rattle.peer_head.specs.Laws.{BeginsOnce, KeepsBlock, LeavesLess, StaysTooLong, IsOneHead, LooksOneWay, LooksSomeWay};
+ghost use Rattle.peer_head.specs.Laws.{BeginsOnce, KeepsBlock, LeavesLess, StaysTooLong, IsOneHead, LooksOneWay, LooksSomeWay, TakesAnyTarget};
 
 /// A text begins with at most one block.
 pub fn begins_once()
@@ -36,4 +36,9 @@ pub fn looks_one_way()
 /// Each text looks some way.
 pub fn looks_some_way()
     ensures { LooksSomeWay }
+{}
+
+/// What stands around the target of a head is a head around any other visible target, with that target.
+pub fn takes_any_target()
+    ensures { TakesAnyTarget }
 {}

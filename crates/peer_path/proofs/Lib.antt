@@ -3,3 +3,4 @@ pub mod Searches
 pub mod EscapeLemmas
 pub mod TargetLemmas
 pub mod PlaceLemmas
+pub mod PlainLemmas

@@ -1,3 +1,4 @@
 -- The definitions that the contracts of this crate cite.
 pub mod Places
 pub mod Faults
+pub mod Plains

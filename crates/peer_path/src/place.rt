@@ -39,7 +39,8 @@ impl<'t> Model for Place<'t> {
 }
 
 impl<'t> Place<'t> {
-    ghost use Rattle.peer_path.specs.Places.{place_below_base};
+    ghost use Rattle.std.specs.Prelude.{◌+◌, ◌-◌, ◌<◌, ◌≤◌, length, take, drop};
+    ghost use Rattle.peer_path.specs.Places.{base_path, place_below_base};
     ghost use Rattle.peer_path.specs.Faults.{IsPlaceFault};
 
     // The place that a decoded path names.
@@ -55,6 +56,21 @@ impl<'t> Place<'t> {
         };
         let slash = BASE_PATH.len() + at;
         Ok(Place { path, slash })
+    }
+
+    /// The place that a target of plain bytes names, by where the `/` behind its group stands.
+    pub fn cut_at(target: &'t [u8], slash: usize) -> Place<'t>
+        requires behind { length base_path ≤ slash }
+        requires within { slash < length target.now }
+        ensures { result ≡ record {
+          group = take (slash - length base_path) (drop (length base_path) target.now);
+          key = drop (slash + 1) target.now;
+        } }
+    {
+        Place {
+            path: CowSlice::Borrowed(target),
+            slash,
+        }
     }
 
     /// The bytes of the group.

@@ -1,4 +1,5 @@
 pub mod KnownLemmas
+pub mod LastLemmas
 pub mod ReplyLemmas
 pub mod TextLemmas
 pub mod TicketLemmas

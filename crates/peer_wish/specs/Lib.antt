@@ -2,6 +2,7 @@ pub mod Allowed
 pub mod AllReplies
 pub mod Ends
 pub mod Known
+pub mod Lasts
 pub mod Laws
 pub mod LentWishes
 pub mod Nexts

@@ -6,11 +6,14 @@
 #![tactic(auto)]
 
 mod end;
+mod head_names;
+mod last_head;
 pub mod laws;
 mod ticket;
 mod wish;
 
 pub use end::End;
+pub use head_names::HeadNames;
 pub use ticket::{Body, MAX_TICKETS, Ticket};
 pub use wish::{
     LentBody, LentWish, MAX_REPLIES, Next, closes_after, next_kept, next_wish, wish_of,

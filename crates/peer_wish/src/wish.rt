@@ -5,6 +5,8 @@
 //! needs no copy makes none.
 ghost use Rattle.std.specs.Prelude.{true, ◌≡◌, ℕ, ◌<◌, List, IfOk};
 ghost use Rattle.peer_flight.specs.Events.{REPLIES};
+ghost use Rattle.peer_head.specs.Blocks.{IsFrontLength};
+ghost use Rattle.peer_head.specs.Looks.{LooksAs};
 ghost use Rattle.peer_wish.specs.Wishes.{head_wish, head_body, target_body, in_group, fault_of, is_served, closes_after};
 ghost use Rattle.peer_wish.specs.LentWishes.{lent_body};
 ghost use Rattle.peer_wish.specs.Nexts.{IsNextOf};
@@ -110,7 +112,7 @@ fn head_body<'h, S: Source>(
 }
 
 // Whether requests of its method are answered.
-fn is_served(head: &HeadView<'_>) -> bool
+pub(crate) fn is_served(head: &HeadView<'_>) -> bool
     ensures { result ≡ is_served head.now.method }
 {
     head.method() == b"GET".as_slice() || head.is_bare()
@@ -180,6 +182,19 @@ pub fn next_wish<'h, S: Source>(
     ensures { IfOk result (λ next. IsNextOf (S.number_of names.now) held.now next) }
 {
     let (look, len) = look_held(held, places);
+    wish_seen(alloc, names, look, len)
+}
+
+/// The next wish of bytes that look so, of which the first block takes `len` with the pairs before it.
+pub(crate) fn wish_seen<'h, S: Source>(
+    alloc: Global,
+    names: &Names<'_, S>,
+    look: Look<'h>,
+    len: usize,
+) -> Result<Option<Next<LentWish<'h>>>, AllocError>
+    ensures { (held : List ℕ) → LooksAs held look.entry → IsFrontLength held len
+        → IfOk result (λ next. IsNextOf (S.number_of names.now) held next) }
+{
     match look {
         Look::Need => Ok(None),
         Look::Fault(fault, bare) => {

@@ -24,6 +24,20 @@ const ASK_LONG: &[u8] = b"GET /_groupcache/fill/10000 HTTP/1.1\r\nHost: h\r\n\r\
 const HEAD_LONG: &[u8] =
     b"HTTP/1.1 200 OK\r\nContent-Type: application/x-protobuf\r\nContent-Length: 10003\r\n\r\n\x0A\x90\x4E";
 
+// Requests like `ASK_K`: for another key, for the same key by an escape, and without the content; and the replies to the
+// first and the last.
+const ASK_KK: &[u8] = b"GET /_groupcache/echo/kk HTTP/1.1\r\nHost: h\r\n\r\n";
+
+const ASK_ESCAPED: &[u8] = b"GET /_groupcache/echo/%6B HTTP/1.1\r\nHost: h\r\n\r\n";
+
+const ASK_BARE: &[u8] = b"HEAD /_groupcache/echo/k HTTP/1.1\r\nHost: h\r\n\r\n";
+
+const FOUND_KK: &[u8] =
+    b"HTTP/1.1 200 OK\r\nContent-Type: application/x-protobuf\r\nContent-Length: 4\r\n\r\n\x0A\x02kk";
+
+const FOUND_BARE: &[u8] =
+    b"HTTP/1.1 200 OK\r\nContent-Type: application/x-protobuf\r\nContent-Length: 3\r\n\r\n";
+
 /// All bytes come, and all go.
 pub const WHOLE: Steps = Steps {
     input: 20_000,
@@ -45,6 +59,38 @@ const WAYS: [Steps; 4] = [
 pub fn worked(alloc: Global) -> Result<(Vec<u8>, Vec<u8>), AllocError> {
     let text = joined(alloc, &[ASK_K, ASK_K_LAST, ASK_K])?;
     Ok((text, joined(alloc, &[FOUND_K, FOUND_K_LAST])?))
+}
+
+// Requests whose heads are like the last one but for the key, and others between them, and the replies to them.
+fn alike(alloc: Global) -> Result<(Vec<u8>, Vec<u8>), AllocError> {
+    let text = joined(
+        alloc,
+        &[
+            ASK_K,
+            ASK_KK,
+            ASK_ESCAPED,
+            ASK_K,
+            ASK_BARE,
+            ASK_BARE,
+            ASK_KK,
+            ASK_K_LAST,
+            ASK_K,
+        ],
+    )?;
+    let replies = joined(
+        alloc,
+        &[
+            FOUND_K,
+            FOUND_KK,
+            FOUND_K,
+            FOUND_K,
+            FOUND_BARE,
+            FOUND_BARE,
+            FOUND_KK,
+            FOUND_K_LAST,
+        ],
+    )?;
+    Ok((text, replies))
 }
 
 // Short and long values in turn, and the replies to them.
@@ -167,6 +213,7 @@ fn sends_cut<L: Ledger, H: Wait>(
 pub enum Texts {
     Worked,
     Cut,
+    Alike,
     Long,
     More,
     One,
@@ -194,6 +241,7 @@ fn are_sent_over<H: Threads + Wait + Sync, L: Ledger + Send + Sync>(
     match texts {
         Texts::Worked => sends_each_way(&mut driven, rt, alloc, worked(alloc)),
         Texts::Cut => sends_cut(&mut driven, rt, alloc),
+        Texts::Alike => sends_each_way(&mut driven, rt, alloc, alike(alloc)),
         Texts::Long => sends_each_way(&mut driven, rt, alloc, long(alloc)),
         Texts::More => holds_more(&mut driven, rt, alloc),
         Texts::One => holds_one(&mut driven, rt, alloc),
@@ -216,6 +264,7 @@ fn an_exchange_sends_the_replies_to_each_text(rt: HostRuntime) {
     for (what, texts) in [
         ("each reply once in each way", Texts::Worked),
         ("up to the client's end", Texts::Cut),
+        ("heads like the last one", Texts::Alike),
         ("long values", Texts::Long),
         ("more behind short replies", Texts::More),
         ("one value for a client that reads nothing", Texts::One),

@@ -5,8 +5,8 @@ use Rattle.peer_exchange.proofs.exchange.Exchange.new.Goals as goal
 
 pub invariant_of-result : goal.invariant_of-result
 invariant_of-result g c =
-    let numbers = g.S.Source.number_of c.args.names in
+    let numbers = g.S.Source.number_of c.new.result in
     let under = allows g.S.Source.allowed in
-    let h = c.new.ensures.upholds numbers in
-    let came = subst (λ s. Upholds numbers under s [] [] c.new.result) (sym c.none.ensures) h in
-    record { upholds = ∣ subst (λ s. Upholds numbers under c.none.result.bytes s [] c.new.result) (sym c.none-2.ensures) came ∣₁ }
+    let h = c.new-2.ensures.upholds numbers in
+    let came = subst (λ s. Upholds numbers under s [] [] c.new-2.result) (sym c.none-2.ensures) h in
+    record { upholds = ∣ subst (λ s. Upholds numbers under c.none-2.result.bytes s [] c.new-2.result) (sym c.none-3.ensures) came ∣₁ }

@@ -1,4 +1,6 @@
-use Rattle.std.proofs.Common.{refl, ◌∙◌, arith, inl}
+use Rattle.std.proofs.Common.{refl, ◌∙◌, arith, inl, subst}
+use Rattle.peer_wish.specs.Allowed.{allows}
+use Rattle.peer_exchange.specs.ExchangeStates.{Keeps}
 use Rattle.peer_exchange.proofs.ExchangeLemmas.{upholds_like, keeps_then}
 use Rattle.peer_exchange.proofs.IntakeLemmas.{judges_on_then}
 use Rattle.peer_exchange.proofs.SeatLemmas.{seat_kept, seat_then}
@@ -6,7 +8,7 @@ use Rattle.peer_exchange.proofs.AskingLemmas.{adds_none, adds_one, adds_same, ad
 use Rattle.peer_exchange.proofs.exchange_state.ExchangeState.ask_held.Goals as goal
 
 pub loop-init : goal.loop-init
-loop-init g c = record { seat = seat_kept c.requires.seat; keeps = record { keeps = λ came sent h. upholds_like refl refl refl h }; tickets = adds_none _ _ _ refl; stage = inl refl; now = refl; window = refl; many = omega arith }
+loop-init g c = record { seat = seat_kept c.requires.seat; names = refl; keeps = record { keeps = λ came sent h. upholds_like refl refl refl h }; tickets = adds_none _ _ _ refl; stage = inl refl; now = refl; window = refl; many = omega arith }
 
 pub loop-preserved : goal.loop-preserved
 loop-preserved g c =
@@ -15,7 +17,8 @@ loop-preserved g c =
     let one = rw c.in-Ok-true.field-0-test at c.in-Ok-true.ensures.asks in
     record {
       seat = seat_then i.seat asked.seat;
-      keeps = keeps_then i.keeps asked.keeps;
+      names = asked.names ∙ i.names;
+      keeps = keeps_then i.keeps (subst (λ s. Keeps (g.S.Source.number_of s) (allows g.S.Source.allowed) c.loop.self c.ask_next.new.self) i.names asked.keeps);
       tickets = adds_one i.tickets one.0;
       stage = judges_on_then i.stage c.in-Ok-true.ensures.stage;
       now = one.2;
@@ -30,7 +33,8 @@ returns-in-Ok-false g c =
     let none = rw c.in-Ok-false.field-0-test at c.in-Ok-false.ensures.asks in
     record {
       seat = seat_then i.seat asked.seat;
-      keeps = keeps_then i.keeps asked.keeps;
+      names = asked.names ∙ i.names;
+      keeps = keeps_then i.keeps (subst (λ s. Keeps (g.S.Source.number_of s) (allows g.S.Source.allowed) c.loop.self c.ask_next.new.self) i.names asked.keeps);
       tickets = adds_same i.tickets none.0 none.1;
       through = none.3;
       goes_on = judges_on_then i.stage c.in-Ok-false.ensures.stage;
@@ -38,7 +42,8 @@ returns-in-Ok-false g c =
     }
 
 pub returns-in-Err-clause-keeps : goal.returns-in-Err-clause-keeps
-returns-in-Err-clause-keeps g c = keeps_then c.loop.invariant.keeps c.ask_next.ensures.keeps
+returns-in-Err-clause-keeps g c =
+    keeps_then c.loop.invariant.keeps (subst (λ s. Keeps (g.S.Source.number_of s) (allows g.S.Source.allowed) c.loop.self c.ask_next.new.self) c.loop.invariant.names c.ask_next.ensures.keeps)
 
 pub returns-in-Err-clause-tickets : goal.returns-in-Err-clause-tickets
 returns-in-Err-clause-tickets g c = adds_lost c.loop.invariant.tickets c.in-Err.ensures.asks.0

@@ -12,7 +12,8 @@ use Rattle.peer_exchange.proofs.exchange_state.ExchangeState.ask_held.Given as g
 abbrev pub invariant-loop : goal.invariant-loop
 invariant-loop g l = record {
   seat : KeepsSeat l.pool l.fn.seat l.seat;
-  keeps : Keeps (g.S.Source.number_of l.names) (allows g.S.Source.allowed) l.fn.self l.self;
+  names : l.names ≡ l.fn.names;
+  keeps : Keeps (g.S.Source.number_of l.fn.names) (allows g.S.Source.allowed) l.fn.self l.self;
   tickets : AddsTickets l.fn.self l.self (asks_of l.fn.seat) (asks_of l.seat) went_well;
   stage : JudgesOn l.fn.self.intake.stage l.self.intake.stage;
   now : l.self.waits_for_job ≡ false;
