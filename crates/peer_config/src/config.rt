@@ -80,7 +80,9 @@ impl Config {
 
     /// The group of a name, if it stands here.
     pub fn group(&self, name: &[u8]) -> Option<&Group> {
-        self.groups.iter().find(|group| group.name.as_bytes() == name)
+        self.groups
+            .iter()
+            .find(|group| group.name.as_bytes() == name)
     }
 
     /// The file of the table that is served, if one is.

@@ -1,5 +1,5 @@
 -- What a pool's caches keep, and what they give.
-use Rattle.std.specs.Prelude.{◌≡◌, ℕ, List, [], All, length, set, slice_get, Option, None, Some}
+use Rattle.std.specs.Prelude.{◌≡◌, ℕ, List, All, length, set, slice_get, Option, None, Some}
 use Rattle.std.specs.Option.{ForSome, option_map_or}
 use Rattle.std.specs.NonZero.{non_zero_usize_get}
 use Rattle.peer_source.specs.Answers.{Filled}

@@ -56,11 +56,7 @@ impl<S: Source> Shards<S> {
     ghost use Rattle.peer_fill.specs.Plans.{HaveShards};
 
     /// The shards for so many groups, without entries, as planned. The seed is for the choice of the shard and for the maps.
-    pub fn new(
-        alloc: Global,
-        groups: usize,
-        caching: Caching<'_>,
-    ) -> Result<Shards<S>, AllocError>
+    pub fn new(alloc: Global, groups: usize, caching: Caching<'_>) -> Result<Shards<S>, AllocError>
         requires { groups ≤ 64 }
         ensures { IfOk result (λ shards. HaveShards caching.entry.plan caching.entry.own.now groups shards.last_places) }
     {

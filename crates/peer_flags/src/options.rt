@@ -267,9 +267,8 @@ impl<'w> Options<'w> {
         ensures loops { IfOk result (λ o. (1 ≤ o.loops) × (o.loops ≤ 16)) }
         ensures connections { IfOk result (λ o. (1 ≤ o.connections) × (o.connections ≤ 65536)) }
         ensures cache_keys { IfOk result (λ o. IfSome o.cache_keys (λ n. (1 ≤ n) × (n ≤ 2 ^ 32))) }
-        ensures timeout { IfOk result (λ o. IsTime o.timeout × IsTime o.connect_timeout) }
+        ensures timeout { IfOk result (λ o. IsTime o.timeout × IsTime o.connect_timeout × IfSome o.slow IsTime) }
         ensures rests { IfOk result (λ o. IsTime o.wait × IsTime o.rest × (1 ≤ o.rest_after)) }
-        ensures slow { IfOk result (λ o. IfSome o.slow IsTime) }
     {
         let listen = listen(matches)?;
         let counts = Counts::of(matches)?;

@@ -5,7 +5,7 @@ use crate::failing::{Failing, Watched};
 use crate::grown::{Grown, say_grown};
 use crate::slow::say_slow;
 use peer_log::{Field, Level, Said};
-use peer_stats::{Counts, Stage};
+use peer_stats::{CloseCounts, Counts, Stage};
 use std::sync::Wait;
 use std::time::{Clock, Duration};
 
@@ -15,10 +15,19 @@ const TICK_SECONDS: u64 = 1;
 // After how many looks it is said again what the end waits for.
 const END_LOOKS: u32 = 10;
 
+// What was counted that clients see.
+#[derive(Clone, Copy)]
+struct Seen {
+    accepts_failed: u64,
+    unknown_groups: u64,
+    closes: CloseCounts,
+    log_dropped: u64,
+}
+
 // What the last look found.
 #[derive(Drop)]
 struct Looked {
-    before: Counts,
+    before: Seen,
     failing: Failing,
     // Whether all connections were taken.
     is_full: bool,
@@ -26,17 +35,36 @@ struct Looked {
     ending: Option<u32>,
 }
 
+impl Seen {
+    // As it is when the server begins.
+    const NONE: Seen = Seen {
+        accepts_failed: 0,
+        unknown_groups: 0,
+        closes: CloseCounts::NONE,
+        log_dropped: 0,
+    };
+
+    fn of(counts: &Counts) -> Seen {
+        Seen {
+            accepts_failed: counts.accepts.failed,
+            unknown_groups: counts.replies.unknown_groups,
+            closes: counts.closes,
+            log_dropped: counts.log_dropped,
+        }
+    }
+}
+
 // Says how much more there was of what clients see, between two looks.
 fn say_clients<H: AllocGlobal + Eprint + Clock>(
     rt: &H,
     watched: &Watched<'_>,
-    before: &Counts,
-    now: &Counts,
+    before: &Seen,
+    now: &Seen,
 ) {
     let log = watched.log;
-    let grown = Grown::between(before.accepts.failed, now.accepts.failed);
+    let grown = Grown::between(before.accepts_failed, now.accepts_failed);
     say_grown(rt, log, Level::Warn, b"accepts failed", grown);
-    let grown = Grown::between(before.replies.unknown_groups, now.replies.unknown_groups);
+    let grown = Grown::between(before.unknown_groups, now.unknown_groups);
     let what = b"requests for groups that are not served here";
     say_grown(rt, log, Level::Warn, what, grown);
     let grown = Grown::between(before.closes.silent, now.closes.silent);
@@ -122,8 +150,9 @@ impl Looked {
     ) {
         watched.log.begin_look(rt);
         let now = watched.counters.read();
-        say_clients(rt, watched, &self.before, &now);
-        self.before = now;
+        let seen = Seen::of(&now);
+        say_clients(rt, watched, &self.before, &seen);
+        self.before = seen;
         self.look_at_room(rt, watched, now.loops.connections);
         if !has_ended {
             self.look_at_end(rt, watched, now.loops.connections);
@@ -140,7 +169,7 @@ pub fn tell_troubles<H: AllocGlobal + Eprint + Wait + Clock>(
     end: &End,
 ) {
     let mut looked = Looked {
-        before: watched.counters.read(),
+        before: Seen::NONE,
         failing: Failing::NONE,
         is_full: false,
         ending: None,

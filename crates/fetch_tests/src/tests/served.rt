@@ -126,6 +126,29 @@ struct Outside {
     told: Told,
 }
 
+// How it serves: a thread fetches, and no value is kept.
+fn settings_of<'a>(outside: &'a Outside, seed: RandomState) -> Settings<'a> {
+    Settings {
+        fillers: Fillers::Threads(1),
+        loops: 1,
+        connections: 100,
+        memory: 1_048_576,
+        accepts: None,
+        caching: Caching {
+            plan: CachePlan::Single(0),
+            own: &[],
+            seed,
+        },
+        limits: Limits {
+            tick: Duration::from_secs(60),
+            ..Limits::usual()
+        },
+        counters: &outside.counters,
+        records: None,
+        stop: &outside.stop,
+    }
+}
+
 // Serves in front of a prepared origin, and says whether each client got its value.
 fn serve_prepared<
     'x,
@@ -148,25 +171,7 @@ fn serve_prepared<
     };
     let fetched = Counters::new();
     let plan = plan_of(endpoints.as_slice(), patient(), &fetched);
-    let settings = Settings {
-        fillers: Fillers::Threads(1),
-        loops: 1,
-        connections: 100,
-        memory: 1_048_576,
-        accepts: None,
-        caching: Caching {
-            plan: CachePlan::Single(0),
-            own: &[],
-            seed,
-        },
-        limits: Limits {
-            tick: Duration::from_secs(60),
-            ..Limits::usual()
-        },
-        counters: &outside.counters,
-        records: None,
-        stop: &outside.stop,
-    };
+    let settings = settings_of(outside, seed);
     let sockets = (listener, server, address);
     Some(serve_held(rt, source, sockets, &outside.told, &settings, plan))
 }

@@ -1,4 +1,4 @@
-use Rattle.std.proofs.Common.{ℕ, ◌<◌, ◌≤◌, ◌+◌, All, arith, get_or, subst, take, List}
+use Rattle.std.proofs.Common.{ℕ, ◌<◌, ◌≤◌, All, arith, get_or, subst, take, List}
 use Rattle.std.proofs.lemmas.List.{take_all}
 use Rattle.std.proofs.lemmas.List.Elements.{All-more, All-weaker}
 use Rattle.peer_fill.proofs.shards.count_of.Goals as goal

@@ -7,6 +7,6 @@ use Rattle.peer_front.proofs.serve.serve.Goals as goal
 pub serve_source-requires-after_bounds : goal.serve_source-requires-after_bounds
 serve_source-requires-after_bounds g c κs within =
     elim c.if-has_services.branch [
-      | then-has_services w ↦ rw (w.plan-is) (rw (w.plan-plan.ensures.first, w.plan-plan.ensures.each) c.in-Some-Ok.ensures.allows)
+      | then-has_services w ↦ rw (w.plan-is) (rw (w.plan.ensures.first, w.plan.ensures.each) c.in-Some-Ok.ensures.allows)
       | else-has_services w ↦ rw (w.plan-is) tt
     ]

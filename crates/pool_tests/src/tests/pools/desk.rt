@@ -111,7 +111,12 @@ impl<S: Source, L: Ledger> Desk<S, L> {
     }
 
     /// The same with these caches.
-    pub fn open_with(alloc: Global, source: S, caching: Caching<'_>, blank: Blank) -> Option<Desk<S, L>>
+    pub fn open_with(
+        alloc: Global,
+        source: S,
+        caching: Caching<'_>,
+        blank: Blank,
+    ) -> Option<Desk<S, L>>
         requires groups { 1 < S.count source }
         requires name { blank.name ≡ L.name }
         requires parts { (blank.parts ≡ L.parts) × (blank.parts ≡ 16) }

@@ -20,9 +20,21 @@ struct Asked {
     again_from: [u64; 2],
 }
 
-/// What the caches of `echo` and `square` kept and had lost, and how many of the numbers that were asked for again were hits.
-type Seen = ([CacheCounts; 2], [u64; 2]);
+/// What the caches of a group kept and had lost, and how many of the numbers that were asked for again were hits.
+#[derive(Clone, Copy, Debug, PartialEq, Eq)]
+struct SeenOfGroup {
+    counts: CacheCounts,
+    hits: u64,
+}
 
+/// The same of both groups.
+#[derive(Clone, Copy, Debug, PartialEq, Eq)]
+struct Seen {
+    echo: SeenOfGroup,
+    square: SeenOfGroup,
+}
+
+// Asks for the numbers in both groups, one after the other.
 fn ask_both<L: Ledger, R: Wait>(
     rt: &R,
     alloc: Global,
@@ -35,13 +47,17 @@ fn ask_both<L: Ledger, R: Wait>(
     } = asked;
     hits(rt, alloc, desk, ECHO, 0, numbers)?;
     hits(rt, alloc, desk, SQUARE, 0, numbers)?;
-    let counts = [
-        desk.cache_counts(rt, ECHO),
-        desk.cache_counts(rt, SQUARE),
-    ];
-    let echo = hits(rt, alloc, desk, ECHO, again_from[0], numbers)?;
-    let square = hits(rt, alloc, desk, SQUARE, again_from[1], numbers)?;
-    Some((counts, [echo, square]))
+    let (echo, square) = (desk.cache_counts(rt, ECHO), desk.cache_counts(rt, SQUARE));
+    Some(Seen {
+        echo: SeenOfGroup {
+            counts: echo,
+            hits: hits(rt, alloc, desk, ECHO, again_from[0], numbers)?,
+        },
+        square: SeenOfGroup {
+            counts: square,
+            hits: hits(rt, alloc, desk, SQUARE, again_from[1], numbers)?,
+        },
+    })
 }
 
 // The same over a pool of its own, with caches as planned.
@@ -123,7 +139,16 @@ fn each_group_keeps_what_its_own_plan_says(rt: HostRuntime) {
         numbers: 5,
         again_from: [2, 0],
     };
-    let seen = Some(([counts(3, 3 * 12, 2), counts(5, 4 * 12 + 13, 0)], [3, 5]));
+    let seen = Some(Seen {
+        echo: SeenOfGroup {
+            counts: counts(3, 3 * 12, 2),
+            hits: 3,
+        },
+        square: SeenOfGroup {
+            counts: counts(5, 4 * 12 + 13, 0),
+            hits: 5,
+        },
+    });
     let own = seen_of(&rt, rt.alloc(), [[1, 1], [1, 3], [1, 1000]], asked);
     let echo = seen_of_echo(&rt, rt.alloc(), [[1, 1000], [1, 3]], asked);
     assert_eq!(rt; own, seen);
@@ -133,20 +158,19 @@ fn each_group_keeps_what_its_own_plan_says(rt: HostRuntime) {
 // 300 keys of `echo` in one shard of 10, beside 64 shards of `square` of 300 keys each, and the other way round.
 #[test]
 fn a_group_has_its_own_number_of_shards(rt: HostRuntime) {
-    for (own, again_from, kept) in [
-        ([[1, 10], [64, 300]], [290, 0], [10, 300]),
-        ([[64, 300], [1, 10]], [0, 290], [300, 10]),
-        ([[1, 300], [64, 300]], [0, 0], [300, 300]),
-        ([[64, 300], [64, 300]], [0, 0], [300, 300]),
+    for (plans, again_from, kept) in [
+        ([[2, 1], [1, 10], [64, 300]], [290, 0], (10, 300)),
+        ([[2, 1], [64, 300], [1, 10]], [0, 290], (300, 10)),
+        ([[2, 1], [1, 300], [64, 300]], [0, 0], (300, 300)),
+        ([[2, 1], [64, 300], [64, 300]], [0, 0], (300, 300)),
     ] {
         let asked = Asked {
             numbers: 300,
             again_from,
         };
-        let seen = seen_of(&rt, rt.alloc(), [[2, 1], own[0], own[1]], asked);
-        assert!(rt;
-            matches!(seen, Some((counts, hits)) if [counts[0].entries, counts[1].entries] == kept && hits == kept),
-            "{own:?}"
-        );
+        let seen = seen_of(&rt, rt.alloc(), plans, asked);
+        let entries = seen.map(|seen| (seen.echo.counts.entries, seen.square.counts.entries));
+        let hits = seen.map(|seen| (seen.echo.hits, seen.square.hits));
+        assert!(rt; entries == Some(kept) && hits == Some(kept), "{plans:?}");
     }
 }

@@ -13,3 +13,11 @@ invariant_of-self-in-Ok-clause-over g c = λ over.
     let f = c.receive.new.under.fetching in
     let keeps : IsTrue c.in-Ok.answer.keeps = search rules in
     over_by c.receive.new.wire f c.in-Ok.answer f.asks c.in-Ok.ensures.on.0 c.in-Ok.ensures.on.1 c.in-Ok.ensures.answer keeps
+
+pub invariant_of-self-in-Err-1 : goal.invariant_of-self-in-Err-1
+invariant_of-self-in-Err-1 g c = record {
+  own = c.args.self.now.own;
+  carried = c.in-Err.ensures.carried;
+  tied = search rules;
+  over = search rules;
+}

@@ -1,4 +1,3 @@
-use Rattle.std.specs.Prelude.{◌≡◌, length}
 use Rattle.peer_fill.specs.Plans.{HaveShards}
 use Rattle.peer_fill.proofs.caching.Caching.last_places.Given as goal
 
